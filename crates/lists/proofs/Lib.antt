@@ -1,0 +1,4 @@
+-- The laws on tests and lists that the other crates share.
+pub mod Tests
+pub mod Lists
+pub mod Parts

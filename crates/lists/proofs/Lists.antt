@@ -1,0 +1,115 @@
+-- Laws of `any`, `keep` and `tabulate`: what membership says.
+use Prim.Native.Nat.{ℕ, zero, suc, _+_, _≤_, _<_}
+use mathlib.Core.Bool.{Bool, true, false, cond, _||_, false≢true}
+use mathlib.Core.List.{List, [], _∷_, _++_, map, List·Memᴰ·head, List·Memᴰ·tail}
+use mathlib.Core.Logic.{_⊎_, inl, inr, ⊎-elim}
+use mathlib.Core.Path.{_≡_, refl, sym, _∙_, ap, ap₂}
+use native.Mathlib.Omega.{arith}
+use lib.ListN.{getD, length}
+use Rattle.lists.specs.Lists.{_∈_, any, keep, tabulate}
+use Rattle.lists.proofs.Tests.{or-cases, or-left, or-right}
+
+pub any-out : {A : Type 0} (f : A → Bool) (l : List A) → any f l ≡ true → (x : A) × x ∈ l × (f x ≡ true)
+unfolding any
+any-out f [] h = absurd (false≢true h)
+any-out f (x ∷ l) h =
+    ⊎-elim (λ k. (x, List·Memᴰ·head refl, k)) (λ k. let r = any-out f l k in (r .0, List·Memᴰ·tail (r .1), r .2))
+    (or-cases (f x) (any f l) h)
+
+pub any-in : {A : Type 0} (f : A → Bool) {x : A} {l : List A} → x ∈ l → f x ≡ true → any f l ≡ true
+unfolding any
+any-in f {l = y ∷ l} (List·Memᴰ·head e) h = or-left _ _ (ap f (sym e) ∙ h)
+any-in f {l = y ∷ l} (List·Memᴰ·tail m) h = or-right (f y) _ (any-in f m h)
+
+pub any-ext : {A : Type 0} (f g : A → Bool) (l : List A) → ((x : A) → x ∈ l → f x ≡ g x) → any f l ≡ any g l
+unfolding any
+any-ext f g [] h = refl
+any-ext f g (x ∷ l) h = rw (h x (List·Memᴰ·head refl), any-ext f g l (λ y m. h y (List·Memᴰ·tail m)))
+
+pub any-append : {A : Type 0} (f : A → Bool) (l m : List A) → any f (l ++ m) ≡ (any f l || any f m)
+unfolding any
+any-append f [] m = refl
+any-append f (x ∷ l) m = go (f x) (any-append f l m)
+  where
+    go : (b : Bool) → any f (l ++ m) ≡ (any f l || any f m) → (b || any f (l ++ m)) ≡ ((b || any f l) || any f m)
+    go true e = refl
+    go false e = e
+
+pub keep-in : {A : Type 0} (f : A → Bool) {x : A} {l : List A} → x ∈ l → f x ≡ true → x ∈ keep f l
+unfolding keep
+keep-in f {l = y ∷ l} (List·Memᴰ·head e) h = rw (ap f (sym e) ∙ h) (List·Memᴰ·head e)
+keep-in f {x} {l = y ∷ l} (List·Memᴰ·tail m) h = skip (f y) (keep-in f m h)
+  where
+    skip : (b : Bool) → x ∈ keep f l → x ∈ cond b (y ∷ keep f l) (keep f l)
+    skip true m = List·Memᴰ·tail m
+    skip false m = m
+
+pub keep-out : {A : Type 0} (f : A → Bool) (x : A) (l : List A) → x ∈ keep f l → x ∈ l × (f x ≡ true)
+unfolding keep
+keep-out f x [] m = elim m [ ]
+keep-out f x (y ∷ l) m = go (f y) refl m (keep-out f x l)
+  where
+    far : x ∈ l × (f x ≡ true) → x ∈ (y ∷ l) × (f x ≡ true)
+    far r = (List·Memᴰ·tail (r .0), r .1)
+
+    near : f y ≡ true → x ∈ (y ∷ keep f l) → (x ∈ keep f l → x ∈ l × (f x ≡ true)) → x ∈ (y ∷ l) × (f x ≡ true)
+    near e (List·Memᴰ·head q) ih = (List·Memᴰ·head q, ap f q ∙ e)
+    near e (List·Memᴰ·tail m) ih = far (ih m)
+
+    go : (b : Bool) → f y ≡ b → x ∈ cond b (y ∷ keep f l) (keep f l) → (x ∈ keep f l → x ∈ l × (f x ≡ true)) → x ∈ (y ∷ l) × (f x ≡ true)
+    go true e m ih = near e m ih
+    go false e m ih = far (ih m)
+
+pub keep-append : {A : Type 0} (f : A → Bool) (l m : List A) → keep f (l ++ m) ≡ keep f l ++ keep f m
+unfolding keep
+keep-append f [] m = refl
+keep-append f (x ∷ l) m = go (f x) (keep-append f l m)
+  where
+    go : (b : Bool) → keep f (l ++ m) ≡ keep f l ++ keep f m → cond b (x ∷ keep f (l ++ m)) (keep f (l ++ m)) ≡ cond b (x ∷ keep f l) (keep f l) ++ keep f m
+    go true e = rw e
+    go false e = e
+
+pub keep-none : {A : Type 0} (f : A → Bool) (l : List A) → ((x : A) → x ∈ l → f x ≡ false) → keep f l ≡ []
+unfolding keep
+keep-none f [] h = refl
+keep-none f (x ∷ l) h = rw (h x (List·Memᴰ·head refl)) (keep-none f l (λ y m. h y (List·Memᴰ·tail m)))
+
+pub keep-all : {A : Type 0} (f : A → Bool) (l : List A) → ((x : A) → x ∈ l → f x ≡ true) → keep f l ≡ l
+unfolding keep
+keep-all f [] h = refl
+keep-all f (x ∷ l) h = rw (h x (List·Memᴰ·head refl), keep-all f l (λ y m. h y (List·Memᴰ·tail m)))
+
+pub keep-map : {A B : Type 0} (f : B → Bool) (g : A → B) (h : A → Bool) (l : List A) → ((x : A) → f (g x) ≡ h x) → keep f (map g l) ≡ map g (keep h l)
+unfolding keep
+keep-map f g h [] e = refl
+keep-map f g h (x ∷ l) e = rw (e x) (go (h x) (keep-map f g h l e))
+  where
+    go : (b : Bool) → keep f (map g l) ≡ map g (keep h l) → cond b (g x ∷ keep f (map g l)) (keep f (map g l)) ≡ map g (cond b (x ∷ keep h l) (keep h l))
+    go true e = rw e
+    go false e = e
+
+pub tabulate-at : {A : Type 0} (n : ℕ) (g : ℕ → A) (p : ℕ) (d : A) → p < n → getD (tabulate n g) p d ≡ g p
+unfolding tabulate
+tabulate-at zero g p d h = absurd (omega arith)
+tabulate-at (suc n) g zero d h = refl
+tabulate-at (suc n) g (suc p) d h = tabulate-at n (λ k. g (suc k)) p d (omega arith)
+
+pub length-tabulate : {X : Type 0} (n : ℕ) (g : ℕ → X) → length (tabulate n g) ≡ n
+unfolding tabulate
+length-tabulate zero g = refl
+length-tabulate (suc n) g = ap suc (length-tabulate n (λ k. g (suc k)))
+
+pub tabulate-ext : {X : Type 0} (n : ℕ) (g h : ℕ → X) → ((j : ℕ) → j < n → g j ≡ h j) → tabulate n g ≡ tabulate n h
+unfolding tabulate
+tabulate-ext zero g h e = refl
+tabulate-ext (suc n) g h e = ap₂ _∷_ (e 0 (omega arith)) (tabulate-ext n (λ k. g (suc k)) (λ k. h (suc k)) (λ j l. e (suc j) (omega arith)))
+
+pub tabulate-end : {X : Type 0} (n : ℕ) (g : ℕ → X) → tabulate (suc n) g ≡ tabulate n g ++ g n ∷ []
+unfolding tabulate
+tabulate-end zero g = refl
+tabulate-end (suc n) g = ap (λ l. g 0 ∷ l) (tabulate-end n (λ k. g (suc k)))
+
+pub map-tabulate : {X Y : Type 0} (f : X → Y) (n : ℕ) (g : ℕ → X) → map f (tabulate n g) ≡ tabulate n (λ j. f (g j))
+unfolding tabulate
+map-tabulate f zero g = refl
+map-tabulate f (suc n) g = ap (λ l. f (g 0) ∷ l) (map-tabulate f n (λ k. g (suc k)))

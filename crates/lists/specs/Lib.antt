@@ -1,0 +1,2 @@
+-- The definitions on lists that the other crates share.
+pub mod Lists
