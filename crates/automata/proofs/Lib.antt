@@ -1,0 +1,2 @@
+-- The laws of records.
+pub mod Records

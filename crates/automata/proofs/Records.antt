@@ -1,0 +1,90 @@
+-- Reading and writing records: the law in each direction, lengths, and records by their place.
+use Prim.Native.Nat.{ℕ, zero, suc, _+_, _-_, _*_, _≤_, _<_}
+use mathlib.Core.List.{List, [], _∷_, _++_}
+use mathlib.Core.Path.{_≡_, refl, sym, _∙_, ap}
+use native.Mathlib.Omega.{arith}
+use lib.ListN.{length, getD, take, drop, length-append, length-drop}
+use lib.Seq.{drop-drop, getD-drop}
+use Rattle.automata.specs.Automaton.{Transition}
+use Rattle.automata.specs.Records.{wordsOf, readRecords, writeRecords, recordAt}
+
+pub read-write : (es : List Transition) → readRecords (writeRecords es) ≡ es
+unfolding readRecords writeRecords
+read-write [] = refl
+read-write (e ∷ es) = ap (λ l. e ∷ l) (read-write es)
+
+pub write-read : (m : ℕ) (s : List ℕ) → length s ≡ 5 * m → writeRecords (readRecords s) ≡ s
+unfolding readRecords writeRecords
+write-read zero [] h = refl
+write-read (suc m) [] h = absurd (omega arith)
+write-read m (a ∷ []) h = absurd (omega arith)
+write-read m (a ∷ b ∷ []) h = absurd (omega arith)
+write-read m (a ∷ b ∷ c ∷ []) h = absurd (omega arith)
+write-read m (a ∷ b ∷ c ∷ d ∷ []) h = absurd (omega arith)
+write-read zero (a ∷ b ∷ c ∷ d ∷ e ∷ s) h = absurd (omega arith)
+write-read (suc m) (a ∷ b ∷ c ∷ d ∷ e ∷ s) h = ap (λ l. a ∷ b ∷ c ∷ d ∷ e ∷ l) (write-read m s (omega arith))
+
+pub length-write : (es : List Transition) → length (writeRecords es) ≡ 5 * length es
+unfolding writeRecords
+length-write [] = refl
+length-write (e ∷ es) = let h = length-write es in omega arith
+
+pub length-read : (m : ℕ) (s : List ℕ) → length s ≡ 5 * m → length (readRecords s) ≡ m
+length-read m s h = let e = length-write (readRecords s) in let f = ap length (write-read m s h) in omega arith
+
+pub write-append : (ds es : List Transition) → writeRecords (ds ++ es) ≡ writeRecords ds ++ writeRecords es
+unfolding writeRecords
+write-append [] es = refl
+write-append (d ∷ ds) es = ap (λ l. wordsOf d ++ l) (write-append ds es)
+
+read-front : (s : List ℕ) → 5 ≤ length s → readRecords s ≡ recordAt s 0 ∷ readRecords (drop 5 s)
+unfolding readRecords
+read-front [] h = absurd (omega arith)
+read-front (a ∷ []) h = absurd (omega arith)
+read-front (a ∷ b ∷ []) h = absurd (omega arith)
+read-front (a ∷ b ∷ c ∷ []) h = absurd (omega arith)
+read-front (a ∷ b ∷ c ∷ d ∷ []) h = absurd (omega arith)
+read-front (a ∷ b ∷ c ∷ d ∷ e ∷ s) h = refl
+
+read-short : (s : List ℕ) → length s < 5 → readRecords s ≡ []
+unfolding readRecords
+read-short [] h = refl
+read-short (a ∷ []) h = refl
+read-short (a ∷ b ∷ []) h = refl
+read-short (a ∷ b ∷ c ∷ []) h = refl
+read-short (a ∷ b ∷ c ∷ d ∷ []) h = refl
+read-short (a ∷ b ∷ c ∷ d ∷ e ∷ s) h = absurd (omega arith)
+
+-- the record at a place, and those behind it
+pub records-at : (s : List ℕ) (at : ℕ) → 5 ≤ length s - at → readRecords (drop at s) ≡ recordAt s at ∷ readRecords (drop (at + 5) s)
+records-at s at h = read-front (drop at s) (simp length-drop h) ∙ rw (drop-drop 5 at s, getD-drop at s 0 0, getD-drop at s 1 0, getD-drop at s 2 0, getD-drop at s 3 0, getD-drop at s 4 0, here)
+  where
+    here : at + 0 ≡ at
+    here = omega arith
+
+pub records-end : (s : List ℕ) (at : ℕ) → length s - at < 5 → readRecords (drop at s) ≡ []
+records-end s at h = read-short (drop at s) (simp length-drop h)
+
+five : (k : ℕ) → 5 * suc k ≡ suc (suc (suc (suc (suc (5 * k)))))
+five k = omega arith
+
+-- the records of a part that starts at a record and ends at one
+pub read-drop : (k : ℕ) (s : List ℕ) → readRecords (drop (5 * k) s) ≡ drop k (readRecords s)
+unfolding readRecords
+read-drop zero s = refl
+read-drop (suc k) [] = rw (five k)
+read-drop (suc k) (a ∷ []) = rw (five k)
+read-drop (suc k) (a ∷ b ∷ []) = rw (five k)
+read-drop (suc k) (a ∷ b ∷ c ∷ []) = rw (five k)
+read-drop (suc k) (a ∷ b ∷ c ∷ d ∷ []) = rw (five k)
+read-drop (suc k) (a ∷ b ∷ c ∷ d ∷ e ∷ s) = rw (five k) (read-drop k s)
+
+pub read-take : (k : ℕ) (s : List ℕ) → readRecords (take (5 * k) s) ≡ take k (readRecords s)
+unfolding readRecords
+read-take zero s = refl
+read-take (suc k) [] = rw (five k)
+read-take (suc k) (a ∷ []) = rw (five k)
+read-take (suc k) (a ∷ b ∷ []) = rw (five k)
+read-take (suc k) (a ∷ b ∷ c ∷ []) = rw (five k)
+read-take (suc k) (a ∷ b ∷ c ∷ d ∷ []) = rw (five k)
+read-take (suc k) (a ∷ b ∷ c ∷ d ∷ e ∷ s) = rw (five k) (ap (λ l. record { from = a; kind = b; first = c; last = d; to = e } ∷ l) (read-take k s))

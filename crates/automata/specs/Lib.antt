@@ -1,0 +1,4 @@
+-- The model: all that has to be believed of automata and their words.
+pub mod Automaton
+pub mod WellFormed
+pub mod Records
