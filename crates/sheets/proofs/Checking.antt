@@ -1,0 +1,180 @@
+-- The laws by which the check is proved: each says what one more word, record or section does.
+use Prim.Native.Nat.{ℕ, zero, suc, _+_, _-_, _*_, _≤_, _<_}
+use mathlib.Core.Path.{_≡_, refl, sym, ap, _∙_}
+use mathlib.Core.Bool.{Bool, true, false, not, cond, _&&_, _||_}
+use mathlib.Core.List.{List, [], _∷_}
+use native.Mathlib.Nat.{add-sub-cancel-left}
+use native.Mathlib.Numerals.{add-one, sub-one}
+use native.Mathlib.Omega.{arith}
+use borrow.Author.Tests.{lt-leb, le-leb, lt-ltb, le-ltb, eq-eqb, ne-eqb}
+use borrow.Author.Needs.{needs}
+use lib.Dec.{leb, ltb, eqb}
+use lib.ListN.{length, getD, take, drop, drop-of-length-le, length-drop, length-take}
+use lib.Seq.{getD-take, getD-drop}
+use Rattle.lists.proofs.Parts.{drop-at, part-all}
+use Rattle.lists.proofs.Tests.{tests}
+use Rattle.automata.specs.Automaton.{Transition}
+use Rattle.automata.specs.Records.{wordsOf, readRecords, recordAt}
+use Rattle.automata.proofs.Records.{records-at, records-end}
+use Rattle.refusal.specs.declared.InputRefusal.{InputRefusal}
+use Rattle.refusal.specs.declared.InputRefusal.the-variants.{SheetLength, Start, Counts, AcceptWord, Record, RecordOrder, Epsilon, Grammar, Utf8, Labels}
+use Rattle.refusal.specs.Number.{inputNumber}
+use Rattle.sheets.specs.declared.Checked.{Checked}
+use Rattle.sheets.specs.declared.Checked.the-variants.{Accepted, Refused}
+use Rattle.sheets.specs.Checked.{checkedNumber}
+use Rattle.sheets.specs.Fault.{acceptWords, less, isBad, recordFault, recordsFault, orElse, transitionsFault, statesFault, fault}
+
+-- the accept words from i on decide
+module _ (s : List ℕ) (i : ℕ) (e : acceptWords s ≡ acceptWords (drop i s)) where
+  pub accept-ended : length s ≤ i → true ≡ acceptWords s
+  accept-ended h = sym (e ∙ rw (drop-of-length-le s h))
+
+  pub accept-stopped : i < length s → 1 < getD s i 0 → false ≡ acceptWords s
+  accept-stopped h p = sym (e ∙ rw (drop-at s i h, lt-leb _ _ p))
+
+  pub accept-next : i < length s → getD s i 0 ≤ 1 → acceptWords s ≡ acceptWords (drop (i + 1) s)
+  accept-next h p = e ∙ ap acceptWords (drop-at s i h) ∙ rw (le-leb _ _ p)
+
+pub ruleset acceptLaws = (accept-ended, accept-stopped, accept-next, tests)
+
+-- two lists that are equal up to i are in the order of what is left of them
+module _ (a b : List ℕ) (i : ℕ) (e : less a b ≡ less (drop i a) (drop i b)) where
+  pub less-ended : length b ≤ i → false ≡ less a b
+  less-ended h = sym (e ∙ rw (drop-of-length-le b h))
+
+  pub less-short : i < length b → length a ≤ i → true ≡ less a b
+  less-short hb h = sym (e ∙ rw (drop-of-length-le a h, drop-at b i hb))
+
+  pub less-below : i < length b → i < length a → getD a i 0 < getD b i 0 → true ≡ less a b
+  less-below hb ha p = sym (e ∙ rw (drop-at a i ha, drop-at b i hb, lt-ltb _ _ p))
+
+  pub less-above : i < length b → i < length a → getD b i 0 < getD a i 0 → false ≡ less a b
+  less-above hb ha p =
+      sym (e ∙ rw (drop-at a i ha, drop-at b i hb, le-ltb (getD a i 0) (getD b i 0) (omega arith), ne-eqb (getD a i 0) (getD b i 0) (omega arith)))
+
+  pub less-next : i < length b → i < length a → getD a i 0 ≤ getD b i 0 → getD b i 0 ≤ getD a i 0 → less a b ≡ less (drop (i + 1) a) (drop (i + 1) b)
+  less-next hb ha p q =
+      e ∙ ap (λ l. less l (drop i b)) (drop-at a i ha) ∙ ap (λ l. less (getD a i 0 ∷ drop (i + 1) a) l) (drop-at b i hb)
+      ∙ rw (le-ltb (getD a i 0) (getD b i 0) q, eq-eqb (getD a i 0) (getD b i 0) (omega arith))
+
+pub ruleset lessLaws = (less-ended, less-short, less-below, less-above, less-next, tests)
+
+-- five words are those of the record that they are read as
+five-words : (r : List ℕ) → length r ≡ 5 → wordsOf (recordAt r 0) ≡ r
+five-words [] h = absurd (omega arith)
+five-words (a ∷ []) h = absurd (omega arith)
+five-words (a ∷ b ∷ []) h = absurd (omega arith)
+five-words (a ∷ b ∷ c ∷ []) h = absurd (omega arith)
+five-words (a ∷ b ∷ c ∷ d ∷ []) h = absurd (omega arith)
+five-words (a ∷ b ∷ c ∷ d ∷ e ∷ []) h = refl
+five-words (a ∷ b ∷ c ∷ d ∷ e ∷ f ∷ r) h = absurd (omega arith)
+
+-- a record's fault, from the answers of the two functions that test it
+module _ (n : ℕ) (before r : List ℕ) (b : Bool) (e : b ≡ isBad n (recordAt r 0)) where
+  pub record-bad : b ≡ true → 5 ≡ recordFault n before (recordAt r 0)
+  unfolding recordFault
+  record-bad p = rw (← e, p)
+
+  in-order : (l : Bool) → length r ≡ 5 → b ≡ false → l ≡ less before r → recordFault n before (recordAt r 0) ≡ cond l 0 6
+  unfolding recordFault
+  in-order l h p d = ap (λ x. cond x 5 (cond (less before (wordsOf (recordAt r 0))) 0 6)) (sym e ∙ p) ∙ ap (λ x. cond (less before x) 0 6) (five-words r h) ∙ ap (λ x. cond x 0 6) (sym d)
+
+  pub record-good : (l : Bool) → length r ≡ 5 → b ≡ false → l ≡ less before r → l ≡ true → 0 ≡ recordFault n before (recordAt r 0)
+  record-good l h p d q = sym (in-order l h p d ∙ rw q)
+
+  pub record-order : (l : Bool) → length r ≡ 5 → b ≡ false → l ≡ less before r → l ≡ false → 6 ≡ recordFault n before (recordAt r 0)
+  record-order l h p d q = sym (in-order l h p d ∙ rw q)
+
+pub ruleset recordLaws = (record-bad, record-good, record-order, tests)
+
+orElse-stop : (f g : ℕ) → (f ≡ 0 → ⊥) → orElse f g ≡ f
+orElse-stop zero g h = absurd (h refl)
+orElse-stop (suc f) g h = refl
+
+refused-some : (r : InputRefusal) → inputNumber r ≡ 0 → ⊥
+refused-some SheetLength h = omega arith
+refused-some Start h = omega arith
+refused-some Counts h = omega arith
+refused-some AcceptWord h = omega arith
+refused-some Record h = omega arith
+refused-some RecordOrder h = omega arith
+refused-some Epsilon h = omega arith
+refused-some Grammar h = omega arith
+refused-some Utf8 h = omega arith
+refused-some Labels h = omega arith
+
+-- the part of five words at a place is the record there
+part-record : (t : List ℕ) (at : ℕ) → recordAt (take (at + 5 - at) (drop at t)) 0 ≡ recordAt t at
+part-record t at = rw (add-sub-cancel-left, field 0 (omega arith), field 1 (omega arith), field 2 (omega arith), field 3 (omega arith), field 4 (omega arith), here)
+  where
+    here : at + 0 ≡ at
+    here = omega arith
+
+    field : (i : ℕ) → i < 5 → getD (take 5 (drop at t)) i 0 ≡ getD t (at + i) 0
+    field i h = getD-take 5 (drop at t) i 0 h ∙ getD-drop at t i 0
+
+-- the records from a place on decide, where the one at the place has the answer f
+module _ (n : ℕ) (t before : List ℕ) (at : ℕ) (e : recordsFault n [] (readRecords t) ≡ recordsFault n before (readRecords (drop at t))) where
+  pub records-ended : length t - at < 5 → 0 ≡ recordsFault n [] (readRecords t)
+  unfolding recordsFault
+  records-ended h = sym (e ∙ rw (records-end t at h))
+
+  module _ (h : 5 ≤ length t - at) (f : Checked) (p : checkedNumber f ≡ recordFault n before (recordAt (take (at + 5 - at) (drop at t)) 0)) where
+    one-more : recordsFault n [] (readRecords t) ≡ orElse (checkedNumber f) (recordsFault n (wordsOf (recordAt t at)) (readRecords (drop (at + 5) t)))
+    unfolding recordsFault
+    one-more = e ∙ ap (recordsFault n before) (records-at t at h) ∙ ap (λ x. orElse x (recordsFault n (wordsOf (recordAt t at)) (readRecords (drop (at + 5) t)))) (sym (p ∙ ap (recordFault n before) (part-record t at)))
+
+    pub records-stopped : (r : InputRefusal) → f ≡ Refused r → checkedNumber f ≡ recordsFault n [] (readRecords t)
+    records-stopped r q = sym (one-more ∙ orElse-stop (checkedNumber f) _ (λ z. refused-some r (ap checkedNumber (sym q) ∙ z)))
+
+    pub records-next : f ≡ Accepted → recordsFault n [] (readRecords t) ≡ recordsFault n (take (at + 5 - at) (drop at t)) (readRecords (drop (at + 5) t))
+    records-next q =
+        one-more ∙ ap (λ x. orElse (checkedNumber x) (recordsFault n (wordsOf (recordAt t at)) (readRecords (drop (at + 5) t)))) q
+        ∙ ap (λ x. recordsFault n x (readRecords (drop (at + 5) t))) (ap wordsOf (sym (part-record t at)) ∙ five-words _ long)
+      where
+        long : length (take (at + 5 - at) (drop at t)) ≡ 5
+        long = simp (length-take, length-drop, add-sub-cancel-left) (omega arith)
+
+pub ruleset recordsLaws = (records-ended, records-stopped, records-next, needs)
+
+-- each section's fault, in the terms that the code has
+pub transitions-none : (n : ℕ) (t : List ℕ) → length t ≡ 0 → 1 ≡ transitionsFault n t
+unfolding transitionsFault
+transitions-none n [] h = refl
+transitions-none n (x ∷ t) h = absurd (omega arith)
+
+pub transitions-at : (n : ℕ) (t : List ℕ) → (length t ≡ 0 → ⊥) → transitionsFault n t ≡
+    cond (ltb 2048 (getD t 0 0)) 3
+    (cond (eqb (length t - 1) (5 * getD t 0 0)) (recordsFault n [] (readRecords (take (length t - 1) (drop 1 t)))) 1)
+unfolding transitionsFault
+transitions-at n [] h = absurd (h refl)
+transitions-at n (x ∷ t) h = rw (part-all 1 (x ∷ t), sub-one)
+
+pub states-none : (start : ℕ) (t : List ℕ) → length t ≡ 0 → 1 ≡ statesFault start t
+unfolding statesFault
+states-none start [] h = refl
+states-none start (x ∷ t) h = absurd (omega arith)
+
+pub states-at : (start : ℕ) (t : List ℕ) → (length t ≡ 0 → ⊥) → statesFault start t ≡
+    cond (eqb (getD t 0 0) 0 || ltb 256 (getD t 0 0)) 3
+    (cond (ltb (length t - 1) (getD t 0 0)) 1
+    (cond (leb (getD t 0 0) start) 2
+    (cond (acceptWords (take (getD t 0 0 + 1 - 1) (drop 1 t)))
+    (transitionsFault (getD t 0 0) (take (length t - (getD t 0 0 + 1)) (drop (getD t 0 0 + 1) t))) 4)))
+unfolding statesFault
+states-at start [] h = absurd (h refl)
+states-at start (x ∷ t) h = rw (part-all (x + 1) (x ∷ t), sub-one (suc (length t)), add-one, sub-one (suc x))
+
+pub start-short : (s : List ℕ) → length s < 2 → 1 ≡ fault s
+unfolding fault
+start-short [] h = refl
+start-short (a ∷ []) h = refl
+start-short (a ∷ b ∷ s) h = absurd (omega arith)
+
+pub start-at : (s : List ℕ) → 2 ≤ length s → fault s ≡ cond (eqb (getD s 0 0) 1) (statesFault (getD s 1 0) (take (length s - 2) (drop 2 s))) 2
+unfolding fault
+start-at [] h = absurd (omega arith)
+start-at (a ∷ []) h = absurd (omega arith)
+start-at (a ∷ b ∷ s) h = rw (part-all 2 (a ∷ b ∷ s))
+
+pub ruleset sections = (transitions-none, transitions-at, states-none, states-at, start-short, start-at, tests)

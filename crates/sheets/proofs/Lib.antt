@@ -1,0 +1,2 @@
+-- The laws of sheets.
+pub mod Checking

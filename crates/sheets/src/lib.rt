@@ -1,0 +1,168 @@
+// The sheet: an automaton as a list of words. Checks a sheet and finds the records of a state, which are a run in its middle.
+// The check reads each word once; the table of runs is made once in one pass, and a run is then found without a search.
+ghost use mathlib.Core.Path.{_≡_};
+ghost use mathlib.Core.List.{[]};
+ghost use Prim.Native.Nat.{_+_, _≤_, _<_};
+ghost use lib.ListN.{length, getD};
+ghost use lib.Seq.{sets};
+ghost use Rattle.automata.specs.Records.{recordAt, readRecords};
+ghost use Rattle.sheets.specs.Fault.{fault, statesFault, transitionsFault, recordsFault, recordFault, isBad, less, acceptWords};
+ghost use Rattle.sheets.specs.Checked.{checkedNumber};
+use refusal::InputRefusal;
+
+pub enum Checked {
+    Accepted,
+    Refused(InputRefusal),
+}
+
+// Whether each accept word is 0 or 1.
+fn are_accept_words(s: &[u32]) -> bool
+    ensures { λ r. ⌜ r ≡ acceptWords (now (s .entry)) ⌝ }
+{
+    let mut i = 0;
+    while i < s.len() {
+        if 1 < s[i] {
+            return false;
+        }
+        i += 1;
+    }
+    true
+}
+
+// Whether a comes before b, word by word.
+fn is_less(a: &[u32], b: &[u32]) -> bool
+    ensures { λ r. ⌜ r ≡ less (now (a .entry)) (now (b .entry)) ⌝ }
+{
+    let mut i = 0;
+    while i < b.len() {
+        if a.len() <= i {
+            return true;
+        }
+        let x = a[i];
+        let y = b[i];
+        if x < y {
+            return true;
+        }
+        if y < x {
+            return false;
+        }
+        i += 1;
+    }
+    false
+}
+
+// Whether a record of these words breaks a rule by itself, in a sheet of n states.
+fn is_bad(n: u32, from: u32, kind: u32, first: u32, last: u32, to: u32) -> bool
+    ensures { λ b. ⌜ b ≡ isBad n (record { from = from; kind = kind; first = first; last = last; to = to }) ⌝ }
+{
+    if 1 < kind {
+        return true;
+    }
+    if n <= from {
+        return true;
+    }
+    if n <= to {
+        return true;
+    }
+    if last < first {
+        return true;
+    }
+    if kind != 0 {
+        return false;
+    }
+    if first != 0 {
+        return true;
+    }
+    if last != 0 {
+        return true;
+    }
+    false
+}
+
+// The fault of the record r after the record before.
+fn check_record(n: u32, before: &[u32], r: &[u32]) -> Checked
+    requires { ⌜ length (now r) ≡ 5 ⌝ }
+    ensures { λ f. ⌜ checkedNumber f ≡ recordFault n (now (before .entry)) (recordAt (now (r .entry)) 0) ⌝ }
+{
+    if is_bad(n, r[0], r[1], r[2], r[3], r[4]) {
+        return Checked::Refused(InputRefusal::Record);
+    }
+    if is_less(before, r) {
+        return Checked::Accepted;
+    }
+    Checked::Refused(InputRefusal::RecordOrder)
+}
+
+// The first fault of the records.
+fn check_records(n: u32, t: &[u32]) -> Checked
+    ensures { λ f. ⌜ checkedNumber f ≡ recordsFault n [] (readRecords (now (t .entry))) ⌝ }
+{
+    let mut prev: usize = 0;
+    let mut at: usize = 0;
+    while 5 <= t.len() - at {
+        let f = check_record(n, &t[prev..at], &t[at..at + 5]);
+        let Checked::Accepted = f else {
+            return f;
+        };
+        prev = at;
+        at += 5;
+    }
+    Checked::Accepted
+}
+
+// The first fault from the transition count on.
+fn check_transitions(n: u32, t: &[u32]) -> Checked
+    ensures { λ f. ⌜ checkedNumber f ≡ transitionsFault n (now (t .entry)) ⌝ }
+{
+    if t.len() == 0 {
+        return Checked::Refused(InputRefusal::SheetLength);
+    }
+    let m = t[0];
+    if 2048 < m {
+        return Checked::Refused(InputRefusal::Counts);
+    }
+    if t.len() - 1 != 5 * (m as usize) {
+        return Checked::Refused(InputRefusal::SheetLength);
+    }
+    check_records(n, &t[1..])
+}
+
+// The first fault from the state count on.
+fn check_states(start: u32, t: &[u32]) -> Checked
+    ensures { λ f. ⌜ checkedNumber f ≡ statesFault start (now (t .entry)) ⌝ }
+{
+    if t.len() == 0 {
+        return Checked::Refused(InputRefusal::SheetLength);
+    }
+    let n = t[0];
+    if n == 0 {
+        return Checked::Refused(InputRefusal::Counts);
+    }
+    if 256 < n {
+        return Checked::Refused(InputRefusal::Counts);
+    }
+    let k = n as usize;
+    if t.len() - 1 < k {
+        return Checked::Refused(InputRefusal::SheetLength);
+    }
+    if n <= start {
+        return Checked::Refused(InputRefusal::Start);
+    }
+    if are_accept_words(&t[1..k + 1]) {
+        return check_transitions(n, &t[k + 1..]);
+    }
+    Checked::Refused(InputRefusal::AcceptWord)
+}
+
+// The first fault of a sheet.
+pub fn check(s: &[u32]) -> Checked
+    ensures { λ f. ⌜ checkedNumber f ≡ fault (now (s .entry)) ⌝ }
+{
+    if s.len() < 2 {
+        return Checked::Refused(InputRefusal::SheetLength);
+    }
+    if s[0] != 1 {
+        return Checked::Refused(InputRefusal::Start);
+    }
+    check_states(s[1], &s[2..])
+}
