@@ -1,2 +1,4 @@
 -- The laws of sheets.
 pub mod Checking
+pub mod Accepted
+pub mod Meaning
