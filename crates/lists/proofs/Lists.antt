@@ -1,11 +1,11 @@
 -- Laws of `any`, `keep` and `tabulate`: what membership says.
 use Prim.Native.Nat.{ℕ, zero, suc, _+_, _≤_, _<_}
 use mathlib.Core.Bool.{Bool, true, false, cond, _||_, false≢true}
-use mathlib.Core.List.{List, [], _∷_, _++_, map, List·Memᴰ·head, List·Memᴰ·tail}
+use mathlib.Core.List.{List, [], _∷_, _++_, map, List·Memᴰ·head, List·Memᴰ·tail, nil≢cons}
 use mathlib.Core.Logic.{_⊎_, inl, inr, ⊎-elim}
 use mathlib.Core.Path.{_≡_, refl, sym, _∙_, ap, ap₂}
 use native.Mathlib.Omega.{arith}
-use lib.ListN.{getD, length}
+use lib.ListN.{getD, length, drop}
 use Rattle.lists.specs.Lists.{_∈_, any, keep, tabulate}
 use Rattle.lists.proofs.Tests.{or-cases, or-left, or-right}
 
@@ -113,3 +113,18 @@ pub map-tabulate : {X Y : Type 0} (f : X → Y) (n : ℕ) (g : ℕ → X) → ma
 unfolding tabulate
 map-tabulate f zero g = refl
 map-tabulate f (suc n) g = ap (λ l. f (g 0) ∷ l) (map-tabulate f n (λ k. g (suc k)))
+
+pub length-keep : {A : Type 0} (f : A → Bool) (l : List A) → length (keep f l) ≤ length l
+unfolding keep
+length-keep f [] = omega arith
+length-keep f (x ∷ l) = go (f x) (length-keep f l)
+  where
+    go : (b : Bool) → length (keep f l) ≤ length l → length (cond b (x ∷ keep f l) (keep f l)) ≤ suc (length l)
+    go true h = omega arith
+    go false h = omega arith
+
+-- what stands at a place of a list is a member
+pub drop-mem : {A : Type 0} (k : ℕ) (l : List A) (x : A) (r : List A) → drop k l ≡ x ∷ r → x ∈ l
+drop-mem zero l x r e = rw e (List·Memᴰ·head refl)
+drop-mem (suc k) [] x r e = absurd (nil≢cons e)
+drop-mem (suc k) (y ∷ l) x r e = List·Memᴰ·tail (drop-mem k l x r e)

@@ -68,7 +68,8 @@ bad-not n e h =
     record {
       from-in = leb-false _ _ (d .1);
       to-in = leb-false _ _ (c .1);
-      sound = record { known = ltb-false _ _ (d .0); full = ltb-false _ _ (b .1); blank = blank } }
+      sound = record { known = ltb-false _ _ (d .0); full = ltb-false _ _ (b .1); blank = blank };
+    }
 
 good-not : (n : ℕ) (e : Transition) → Good n e → isBad n e ≡ false
 unfolding isBad
@@ -141,7 +142,8 @@ module _ (s : List ℕ) (a : Accepted s) where
         accepts = simp (length-take, length-drop) (omega (arith, a .whole));
         accept-words = accept-at (take (stateCount s) (drop 3 s)) (a .accept-words);
         sound = λ e m. g e m .sound;
-        ascends = all-ascend (stateCount s) _ (a .records) }
+        ascends = all-ascend (stateCount s) _ (a .records);
+      }
 
   pub read-fits : Fits (read s)
   read-fits = record { few-states = a .few-states; few-transitions = rw (length-read (recordCount s) (drop (recordsAt s) s) records-length) (a .few-records) }
@@ -190,8 +192,16 @@ write-accepted A w f =
     let some = w .states .starts in
     let long = length-append (A .accept) (length ts ∷ writeRecords ts) in
     let pass = records-pass size [] ts (λ e m. record { from-in = w .states .froms e m; to-in = w .states .tos e m; sound = w .sound e m }) (w .ascends) (λ e m. refl) in
-    rw
-    (ne-eqb size 0 (λ z. omega arith), le-ltb 256 size (f .few-states), le-ltb (length (A .accept ++ (length ts ∷ writeRecords ts))) size (omega (arith, long, w .accepts)), lt-leb size (A .start) some,
-    accept-front A (w .accepts), accept-all (A .accept) (w .accept-words), accept-behind A (w .accepts), le-ltb 2048 (length ts) (f .few-transitions),
-    eq-eqb (length (writeRecords ts)) (5 * length ts) (length-write ts), read-write ts)
+    rw (
+      ne-eqb size 0 (λ z. omega arith),
+      le-ltb 256 size (f .few-states),
+      le-ltb (length (A .accept ++ (length ts ∷ writeRecords ts))) size (omega (arith, long, w .accepts)),
+      lt-leb size (A .start) some,
+      accept-front A (w .accepts),
+      accept-all (A .accept) (w .accept-words),
+      accept-behind A (w .accepts),
+      le-ltb 2048 (length ts) (f .few-transitions),
+      eq-eqb (length (writeRecords ts)) (5 * length ts) (length-write ts),
+      read-write ts,
+    )
     pass
