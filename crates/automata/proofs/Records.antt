@@ -2,9 +2,10 @@
 use Prim.Native.Nat.{ℕ, zero, suc, _+_, _-_, _*_, _≤_, _<_}
 use mathlib.Core.List.{List, [], _∷_, _++_}
 use mathlib.Core.Path.{_≡_, refl, sym, _∙_, ap}
+use native.Mathlib.Nat.{add-sub-cancel-left}
 use native.Mathlib.Omega.{arith}
 use lib.ListN.{length, getD, take, drop, length-append, length-drop}
-use lib.Seq.{drop-drop, getD-drop}
+use lib.Seq.{drop-drop, getD-drop, getD-take}
 use Rattle.automata.specs.Automaton.{Transition}
 use Rattle.automata.specs.Records.{wordsOf, readRecords, writeRecords, recordAt}
 
@@ -88,3 +89,13 @@ read-take (suc k) (a ∷ b ∷ []) = rw (five k)
 read-take (suc k) (a ∷ b ∷ c ∷ []) = rw (five k)
 read-take (suc k) (a ∷ b ∷ c ∷ d ∷ []) = rw (five k)
 read-take (suc k) (a ∷ b ∷ c ∷ d ∷ e ∷ s) = rw (five k) (ap (λ l. record { from = a; kind = b; first = c; last = d; to = e } ∷ l) (read-take k s))
+
+-- the part of five words at a place is the record there
+pub part-record : (t : List ℕ) (at : ℕ) → recordAt (take (at + 5 - at) (drop at t)) 0 ≡ recordAt t at
+part-record t at = rw (add-sub-cancel-left, field 0 (omega arith), field 1 (omega arith), field 2 (omega arith), field 3 (omega arith), field 4 (omega arith), here)
+  where
+    here : at + 0 ≡ at
+    here = omega arith
+
+    field : (i : ℕ) → i < 5 → getD (take 5 (drop at t)) i 0 ≡ getD t (at + i) 0
+    field i h = getD-take 5 (drop at t) i 0 h ∙ getD-drop at t i 0

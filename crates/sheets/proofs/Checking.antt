@@ -10,12 +10,11 @@ use borrow.Author.Tests.{lt-leb, le-leb, lt-ltb, le-ltb, eq-eqb, ne-eqb}
 use borrow.Author.Needs.{needs}
 use lib.Dec.{leb, ltb, eqb}
 use lib.ListN.{length, getD, take, drop, drop-of-length-le, length-drop, length-take}
-use lib.Seq.{getD-take, getD-drop}
 use Rattle.lists.proofs.Parts.{drop-at, part-all}
 use Rattle.lists.proofs.Tests.{tests}
 use Rattle.automata.specs.Automaton.{Transition}
 use Rattle.automata.specs.Records.{wordsOf, readRecords, recordAt}
-use Rattle.automata.proofs.Records.{records-at, records-end}
+use Rattle.automata.proofs.Records.{records-at, records-end, part-record}
 use Rattle.refusal.specs.declared.InputRefusal.{InputRefusal}
 use Rattle.refusal.specs.declared.InputRefusal.the-variants.{SheetLength, Start, Counts, AcceptWord, Record, RecordOrder, Epsilon, Grammar, Utf8, Labels}
 use Rattle.refusal.specs.Number.{inputNumber}
@@ -102,16 +101,6 @@ refused-some Epsilon h = omega arith
 refused-some Grammar h = omega arith
 refused-some Utf8 h = omega arith
 refused-some Labels h = omega arith
-
--- the part of five words at a place is the record there
-part-record : (t : List ℕ) (at : ℕ) → recordAt (take (at + 5 - at) (drop at t)) 0 ≡ recordAt t at
-part-record t at = rw (add-sub-cancel-left, field 0 (omega arith), field 1 (omega arith), field 2 (omega arith), field 3 (omega arith), field 4 (omega arith), here)
-  where
-    here : at + 0 ≡ at
-    here = omega arith
-
-    field : (i : ℕ) → i < 5 → getD (take 5 (drop at t)) i 0 ≡ getD t (at + i) 0
-    field i h = getD-take 5 (drop at t) i 0 h ∙ getD-drop at t i 0
 
 -- the records from a place on decide, where the one at the place has the answer f
 module _ (n : ℕ) (t before : List ℕ) (at : ℕ) (e : recordsFault n [] (readRecords t) ≡ recordsFault n before (readRecords (drop at t))) where
