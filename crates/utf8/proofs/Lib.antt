@@ -1,0 +1,3 @@
+-- The laws of UTF-8: for the code, for callers, and that decoding is RFC 3629's.
+pub mod Lead
+pub mod Sequence

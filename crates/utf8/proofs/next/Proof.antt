@@ -1,0 +1,80 @@
+use borrow.Author.Needs.{needs}
+use Rattle.utf8.proofs.next.Statement.{statement}
+use Rattle.utf8.proofs.next.Tie as tie
+use Rattle.utf8.proofs.next.Reads as reads
+use Rattle.utf8.proofs.next.Lts as lts
+use Rattle.utf8.proofs.four.Reads as four-reads
+use Rattle.utf8.proofs.sequence_length.Reads as sequence-length-reads
+use Rattle.utf8.proofs.three.Reads as three-reads
+use Rattle.utf8.proofs.two.Reads as two-reads
+use Rattle.utf8.proofs.wide.Reads as wide-reads
+
+-- src/lib.rt:156:9
+returns : tie.Need-returns
+returns c = search needs
+
+-- src/lib.rt:158:13
+shared-slice-read-a : tie.Need-shared-slice-read-a
+shared-slice-read-a c = search needs
+
+-- src/lib.rt:159:9
+sequence-length-requires : tie.Need-sequence-length-requires
+sequence-length-requires c κs = search needs
+
+-- src/lib.rt:161:26
+wide-requires : tie.Need-wide-requires
+wide-requires c κs = search needs
+
+-- src/lib.rt:161:35
+add-t11 : tie.Need-add-t11
+add-t11 c = search needs
+
+-- src/lib.rt:162:14
+two-requires : tie.Need-two-requires
+two-requires c κs = search needs
+
+-- src/lib.rt:163:14
+three-requires : tie.Need-three-requires
+three-requires c κs = search needs
+
+-- src/lib.rt:164:14
+four-requires : tie.Need-four-requires
+four-requires c κs = search needs
+
+-- src/lib.rt:152:1
+returns-2 : tie.Need-returns-2
+returns-2 c = search needs
+
+-- src/lib.rt:152:1
+returns-3 : tie.Need-returns-3
+returns-3 c = search needs
+
+-- src/lib.rt:152:1
+returns-4 : tie.Need-returns-4
+returns-4 c = search needs
+
+-- src/lib.rt:152:1
+returns-5 : tie.Need-returns-5
+returns-5 c = search needs
+
+-- src/lib.rt:152:1
+returns-6 : tie.Need-returns-6
+returns-6 c = search needs
+
+pub next-spec : {M : Type 1} → statement M
+next-spec =
+    tie.close
+    (tie.spec
+    returns
+    shared-slice-read-a
+    sequence-length-requires
+    wide-requires
+    add-t11
+    two-requires
+    three-requires
+    four-requires
+    returns-2
+    returns-3
+    returns-4
+    returns-5
+    returns-6)
