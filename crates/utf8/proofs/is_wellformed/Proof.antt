@@ -1,3 +1,8 @@
+use Prim.Native.Nat.{_-_, _≤_}
+use mathlib.Core.Path.{_≡_}
+use lib.ListN.{length, drop}
+use Rattle.utf8.specs.Utf8.{wellformed}
+use Rattle.utf8.proofs.Wellformed.{wellformedLoop}
 use borrow.Author.Needs.{needs}
 use Rattle.utf8.proofs.is_wellformed.Statement.{statement}
 use Rattle.utf8.proofs.is_wellformed.Tie as tie
@@ -6,10 +11,10 @@ use Rattle.utf8.proofs.is_wellformed.Lts as lts
 use Rattle.utf8.proofs.next.Reads as next-reads
 
 abbrev Inv-loop : tie.InvT-loop
-Inv-loop text at₀ at = ?
+Inv-loop text at₀ at = (at ≤ length text) × (wellformed text ≡ wellformed (drop at text))
 
 abbrev μ-loop : tie.MeasureT-loop
-μ-loop text at₀ at = ?
+μ-loop text at₀ at = length text - at
 
 -- src/lib.rt:174:5
 loop-holds : tie.Need-loop-holds Inv-loop μ-loop
@@ -25,11 +30,11 @@ enum-known-s c = search needs
 
 -- src/lib.rt:174:5
 loop-less : tie.Need-loop-less Inv-loop μ-loop
-loop-less c = search needs
+loop-less c = search wellformedLoop
 
 -- src/lib.rt:174:5
 loop-again : tie.Need-loop-again Inv-loop μ-loop
-loop-again c = search needs
+loop-again c = search wellformedLoop
 
 -- src/lib.rt:181:17
 enum-told : tie.Need-enum-told Inv-loop μ-loop
@@ -37,7 +42,7 @@ enum-told c = search needs
 
 -- src/lib.rt:181:17
 returns : tie.Need-returns Inv-loop μ-loop
-returns c = search needs
+returns c = search wellformedLoop
 
 -- src/lib.rt:184:17
 enum-told-2 : tie.Need-enum-told-2 Inv-loop μ-loop
@@ -45,7 +50,7 @@ enum-told-2 c = search needs
 
 -- src/lib.rt:184:17
 returns-2 : tie.Need-returns-2 Inv-loop μ-loop
-returns-2 c = search needs
+returns-2 c = search wellformedLoop
 
 pub is-wellformed-spec : {M : Type 1} → statement M
 is-wellformed-spec =

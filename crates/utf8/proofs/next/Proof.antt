@@ -1,3 +1,4 @@
+use Rattle.utf8.proofs.Front.{next-end, next-one, next-sequence, next-none}
 use borrow.Author.Needs.{needs}
 use Rattle.utf8.proofs.next.Statement.{statement}
 use Rattle.utf8.proofs.next.Tie as tie
@@ -11,7 +12,7 @@ use Rattle.utf8.proofs.wide.Reads as wide-reads
 
 -- src/lib.rt:156:9
 returns : tie.Need-returns
-returns c = search needs
+returns c = search next-end
 
 -- src/lib.rt:158:13
 shared-slice-read-a : tie.Need-shared-slice-read-a
@@ -43,23 +44,25 @@ four-requires c κs = search needs
 
 -- src/lib.rt:152:1
 returns-2 : tie.Need-returns-2
-returns-2 c = search needs
+returns-2 c = search next-one
 
 -- src/lib.rt:152:1
 returns-3 : tie.Need-returns-3
-returns-3 c = search needs
+returns-3 c = search next-sequence
 
 -- src/lib.rt:152:1
 returns-4 : tie.Need-returns-4
-returns-4 c = search needs
+returns-4 c = search next-sequence
 
 -- src/lib.rt:152:1
 returns-5 : tie.Need-returns-5
-returns-5 c = search needs
+returns-5 c = search next-sequence
 
 -- src/lib.rt:152:1
 returns-6 : tie.Need-returns-6
-returns-6 c = search needs
+returns-6 c =
+    let r = c .match .rest in
+    next-none _ _ _ (c .before .before .before .if1 .left) (c .before .sequence-length .ensures) (r .0 .0 .0 .1) (r .0 .0 .1) (r .0 .1) (r .1)
 
 pub next-spec : {M : Type 1} → statement M
 next-spec =
