@@ -2,19 +2,17 @@
 use Prim.Native.Nat.{ℕ, zero, suc, _+_, _-_, _≤_, _<_}
 use mathlib.Core.Bool.{Bool, true, false, cond, false≢true}
 use mathlib.Core.List.{List, [], _∷_}
-use mathlib.Core.Logic.{_↔_}
 use mathlib.Core.Path.{_≡_, refl, sym, _∙_, ap, subst}
-use native.Mathlib.Nat.{zero-lt-suc}
 use native.Mathlib.Omega.{arith}
 use lib.Dec.{eqb}
 use lib.ListN.{length, take, drop, length-drop}
 use lib.Seq.{drop-nil, drop-drop}
 use Rattle.lists.proofs.Tests.{and-parts}
-use Rattle.utf8.specs.Utf8.{sequenceLength, isContinuation, continued, leadBits, valueOf, least, isImproper, scalar, Front, end, fault, point, sequence, front, Decoded, malformed, points, cons, follow, decodeFrom, decode, isPoints, wellformed, placed, stepAt}
+use Rattle.utf8.specs.Utf8.{sequenceLength, isContinuation, continued, leadBits, valueOf, leastValue, isImproper, scalarOf, Front, end, fault, point, sequence, front, malformed, points, cons, decodeFrom, decode, placed, stepAt}
 use Rattle.utf8.specs.Encode.{Scalar}
 use Rattle.utf8.specs.declared.Step.{Step}
 use Rattle.utf8.specs.declared.Step.the-variants.{Point, End, Malformed}
-use Rattle.utf8.proofs.Point.{Stands, stands}
+use Rattle.utf8.proofs.Point.{stands}
 
 continued-long : (k : ℕ) (l : List ℕ) → continued k l ≡ true → k ≤ length l
 unfolding continued
@@ -62,8 +60,8 @@ decode-point (a ∷ rest) x (suc k) e = rw e (ap (cons x) (ap (decodeFrom rest) 
     less k = omega arith
 
 sequence-some : (n a : ℕ) (rest : List ℕ) → sequence n a rest ≡ end → ⊥
-unfolding sequence scalar
-sequence-some n a rest = go x (eqb n 0) (continued (n - 1) rest) (isImproper (least n) x)
+unfolding sequence scalarOf
+sequence-some n a rest = go x (eqb n 0) (continued (n - 1) rest) (isImproper (leastValue n) x)
   where
     x : ℕ
     x = valueOf (leadBits n a) (take (n - 1) rest)
@@ -74,7 +72,7 @@ sequence-some n a rest = go x (eqb n 0) (continued (n - 1) rest) (isImproper (le
     go x false true true e = let z : _≡_ {A = ℕ} 0 1 = cc in omega arith
     go x false true false e = let z : _≡_ {A = ℕ} 0 1 = cc in omega arith
 
-front-end : (t : List ℕ) → front t ≡ end → length t ≡ 0
+pub front-end : (t : List ℕ) → front t ≡ end → t ≡ []
 unfolding front
 front-end [] e = refl
 front-end (a ∷ rest) e = absurd (sequence-some (sequenceLength a) a rest e)
@@ -100,7 +98,7 @@ module _ (t : List ℕ) (at : ℕ) (s : Step) (told : s ≡ stepAt t at) where
   unfolding stepAt
   end-past e =
       let h = front-end (drop at t) (placed-end at _ (sym e ∙ told)) in
-      let k : length t - at ≡ 0 = sym (length-drop at t) ∙ h in
+      let k : length t - at ≡ 0 = sym (length-drop at t) ∙ ap length h in
       omega arith
 
   pub end-decode : s ≡ End → decode (drop at t) ≡ points []

@@ -3,12 +3,12 @@ use Prim.Native.Nat.{ℕ, _+_, _≤_, _<_}
 use mathlib.Core.List.{List}
 use mathlib.Core.Path.{_≡_, refl, sym, _∙_, ap}
 use native.Mathlib.Omega.{arith}
-use borrow.Author.Tests.{lt-ltb, le-ltb, lt-leb}
+use borrow.Author.Tests.{le-ltb, lt-leb}
 use lib.Dec.{lit≤}
 use lib.ListN.{length, getD, drop, drop-of-length-le}
 use Rattle.lists.proofs.Parts.{drop-at}
 use Rattle.utf8.proofs.Lead.{Lead, none, one, two, three, four, lead}
-use Rattle.utf8.specs.Utf8.{sequenceLength, continued, leadBits, valueOf, isSurrogate, isImproper, least, scalar, sequence, point, front, placed, stepAt}
+use Rattle.utf8.specs.Utf8.{sequenceLength, continued, leadBits, valueOf, isSurrogate, isImproper, leastValue, scalarOf, sequence, point, front, placed, stepAt}
 use Rattle.utf8.specs.declared.Step.{Step}
 use Rattle.utf8.specs.declared.Step.the-variants.{Point, End, Malformed}
 
@@ -28,8 +28,8 @@ low (three h k) e = absurd (omega arith)
 low (four h k) e = absurd (omega arith)
 
 -- and stands for itself
-sequence-one : (a : ℕ) (rest : List ℕ) → a < 128 → sequence 1 a rest ≡ point a 1
-unfolding sequence continued leadBits valueOf scalar least isImproper isSurrogate
+pub sequence-one : (a : ℕ) (rest : List ℕ) → a < 128 → sequence 1 a rest ≡ point a 1
+unfolding sequence continued leadBits valueOf scalarOf leastValue isImproper isSurrogate
 sequence-one a rest h = rw (le-ltb a 0 (omega arith), le-ltb 1114111 a (omega arith), lt-leb 55296 a (omega arith))
 
 module _ (t : List ℕ) (at : ℕ) where

@@ -10,7 +10,7 @@ use lib.Count.{leadingZeros, leading-length}
 use lib.Dec.{leb, ltb}
 use lib.Pow.{pow-mono}
 use Rattle.lists.proofs.Tests.{test}
-use Rattle.utf8.specs.Utf8.{sequenceLength, least}
+use Rattle.utf8.specs.Utf8.{sequenceLength, leastValue}
 
 module _ (b : ℕ) (small : b < 256) where
   -- the inverted byte has m digits where it has 8 - m leading zeros
@@ -64,8 +64,8 @@ module _ (b : ℕ) (small : b < 256) where
       one-one (omega arith) (omega arith))
       (test (leb (r .0) 3))
 
-pub least-other : (n : ℕ) → (n ≡ 2 → ⊥) → (n ≡ 3 → ⊥) → (n ≡ 4 → ⊥) → 0 ≡ least n
-unfolding least
+pub least-other : (n : ℕ) → (n ≡ 2 → ⊥) → (n ≡ 3 → ⊥) → (n ≡ 4 → ⊥) → 0 ≡ leastValue n
+unfolding leastValue
 least-other zero h k l = refl
 least-other (suc zero) h k l = refl
 least-other (suc (suc zero)) h k l = absurd (h refl)

@@ -5,3 +5,4 @@ pub mod Front
 pub mod Point
 pub mod Decode
 pub mod Wellformed
+pub mod Encode

@@ -1,15 +1,14 @@
 -- What follows from a code point at the front of a list of bytes.
-use Prim.Native.Nat.{ℕ, zero, suc, _+_, _-_, _≤_, _<_}
-use mathlib.Core.Bool.{Bool, true, false, cond, _||_, false≢true, true≢false}
-use mathlib.Core.List.{List, [], _∷_}
+use Prim.Native.Nat.{ℕ, _-_, _≤_, _<_}
+use mathlib.Core.Bool.{Bool, true, false, cond, _||_}
+use mathlib.Core.List.{List}
 use mathlib.Core.Path.{_≡_, refl, sym, _∙_, ap}
-use native.Mathlib.Nat.{zero-lt-suc}
 use native.Mathlib.Omega.{arith}
 use borrow.Author.Tests.{ltb-false, eqb-false}
 use lib.Dec.{eqb, ltb}
-use lib.ListN.{length, take, drop}
-use Rattle.lists.proofs.Tests.{or-false, and-parts}
-use Rattle.utf8.specs.Utf8.{isContinuation, continued, leadBits, valueOf, least, isSurrogate, isImproper, Front, end, fault, point, scalar, sequenceLength, sequence, front}
+use lib.ListN.{take}
+use Rattle.lists.proofs.Tests.{or-false}
+use Rattle.utf8.specs.Utf8.{continued, leadBits, valueOf, leastValue, isSurrogate, isImproper, fault, point, scalarOf, sequence}
 use Rattle.utf8.specs.Encode.{Scalar}
 
 -- a sequence of n bytes that stands for x
@@ -17,7 +16,7 @@ pub record Stands (n a : ℕ) (rest : List ℕ) (x : ℕ) : Type 0 where
   pub some : 0 < n
   pub tail : continued (n - 1) rest ≡ true
   pub value : x ≡ valueOf (leadBits n a) (take (n - 1) rest)
-  pub long : least n ≤ x
+  pub long : leastValue n ≤ x
   pub proper : Scalar x
 
 -- one of the two that are not both true
@@ -29,8 +28,8 @@ proper-of low x e =
     (ltb-false x low (q .0), record { small = ltb-false 0x10_FFFF x (q .1); proper = p .1 })
 
 pub stands : (n a : ℕ) (rest : List ℕ) (x m : ℕ) → sequence n a rest ≡ point x m → (m ≡ n) × Stands n a rest x
-unfolding sequence scalar
-stands n a rest x m = go (eqb n 0) (continued (n - 1) rest) (isImproper (least n) v) refl refl refl
+unfolding sequence scalarOf
+stands n a rest x m = go (eqb n 0) (continued (n - 1) rest) (isImproper (leastValue n) v) refl refl refl
   where
     v : ℕ
     v = valueOf (leadBits n a) (take (n - 1) rest)
@@ -38,14 +37,14 @@ stands n a rest x m = go (eqb n 0) (continued (n - 1) rest) (isImproper (least n
     never : fault ≡ point x m → ⊥
     never e = let z : _≡_ {A = ℕ} 0 1 = cc in omega arith
 
-    go : (p q r : Bool) → eqb n 0 ≡ p → continued (n - 1) rest ≡ q → isImproper (least n) v ≡ r
+    go : (p q r : Bool) → eqb n 0 ≡ p → continued (n - 1) rest ≡ q → isImproper (leastValue n) v ≡ r
         → cond p fault (cond q (cond r fault (point v n)) fault) ≡ point x m → (m ≡ n) × Stands n a rest x
     go true q r ep eq er e = absurd (never e)
     go false false r ep eq er e = absurd (never e)
     go false true true ep eq er e = absurd (never e)
     go false true false ep eq er e =
         let same : v ≡ x = cc in
-        let c = proper-of (least n) x (ap (isImproper (least n)) (sym same) ∙ er) in
+        let c = proper-of (leastValue n) x (ap (isImproper (leastValue n)) (sym same) ∙ er) in
         (cc, record { some = positive n (eqb-false n 0 ep); tail = eq; value = sym same; long = c .0; proper = c .1 })
       where
         positive : (k : ℕ) → (k ≡ 0 → ⊥) → 0 < k

@@ -6,11 +6,11 @@ use mathlib.Core.Path.{_≡_, refl, sym, _∙_, ap}
 use native.Mathlib.Omega.{arith}
 use borrow.Author.Needs.{needs}
 use borrow.Author.Tests.{not-true, not-false}
-use lib.ListN.{length, getD, take, drop, length-drop}
+use lib.ListN.{length, getD, drop, length-drop}
 use lib.Dec.{eqb}
 use lib.Seq.{getD-drop}
 use Rattle.lists.proofs.Parts.{drop-at}
-use Rattle.utf8.specs.Utf8.{isContinuation, Front, fault, continued, leadBits, valueOf, least, isImproper, scalar, sequence, placed}
+use Rattle.utf8.specs.Utf8.{isContinuation, fault, continued, leadBits, valueOf, leastValue, isImproper, scalarOf, sequence, placed}
 use Rattle.utf8.specs.declared.Step.{Step}
 use Rattle.utf8.specs.declared.Step.the-variants.{Point, Malformed}
 
@@ -43,13 +43,13 @@ faulty n a rest e = rw e (either (eqb n 0))
     either true = refl
     either false = refl
 
-module _ (at n x m : ℕ) (s : Bool) (is-least : m ≡ least n) (told : s ≡ isImproper m x) where
-  pub scalar-bad : s ≡ true → Malformed ≡ placed at (scalar n x)
-  unfolding scalar
+module _ (at n x m : ℕ) (s : Bool) (is-least : m ≡ leastValue n) (told : s ≡ isImproper m x) where
+  pub scalar-bad : s ≡ true → Malformed ≡ placed at (scalarOf n x)
+  unfolding scalarOf
   scalar-bad k = rw (← is-least, sym told ∙ k)
 
-  pub scalar-good : s ≡ false → Point x (at + n) ≡ placed at (scalar n x)
-  unfolding scalar
+  pub scalar-good : s ≡ false → Point x (at + n) ≡ placed at (scalarOf n x)
+  unfolding scalarOf
   scalar-good k = rw (← is-least, sym told ∙ k)
 
 module _ (t : List ℕ) (at : ℕ) where
@@ -85,7 +85,7 @@ module _ (t : List ℕ) (at : ℕ) where
   broken-3 n r = broken n 3 r (omega arith)
 
   pub whole-2 : (r : Bool) (w x : ℕ) (s : Step) → 2 ≤ length t - at → r ≡ isContinuation (getD t (at + 1) 0) → not r ≡ false
-      → w ≡ getD t at 0 % 32 → x ≡ w * 64 + getD t (at + 1) 0 % 64 → s ≡ placed at (scalar 2 x)
+      → w ≡ getD t at 0 % 32 → x ≡ w * 64 + getD t (at + 1) 0 % 64 → s ≡ placed at (scalarOf 2 x)
       → s ≡ placed at (sequence 2 (getD t at 0) (drop (at + 1) t))
   unfolding sequence continued leadBits valueOf
   whole-2 r w x s h e n ew ex es = es ∙ rw (one-more 1 2 refl h, sym e ∙ not-false r n, ← ew, ← ex)
@@ -93,7 +93,7 @@ module _ (t : List ℕ) (at : ℕ) where
   pub whole-3 : (r₁ r₂ : Bool) (w x y : ℕ) (s : Step) → 3 ≤ length t - at
       → r₁ ≡ isContinuation (getD t (at + 1) 0) → not r₁ ≡ false → r₂ ≡ isContinuation (getD t (at + 2) 0) → not r₂ ≡ false
       → w ≡ getD t at 0 % 16 → x ≡ w * 64 + getD t (at + 1) 0 % 64 → y ≡ x * 64 + getD t (at + 2) 0 % 64
-      → s ≡ placed at (scalar 3 y) → s ≡ placed at (sequence 3 (getD t at 0) (drop (at + 1) t))
+      → s ≡ placed at (scalarOf 3 y) → s ≡ placed at (sequence 3 (getD t at 0) (drop (at + 1) t))
   unfolding sequence continued leadBits valueOf
   whole-3 r₁ r₂ w x y s h e₁ n₁ e₂ n₂ ew ex ey es =
       es
@@ -104,11 +104,21 @@ module _ (t : List ℕ) (at : ℕ) where
       → r₃ ≡ isContinuation (getD t (at + 3) 0) → not r₃ ≡ false
       → w ≡ getD t at 0 % 8 → x ≡ w * 64 + getD t (at + 1) 0 % 64 → y ≡ x * 64 + getD t (at + 2) 0 % 64
       → z ≡ y * 64 + getD t (at + 3) 0 % 64
-      → s ≡ placed at (scalar 4 z) → s ≡ placed at (sequence 4 (getD t at 0) (drop (at + 1) t))
+      → s ≡ placed at (scalarOf 4 z) → s ≡ placed at (sequence 4 (getD t at 0) (drop (at + 1) t))
   unfolding sequence continued leadBits valueOf
   whole-4 r₁ r₂ r₃ w x y z s h e₁ n₁ e₂ n₂ e₃ n₃ ew ex ey ez es =
       es
-      ∙ rw (one-more 1 2 refl (omega arith), one-more 2 3 refl (omega arith), one-more 3 4 refl h,
-      sym e₁ ∙ not-false r₁ n₁, sym e₂ ∙ not-false r₂ n₂, sym e₃ ∙ not-false r₃ n₃, ← ew, ← ex, ← ey, ← ez)
+      ∙ rw (
+        one-more 1 2 refl (omega arith),
+        one-more 2 3 refl (omega arith),
+        one-more 3 4 refl h,
+        sym e₁ ∙ not-false r₁ n₁,
+        sym e₂ ∙ not-false r₂ n₂,
+        sym e₃ ∙ not-false r₃ n₃,
+        ← ew,
+        ← ex,
+        ← ey,
+        ← ez,
+      )
 
 pub ruleset faults = (cut, broken-1, broken-2, broken-3, needs)

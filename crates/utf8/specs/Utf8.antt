@@ -35,8 +35,8 @@ valueOf x [] = x
 valueOf x (b ∷ l) = valueOf (x * 64 + b % 64) l
 
 -- the least value that a sequence of n bytes may have: all below it have a shorter one
-unfoldable pub least : ℕ → ℕ
-least n = getD (0 ∷ 0 ∷ 0x80 ∷ 0x800 ∷ 0x1_0000 ∷ []) n 0
+unfoldable pub leastValue : ℕ → ℕ
+leastValue n = getD (0 ∷ 0 ∷ 0x80 ∷ 0x800 ∷ 0x1_0000 ∷ []) n 0
 
 -- the code points that UTF-16 keeps for pairs, which UTF-8 leaves out
 unfoldable pub isSurrogate : ℕ → Bool
@@ -53,14 +53,14 @@ pub data Front : Type 0 where
   point : ℕ → ℕ → Front
 
 -- what a sequence of n bytes with the value x stands for
-unfoldable pub scalar : ℕ → ℕ → Front
-scalar n x = cond (isImproper (least n) x) fault (point x n)
+unfoldable pub scalarOf : ℕ → ℕ → Front
+scalarOf n x = cond (isImproper (leastValue n) x) fault (point x n)
 
 -- the sequence of n bytes that the lead byte a begins and rest goes on
 unfoldable pub sequence : ℕ → ℕ → List ℕ → Front
 sequence n a rest =
     cond (eqb n 0) fault
-    (cond (continued (n - 1) rest) (scalar n (valueOf (leadBits n a) (take (n - 1) rest))) fault)
+    (cond (continued (n - 1) rest) (scalarOf n (valueOf (leadBits n a) (take (n - 1) rest))) fault)
 
 unfoldable pub front : List ℕ → Front
 front [] = end

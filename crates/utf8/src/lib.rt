@@ -2,7 +2,7 @@
 ghost use mathlib.Core.Path.{_≡_};
 ghost use Prim.Native.Nat.{_+_, _*_, _%_, _^_, _<_};
 ghost use lib.ListN.{length, getD, drop};
-ghost use Rattle.utf8.specs.Utf8.{sequenceLength, isContinuation, isImproper, least as leastOf, scalar as scalarOf, sequence, placed, stepAt, wellformed};
+ghost use Rattle.utf8.specs.Utf8.{sequenceLength, isContinuation, isImproper, leastValue, scalarOf, sequence, placed, stepAt, wellformed};
 
 pub enum Step {
     // A code point, and the place behind its sequence.
@@ -54,8 +54,8 @@ fn is_improper(least: u32, x: u32) -> bool
 }
 
 // The least value that a sequence of n bytes may have.
-fn least(n: u32) -> u32
-    ensures { λ r. ⌜ r ≡ leastOf n ⌝ }
+fn least_value(n: u32) -> u32
+    ensures { λ r. ⌜ r ≡ leastValue n ⌝ }
 {
     match n {
         2 => 0x80,
@@ -74,7 +74,7 @@ fn wide(b: u8) -> u32
 
 // The bits x, and behind them the last six of b.
 fn with_six(x: u32, b: u8) -> u32
-    requires { ⌜ x < 67108864 ⌝ }
+    requires { ⌜ x < 2 ^ 26 ⌝ }
     ensures { λ r. ⌜ r ≡ x * 64 + b % 64 ⌝ }
 {
     x * 64 + (b % 64) as u32
@@ -85,7 +85,7 @@ fn scalar(n: u32, x: u32, at: usize) -> Step
     requires { ⌜ at + n < 2 ^ 64 ⌝ }
     ensures { λ r. ⌜ r ≡ placed at (scalarOf n x) ⌝ }
 {
-    if is_improper(least(n), x) {
+    if is_improper(least_value(n), x) {
         return Step::Malformed;
     }
     Step::Point(x, at + n as usize)
@@ -145,7 +145,11 @@ fn four(text: &[u8], at: usize) -> Step
     if !is_continuation(d) {
         return Step::Malformed;
     }
-    scalar(4, with_six(with_six(with_six(wide(text[at] % 8), b), c), d), at)
+    scalar(
+        4,
+        with_six(with_six(with_six(wide(text[at] % 8), b), c), d),
+        at,
+    )
 }
 
 // What stands at the place at of a text.

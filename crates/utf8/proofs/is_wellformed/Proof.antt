@@ -1,14 +1,12 @@
+-- `utf8::is_wellformed` meets its contract: the text is wellformed where what is left of it is.
 use Prim.Native.Nat.{_-_, _≤_}
 use mathlib.Core.Path.{_≡_}
+use borrow.Author.Needs.{needs}
 use lib.ListN.{length, drop}
 use Rattle.utf8.specs.Utf8.{wellformed}
 use Rattle.utf8.proofs.Wellformed.{wellformedLoop}
-use borrow.Author.Needs.{needs}
 use Rattle.utf8.proofs.is_wellformed.Statement.{statement}
 use Rattle.utf8.proofs.is_wellformed.Tie as tie
-use Rattle.utf8.proofs.is_wellformed.Reads as reads
-use Rattle.utf8.proofs.is_wellformed.Lts as lts
-use Rattle.utf8.proofs.next.Reads as next-reads
 
 abbrev Inv-loop : tie.InvT-loop
 Inv-loop text at₀ at = (at ≤ length text) × (wellformed text ≡ wellformed (drop at text))
@@ -16,39 +14,30 @@ Inv-loop text at₀ at = (at ≤ length text) × (wellformed text ≡ wellformed
 abbrev μ-loop : tie.MeasureT-loop
 μ-loop text at₀ at = length text - at
 
--- src/lib.rt:174:5
 loop-holds : tie.Need-loop-holds Inv-loop μ-loop
 loop-holds c = search needs
 
--- src/lib.rt:175:13
 next-requires : tie.Need-next-requires Inv-loop μ-loop
 next-requires c κs = search needs
 
--- src/lib.rt:177:28
 enum-known-s : tie.Need-enum-known-s Inv-loop μ-loop
 enum-known-s c = search needs
 
--- src/lib.rt:174:5
 loop-less : tie.Need-loop-less Inv-loop μ-loop
 loop-less c = search wellformedLoop
 
--- src/lib.rt:174:5
 loop-again : tie.Need-loop-again Inv-loop μ-loop
 loop-again c = search wellformedLoop
 
--- src/lib.rt:181:17
 enum-told : tie.Need-enum-told Inv-loop μ-loop
 enum-told c = search needs
 
--- src/lib.rt:181:17
 returns : tie.Need-returns Inv-loop μ-loop
 returns c = search wellformedLoop
 
--- src/lib.rt:184:17
 enum-told-2 : tie.Need-enum-told-2 Inv-loop μ-loop
 enum-told-2 c = search needs
 
--- src/lib.rt:184:17
 returns-2 : tie.Need-returns-2 Inv-loop μ-loop
 returns-2 c = search wellformedLoop
 

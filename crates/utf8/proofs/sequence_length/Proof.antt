@@ -3,8 +3,6 @@ use borrow.Author.Needs.{needs}
 use Rattle.utf8.proofs.Lead.{ones-0, ones-2, ones-3, ones-4, ones-other}
 use Rattle.utf8.proofs.sequence_length.Statement.{statement}
 use Rattle.utf8.proofs.sequence_length.Tie as tie
-use Rattle.utf8.proofs.sequence_length.Reads as reads
-use Rattle.utf8.proofs.sequence_length.Lts as lts
 
 returns : tie.Need-returns
 returns c = search (ones-0, needs)
