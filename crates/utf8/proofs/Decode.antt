@@ -2,7 +2,7 @@
 use Prim.Native.Nat.{ℕ, zero, suc, _+_, _-_, _≤_, _<_}
 use mathlib.Core.Bool.{Bool, true, false, cond, false≢true}
 use mathlib.Core.List.{List, [], _∷_}
-use mathlib.Core.Path.{_≡_, refl, sym, _∙_, ap, subst}
+use mathlib.Core.Path.{_≡_, refl, sym, _∙_, ap}
 use native.Mathlib.Omega.{arith}
 use lib.Dec.{eqb}
 use lib.ListN.{length, take, drop, length-drop}
@@ -34,6 +34,7 @@ front-point (a ∷ rest) x n e =
     let h = continued-long _ rest (s .1 .tail) in
     record { some = omega arith; within = omega arith; proper = s .1 .proper }
 
+-- decoding from the byte k on is decoding what is left from there
 decode-from : (t : List ℕ) (k : ℕ) → decodeFrom t k ≡ decode (drop k t)
 unfolding decode decodeFrom
 decode-from [] k = rw (drop-nil k)
@@ -47,45 +48,45 @@ decode-end (a ∷ rest) e = rw e
 
 pub decode-fault : (t : List ℕ) → front t ≡ fault → decode t ≡ malformed
 unfolding decode decodeFrom front
-decode-fault [] e = let z : _≡_ {A = ℕ} 0 1 = cc in absurd (omega arith)
+decode-fault [] e = cc
 decode-fault (a ∷ rest) e = rw e
 
 pub decode-point : (t : List ℕ) (x n : ℕ) → front t ≡ point x n → decode t ≡ cons x (decode (drop n t))
 unfolding decode decodeFrom front
-decode-point [] x n e = let z : _≡_ {A = ℕ} 0 1 = cc in absurd (omega arith)
+decode-point [] x n e = cc
 decode-point (a ∷ rest) x zero e = let h = front-point (a ∷ rest) x zero e .some in absurd (omega arith)
 decode-point (a ∷ rest) x (suc k) e = rw e (ap (cons x) (ap (decodeFrom rest) (less k) ∙ decode-from rest k))
   where
     less : (k : ℕ) → suc k - 1 ≡ k
     less k = omega arith
 
-sequence-some : (n a : ℕ) (rest : List ℕ) → sequence n a rest ≡ end → ⊥
-unfolding sequence scalarOf
-sequence-some n a rest = go x (eqb n 0) (continued (n - 1) rest) (isImproper (leastValue n) x)
+pub front-end : (t : List ℕ) → front t ≡ end → t ≡ []
+unfolding front sequence scalarOf
+front-end [] e = refl
+front-end (a ∷ rest) e = go (eqb n 0) (continued (n - 1) rest) (isImproper (leastValue n) x) e
   where
+    n : ℕ
+    n = sequenceLength a
+
     x : ℕ
     x = valueOf (leadBits n a) (take (n - 1) rest)
 
-    go : (x : ℕ) (p q r : Bool) → cond p fault (cond q (cond r fault (point x n)) fault) ≡ end → ⊥
-    go x true q r e = let z : _≡_ {A = ℕ} 0 1 = cc in omega arith
-    go x false false r e = let z : _≡_ {A = ℕ} 0 1 = cc in omega arith
-    go x false true true e = let z : _≡_ {A = ℕ} 0 1 = cc in omega arith
-    go x false true false e = let z : _≡_ {A = ℕ} 0 1 = cc in omega arith
+    go : (p q r : Bool) → cond p fault (cond q (cond r fault (point x n)) fault) ≡ end → a ∷ rest ≡ []
+    go true q r e = cc
+    go false false r e = cc
+    go false true true e = cc
+    go false true false e = cc
 
-pub front-end : (t : List ℕ) → front t ≡ end → t ≡ []
-unfolding front
-front-end [] e = refl
-front-end (a ∷ rest) e = absurd (sequence-some (sequenceLength a) a rest e)
-
+-- the answers of `next`, back to what stands at the place
 placed-end : (at : ℕ) (f : Front) → End ≡ placed at f → f ≡ end
 placed-end at end e = refl
-placed-end at fault e = let z : _≡_ {A = ℕ} 0 1 = cc in absurd (omega arith)
-placed-end at (point x n) e = let z : _≡_ {A = ℕ} 0 1 = cc in absurd (omega arith)
+placed-end at fault e = cc
+placed-end at (point x n) e = cc
 
 placed-fault : (at : ℕ) (f : Front) → Malformed ≡ placed at f → f ≡ fault
-placed-fault at end e = let z : _≡_ {A = ℕ} 0 1 = cc in absurd (omega arith)
+placed-fault at end e = cc
 placed-fault at fault e = refl
-placed-fault at (point x n) e = let z : _≡_ {A = ℕ} 0 1 = cc in absurd (omega arith)
+placed-fault at (point x n) e = cc
 
 placed-point : (at x to : ℕ) (f : Front) → Point x to ≡ placed at f → (n : ℕ) × (f ≡ point x n) × (to ≡ at + n)
 placed-point at x to end e = let z : _≡_ {A = ℕ} 0 1 = cc in absurd (omega arith)
@@ -118,17 +119,21 @@ module _ (t : List ℕ) (at : ℕ) (s : Step) (told : s ≡ stepAt t at) where
     fact = front-point (drop at t) x _ (found .1)
 
     pub point-decode : decode (drop at t) ≡ cons x (decode (drop to t))
-    point-decode = decode-point (drop at t) x _ (found .1) ∙ ap (λ l. cons x (decode l)) (drop-drop (found .0) at t ∙ ap (λ k. drop k t) (sym (found .2)))
+    point-decode =
+        decode-point (drop at t) x _ (found .1)
+        ∙ ap (λ l. cons x (decode l)) (drop-drop (found .0) at t ∙ ap (λ k. drop k t) (sym (found .2)))
 
     pub point-later : at < to
-    point-later = let h = fact .some in let k = found .2 in omega arith
+    point-later = omega (arith, fact .some, found .2)
 
     pub point-within : to ≤ length t
-    point-within = let h : found .0 ≤ length t - at = subst (λ k. found .0 ≤ k) (length-drop at t) (fact .within) in let h' = fact .some in let k = found .2 in omega arith
+    point-within =
+        let h : found .0 ≤ length t - at = rw length-drop at (fact .within) in
+        omega (arith, fact .some, found .2)
 
     -- the measure of a loop over the text
     pub point-less : length t - to < length t - at
-    point-less = let h = point-later in let k = point-within in omega arith
+    point-less = omega (arith, point-later, point-within)
 
     pub point-scalar : Scalar x
     point-scalar = fact .proper

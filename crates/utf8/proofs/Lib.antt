@@ -6,3 +6,4 @@ pub mod Point
 pub mod Decode
 pub mod Wellformed
 pub mod Encode
+pub mod Exact

@@ -19,7 +19,7 @@ pub record Stands (n a : ℕ) (rest : List ℕ) (x : ℕ) : Type 0 where
   pub long : leastValue n ≤ x
   pub proper : Scalar x
 
--- one of the two that are not both true
+-- a value that is not improper
 proper-of : (low x : ℕ) → isImproper low x ≡ false → (low ≤ x) × Scalar x
 unfolding isImproper
 proper-of low x e =

@@ -14,27 +14,25 @@ use Rattle.utf8.specs.Utf8.{isContinuation, fault, continued, leadBits, 
 use Rattle.utf8.specs.declared.Step.{Step}
 use Rattle.utf8.specs.declared.Step.the-variants.{Point, Malformed}
 
+and-false : (a b : Bool) → b ≡ false → (a && b) ≡ false
+and-false true b e = e
+and-false false b e = refl
+
+-- continuation bytes that are not all there, and another byte among them
 continued-cut : (k : ℕ) (l : List ℕ) → length l < k → continued k l ≡ false
 unfolding continued
 continued-cut zero l h = absurd (omega arith)
 continued-cut (suc k) [] h = refl
-continued-cut (suc k) (b ∷ l) h = go (isContinuation b) (continued-cut k l (omega arith))
-  where
-    go : (v : Bool) → continued k l ≡ false → (v && continued k l) ≡ false
-    go true e = e
-    go false e = refl
+continued-cut (suc k) (b ∷ l) h = and-false (isContinuation b) _ (continued-cut k l (omega arith))
 
 continued-broken : (k i : ℕ) (l : List ℕ) → i < k → isContinuation (getD l i 0) ≡ false → continued k l ≡ false
 unfolding continued
 continued-broken zero i l h e = absurd (omega arith)
 continued-broken (suc k) i [] h e = refl
 continued-broken (suc k) zero (b ∷ l) h e = rw e
-continued-broken (suc k) (suc i) (b ∷ l) h e = go (isContinuation b) (continued-broken k i l (omega arith) e)
-  where
-    go : (v : Bool) → continued k l ≡ false → (v && continued k l) ≡ false
-    go true e = e
-    go false e = refl
+continued-broken (suc k) (suc i) (b ∷ l) h e = and-false (isContinuation b) _ (continued-broken k i l (omega arith) e)
 
+-- either fault is one of the sequence
 faulty : (n a : ℕ) (rest : List ℕ) → continued (n - 1) rest ≡ false → sequence n a rest ≡ fault
 unfolding sequence
 faulty n a rest e = rw e (either (eqb n 0))
@@ -43,6 +41,7 @@ faulty n a rest e = rw e (either (eqb n 0))
     either true = refl
     either false = refl
 
+-- a value that was tested against the least one of its length
 module _ (at n x m : ℕ) (s : Bool) (is-least : m ≡ leastValue n) (told : s ≡ isImproper m x) where
   pub scalar-bad : s ≡ true → Malformed ≡ placed at (scalarOf n x)
   unfolding scalarOf
@@ -84,6 +83,7 @@ module _ (t : List ℕ) (at : ℕ) where
       → Malformed ≡ placed at (sequence n (getD t at 0) (drop (at + 1) t))
   broken-3 n r = broken n 3 r (omega arith)
 
+  -- a sequence whose bytes are all as they have to be
   pub whole-2 : (r : Bool) (w x : ℕ) (s : Step) → 2 ≤ length t - at → r ≡ isContinuation (getD t (at + 1) 0) → not r ≡ false
       → w ≡ getD t at 0 % 32 → x ≡ w * 64 + getD t (at + 1) 0 % 64 → s ≡ placed at (scalarOf 2 x)
       → s ≡ placed at (sequence 2 (getD t at 0) (drop (at + 1) t))
@@ -121,4 +121,5 @@ module _ (t : List ℕ) (at : ℕ) where
         ← ez,
       )
 
+-- for a return before the value is known
 pub ruleset faults = (cut, broken-1, broken-2, broken-3, needs)

@@ -76,7 +76,7 @@ abbrev pub cons : ℕ → Decoded → Decoded
 cons x malformed = malformed
 cons x (points ps) = points (x ∷ ps)
 
--- what a text is by what stands at its front, where more k is what it is from the byte k behind the first one on
+-- the code points of a text by what stands at its front, where more k are those from the byte k behind the first one on
 abbrev pub follow : Front → (ℕ → Decoded) → Decoded
 follow end more = points []
 follow fault more = malformed
