@@ -12,6 +12,7 @@ use Rattle.utf8.specs.Utf8.{sequenceLength, continued, leadBits, valueOf
 use Rattle.utf8.specs.declared.Step.{Step}
 use Rattle.utf8.specs.declared.Step.the-variants.{Point, End, Malformed}
 
+-- no sequence has more than four bytes
 few : {a n : ℕ} → Lead a n → n ≤ 4
 few none = lit≤ tt
 few (one h) = lit≤ tt
@@ -27,7 +28,7 @@ low (two h k) e = absurd (omega arith)
 low (three h k) e = absurd (omega arith)
 low (four h k) e = absurd (omega arith)
 
--- and stands for itself
+-- such a byte stands for itself
 pub sequence-one : (a : ℕ) (rest : List ℕ) → a < 128 → sequence 1 a rest ≡ point a 1
 unfolding sequence continued leadBits valueOf scalarOf leastValue isImproper isSurrogate
 sequence-one a rest h = rw (le-ltb a 0 (omega arith), le-ltb 1114111 a (omega arith), lt-leb 55296 a (omega arith))

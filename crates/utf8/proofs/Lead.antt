@@ -1,4 +1,4 @@
--- The ones at the top of a lead byte, as the leading zeros of the inverted byte, give the length of a sequence.
+-- Lead bytes: the ones at the top, as the leading zeros of the inverted byte, give the length of a sequence.
 use Prim.Native.Nat.{ℕ, zero, suc, _+_, _-_, _*_, _^_, _≤_, _<_}
 use mathlib.Core.Bool.{Bool, true, false, cond}
 use mathlib.Core.Logic.{⊎-elim}
@@ -64,6 +64,7 @@ module _ (b : ℕ) (small : b < 256) where
       one-one (omega arith) (omega arith))
       (test (leb (r .0) 3))
 
+-- lengths whose least value is 0
 pub least-other : (n : ℕ) → (n ≡ 2 → ⊥) → (n ≡ 3 → ⊥) → (n ≡ 4 → ⊥) → 0 ≡ leastValue n
 unfolding leastValue
 least-other zero h k l = refl
