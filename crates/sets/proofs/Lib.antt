@@ -1,0 +1,8 @@
+-- The laws of sets of states.
+pub mod Sets
+pub mod Tables
+pub mod Members
+pub mod Bits
+pub mod BitSet
+pub mod Stores
+pub mod Steps
