@@ -14,6 +14,14 @@ use Rattle.sets.specs.BitSet.{bit, inWords, setAt, entries}
 use Rattle.sets.proofs.Sets.{pick-ext, pick-out, picked, has-pick, pick-canon, wide, has-past}
 use Rattle.sets.proofs.Bits.{word-ext, bit-nothing}
 
+-- the places of a set's words
+pub four : (P : ℕ → Type 0) → P 0 → P 1 → P 2 → P 3 → (i : ℕ) → i < 4 → P i
+four P a b c d zero h = a
+four P a b c d (suc zero) h = b
+four P a b c d (suc (suc zero)) h = c
+four P a b c d (suc (suc (suc zero))) h = d
+four P a b c d (suc (suc (suc (suc i)))) h = absurd (omega arith)
+
 -- membership by bits
 pub in-has : (t : List ℕ) (o q : ℕ) → q < 256 → inWords t o q ≡ has q (setAt t o)
 unfolding setAt

@@ -6,3 +6,4 @@ pub mod Bits
 pub mod BitSet
 pub mod Stores
 pub mod Steps
+pub mod Scan

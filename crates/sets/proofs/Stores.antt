@@ -19,14 +19,7 @@ use Rattle.sets.specs.Sets.{Set, has, pick}
 use Rattle.sets.specs.BitSet.{bit, inWords, setAt, entries}
 use Rattle.sets.specs.Words.{putWords, insertAt, unionAt, putAt, clearAt}
 use Rattle.sets.proofs.Bits.{bit-or, bit-pow}
-use Rattle.sets.proofs.BitSet.{in-has, bits-at, words-same, zeros-at, entry-at, length-entries}
-
-four : (P : ℕ → Type 0) → P 0 → P 1 → P 2 → P 3 → (i : ℕ) → i < 4 → P i
-four P a b c d zero h = a
-four P a b c d (suc zero) h = b
-four P a b c d (suc (suc zero)) h = c
-four P a b c d (suc (suc (suc zero))) h = d
-four P a b c d (suc (suc (suc (suc i)))) h = absurd (omega arith)
+use Rattle.sets.proofs.BitSet.{four, in-has, bits-at, words-same, zeros-at, entry-at, length-entries}
 
 apart : (j p : ℕ) → j ≢ p → (4 * j + 4 ≤ 4 * p) ⊎ (4 * p + 4 ≤ 4 * j)
 apart j p h =

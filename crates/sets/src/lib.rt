@@ -117,7 +117,7 @@ pub fn same(t: &[u64], j: usize, s: &[u64]) -> bool
 
 // The place of the lowest one of a word that is not 0.
 fn lowest(w: u64) -> usize
-    ensures { λ r. ⌜ r ≡ trailingZeros 64 w ⌝ }
+    ensures { λ r. ⌜ (r ≡ trailingZeros 64 w) × (r ≤ 64) ⌝ }
 {
     u64::trailing_zeros(w) as usize
 }
@@ -140,7 +140,7 @@ fn first_in(s: &[u64], i: usize) -> usize
 
 // The least member of the set s from q on, or 256.
 pub fn next_member(s: &[u64], q: usize) -> usize
-    requires { ⌜ (4 ≤ length (now s)) × (q ≤ 256) ⌝ }
+    requires { ⌜ 4 ≤ length (now s) ⌝ }
     ensures { λ r. ⌜ r ≡ nextMember (setAt (now (s .entry)) 0) q ⌝ }
 {
     if 256 <= q {
