@@ -8,6 +8,9 @@ ghost use Rattle.sets.specs.Sets.{has, isEmpty, same, nextMember};
 ghost use Rattle.sets.specs.BitSet.{setAt};
 ghost use Rattle.sets.specs.Words.{putWords, insertAt, unionAt, putAt, clearAt};
 
+pub mod closure;
+pub mod lookup;
+
 // Whether row p has q.
 pub fn has(t: &[u64], p: usize, q: usize) -> bool
     requires { ⌜ (4 * p + 4 ≤ length (now t)) × (q < 256) ⌝ }
@@ -100,7 +103,7 @@ pub fn is_empty(s: &[u64]) -> bool
 // Whether row j of t is the set s.
 pub fn same(t: &[u64], j: usize, s: &[u64]) -> bool
     requires { ⌜ (4 * j + 4 ≤ length (now t)) × (4 ≤ length (now s)) ⌝ }
-    ensures { λ r. ⌜ r ≡ same (setAt (now (t .entry)) (4 * j)) (setAt (now (s .entry)) 0) ⌝ }
+    ensures { λ r. ⌜ r ≡ same (setAt (now (s .entry)) 0) (setAt (now (t .entry)) (4 * j)) ⌝ }
 {
     let o = 4 * j;
     if t[o] != s[0] {
