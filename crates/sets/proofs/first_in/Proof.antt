@@ -1,0 +1,21 @@
+-- `first_in` meets its contract: no member stands in the words passed.
+use Prim.Native.Nat.{_*_, _-_, _≤_}
+use mathlib.Core.Path.{_≡_}
+use Rattle.sets.specs.Sets.{nextMember}
+use Rattle.sets.specs.BitSet.{setAt}
+use Rattle.sets.proofs.Scan.{scan}
+use Rattle.sets.proofs.first_in.Statement.{statement}
+use Rattle.sets.proofs.first_in.Tie as tie
+
+abbrev Inv-loop : tie.InvT-loop
+Inv-loop s i j₀ j = (j ≤ 4) × (nextMember (setAt s 0) (64 * j) ≡ nextMember (setAt s 0) (64 * i))
+
+abbrev μ-loop : tie.MeasureT-loop
+μ-loop s i j₀ j = 4 - j
+
+pub first-in-spec : {M : Type 1} → statement M
+first-in-spec =
+    tie.close
+    (tie.spec Inv-loop μ-loop (λ c. search scan) (λ c. search scan) (λ c. search scan) (λ c. search scan)
+    (λ c κs. search scan) (λ c. search scan) (λ c. search scan) (λ c. search scan) (λ c. search scan)
+    (λ c. search scan) (λ c. search scan))
