@@ -1,0 +1,98 @@
+-- The laws by which a step is proved: gathering record by record, and member by member.
+use Prim.Native.Nat.{ℕ, zero, suc, _+_, _-_, _*_, _≤_, _<_}
+use mathlib.Core.Bool.{Bool, true, false, cond, _&&_, _||_}
+use mathlib.Core.List.{List, [], _∷_, List·Memᴰ·head, List·Memᴰ·tail}
+use mathlib.Core.Logic.{_⊎_, inl, inr, ⊎-elim}
+use mathlib.Core.Path.{_≡_, refl, sym, _∙_, ap, subst}
+use native.Mathlib.Omega.{arith}
+use borrow.Author.Needs.{needs}
+use borrow.Author.Tests.{eq-eqb, eqb-true, lt-leb, le-leb, ne-eqb}
+use lib.Dec.{eqb, leb}
+use lib.ListN.{length, getD, take, drop}
+use Rattle.lists.specs.Lists.{_∈_, any, keep}
+use Rattle.lists.proofs.Lists.{any-in, any-out, any-ext, keep-in, keep-out, drop-mem}
+use Rattle.lists.proofs.Tests.{true-same, and-both, and-parts}
+use Rattle.automata.specs.Automaton.{Transition, Automaton, InBounds, holds, leaving}
+use Rattle.automata.specs.Records.{readRecords, recordAt}
+use Rattle.automata.proofs.Records.{records-at, records-end, part-record}
+use Rattle.sets.specs.Sets.{Set, has, pick}
+use Rattle.sets.specs.BitSet.{setAt}
+use Rattle.sets.specs.Words.{unionAt}
+use Rattle.sets.proofs.Sets.{picked, pick-out, has-pick, pick-ext, mem-has, has-mem}
+use Rattle.sets.proofs.BitSet.{at-canon}
+use Rattle.sets.proofs.Stores.{unioned}
+use Rattle.words.specs.Simulation.{closure, outgoing, step}
+use Rattle.words.specs.Gather.{takes, reaches, gathered, Targets}
+
+or-assoc : (a b c : Bool) → (a || (b || c)) ≡ ((a || b) || c)
+or-assoc true b c = refl
+or-assoc false b c = refl
+
+or-none : (a : Bool) → (a || false) ≡ a
+or-none true = refl
+or-none false = refl
+
+module _ (c : List ℕ) (a : ℕ) where
+  pub gather-none : (t : List ℕ) → gathered t c a [] ≡ setAt t 0
+  unfolding gathered any
+  gather-none t = pick-ext 0 256 _ _ (λ r l. or-none (has r (setAt t 0))) ∙ at-canon t 0
+
+  -- gathering the first transition and then the others
+  pub gather-cons : (t u : List ℕ) (e : Transition) (es : List Transition) → setAt u 0 ≡ gathered t c a (e ∷ []) → gathered t c a (e ∷ es) ≡ gathered u c a es
+  unfolding gathered any
+  gather-cons t u e es h =
+      pick-ext 0 256 _ _
+      (λ r l.
+      let x : Bool = takes a e && has r (setAt c (4 * e .to)) in
+      let y : Bool = any (λ e. takes a e && has r (setAt c (4 * e .to))) es in
+      let m : has r (setAt u 0) ≡ (has r (setAt t 0) || (x || false)) = ap (has r) h ∙ has-pick 256 _ r (omega arith) in
+      or-assoc (has r (setAt t 0)) x y ∙ ap (λ z. z || y) (ap (λ z. has r (setAt t 0) || z) (sym (or-none x)) ∙ sym m))
+
+  pub gather-skip : (t : List ℕ) (e : Transition) → takes a e ≡ false → setAt t 0 ≡ gathered t c a (e ∷ [])
+  unfolding gathered any
+  gather-skip t e h = sym (pick-ext 0 256 _ _ (λ r l. rw h (or-none (has r (setAt t 0)))) ∙ at-canon t 0)
+
+  pub gather-take : (t : List ℕ) (e : Transition) → takes a e ≡ true → 4 ≤ length t → setAt (unionAt t 0 c (4 * e .to)) 0 ≡ gathered t c a (e ∷ [])
+  unfolding gathered any
+  gather-take t e h l = unioned t 0 c (4 * e .to) l ∙ pick-ext 0 256 _ _ (λ r l. rw h (ap (λ x. has r (setAt t 0) || x) (sym (or-none _))))
+
+-- a record that the code tests
+module _ (t c : List ℕ) (a : ℕ) (r : List ℕ) where
+  pub record-epsilon : (getD r 1 0 ≡ 1 → ⊥) → setAt t 0 ≡ gathered t c a (recordAt r 0 ∷ [])
+  unfolding takes
+  record-epsilon h = gather-skip c a t (recordAt r 0) (rw (ne-eqb (getD r 1 0) 1 h))
+
+  pub record-below : getD r 1 0 ≡ 1 → a < getD r 2 0 → setAt t 0 ≡ gathered t c a (recordAt r 0 ∷ [])
+  unfolding takes holds
+  record-below k h = gather-skip c a t (recordAt r 0) (rw (eq-eqb (getD r 1 0) 1 k, lt-leb (getD r 2 0) a h))
+
+  pub record-above : getD r 1 0 ≡ 1 → getD r 2 0 ≤ a → getD r 3 0 < a → setAt t 0 ≡ gathered t c a (recordAt r 0 ∷ [])
+  unfolding takes holds
+  record-above k l h = gather-skip c a t (recordAt r 0) (rw (eq-eqb (getD r 1 0) 1 k, le-leb (getD r 2 0) a l, lt-leb a (getD r 3 0) h))
+
+  pub record-taken : (u : List ℕ) → 4 ≤ length t → getD r 1 0 ≡ 1 → getD r 2 0 ≤ a → a ≤ getD r 3 0 → u ≡ unionAt t 0 c (4 * getD r 4 0) → setAt u 0 ≡ gathered t c a (recordAt r 0 ∷ [])
+  unfolding takes holds
+  record-taken u n k l h e = ap (λ x. setAt x 0) e ∙ gather-take c a t (recordAt r 0) (rw (eq-eqb (getD r 1 0) 1 k, le-leb (getD r 2 0) a l, le-leb a (getD r 3 0) h)) n
+
+pub ruleset recordLaws = (record-epsilon, record-below, record-above, record-taken, needs)
+
+-- the run of a state, from the record at a place on
+module _ (old c : List ℕ) (a : ℕ) (run : List ℕ) (t : List ℕ) (at : ℕ) (e : gathered t c a (readRecords (drop at run)) ≡ gathered old c a (readRecords run)) where
+  pub run-ended : length run - at < 5 → setAt t 0 ≡ gathered old c a (readRecords run)
+  run-ended h = sym (gather-none c a t) ∙ ap (gathered t c a) (sym (records-end run at h)) ∙ e
+
+  pub run-next : 5 ≤ length run - at → (u : List ℕ) → setAt u 0 ≡ gathered t c a (recordAt (take (at + 5 - at) (drop at run)) 0 ∷ []) → gathered u c a (readRecords (drop (at + 5) run)) ≡ gathered old c a (readRecords run)
+  run-next h u k = sym (gather-cons c a t u (recordAt run at) (readRecords (drop (at + 5) run)) (k ∙ ap (λ x. gathered t c a (x ∷ [])) (part-record run at))) ∙ ap (gathered t c a) (sym (records-at run at h)) ∙ e
+
+pub run-begins : (t c : List ℕ) (a : ℕ) (run : List ℕ) → gathered t c a (readRecords (drop 0 run)) ≡ gathered t c a (readRecords run)
+run-begins t c a run = refl
+
+-- the targets of the records from a place on
+module _ (run c : List ℕ) (at : ℕ) (t : Targets (readRecords (drop at run)) c) (h : 5 ≤ length run - at) where
+  pub target-here : 4 * recordAt (take (at + 5 - at) (drop at run)) 0 .to + 4 ≤ length c
+  target-here = subst (λ (e : Transition). 4 * e .to + 4 ≤ length c) (sym (part-record run at)) (t .inside (recordAt run at) (rw (records-at run at h) (List·Memᴰ·head refl)))
+
+  pub target-next : Targets (readRecords (drop (at + 5) run)) c
+  target-next = record { inside = λ e m. t .inside e (rw (records-at run at h) (List·Memᴰ·tail m)) }
+
+pub ruleset runLaws = (run-begins, run-ended, run-next, target-here, target-next, needs)

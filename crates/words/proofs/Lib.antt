@@ -1,0 +1,6 @@
+-- The laws of closures, steps and acceptance.
+pub mod Kind
+pub mod Closures
+pub mod Simulation
+pub mod Gather
+pub mod Stepping

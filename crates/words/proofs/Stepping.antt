@@ -1,0 +1,149 @@
+-- A step, member by member: the laws by which `step` is proved.
+use Prim.Native.Nat.{ℕ, zero, suc, _+_, _-_, _*_, _≤_, _<_}
+use mathlib.Core.Bool.{Bool, true, false, cond, _&&_, _||_, false≢true}
+use mathlib.Core.List.{List, [], _∷_}
+use mathlib.Core.Logic.{_⊎_, inl, inr, ⊎-elim}
+use mathlib.Core.Path.{_≡_, refl, sym, _∙_, ap, subst}
+use native.Mathlib.Omega.{arith}
+use borrow.Author.Needs.{needs}
+use borrow.Author.Tests.{eq-eqb, eqb-true}
+use lib.Dec.{eqb, leb}
+use lib.ListN.{length, getD}
+use Rattle.lists.specs.Lists.{_∈_, any, keep}
+use Rattle.lists.proofs.Lists.{any-in, any-out, any-ext, keep-in, keep-out}
+use Rattle.lists.proofs.Tests.{test, true-same, and-both, and-parts}
+use Rattle.automata.specs.Automaton.{Transition, Automaton, InBounds, holds, leaving}
+use Rattle.automata.specs.Records.{readRecords, writeRecords}
+use Rattle.automata.proofs.Records.{read-write}
+use Rattle.sets.specs.Sets.{Set, has, pick, Canon, membersFrom, nextMember}
+use Rattle.sets.specs.BitSet.{setAt}
+use Rattle.sets.specs.Words.{clearAt}
+use Rattle.sets.proofs.Sets.{has-pick, pick-ext, pick-canon, mem-has, has-mem, has-nil, has-below, wide}
+use Rattle.sets.proofs.BitSet.{at-canon, entry-at}
+use Rattle.sets.proofs.Stores.{cleared}
+use Rattle.sets.proofs.Members.{visit-start, visit-here, visit-has, visit-next, from-end, next-above}
+use Rattle.sheets.specs.Accepted.{Accepted}
+use Rattle.sheets.specs.Runs.{Indexed, RunAt}
+use Rattle.sheets.specs.Sheet.{stateCount, read}
+use Rattle.sheets.proofs.Meaning.{read-well}
+use Rattle.sheets.proofs.Runs.{run-at}
+use Rattle.words.specs.Simulation.{closures, closure, outgoing, step}
+use Rattle.words.specs.Gather.{takes, reaches, gathered, Targets, Tables, withReached}
+use Rattle.words.proofs.Closures.{closure-sound, run-bound}
+
+or-assoc : (a b c : Bool) → (a || (b || c)) ≡ ((a || b) || c)
+or-assoc true b c = refl
+or-assoc false b c = refl
+
+or-none : (a : Bool) → (a || false) ≡ a
+or-none true = refl
+or-none false = refl
+
+-- a step, member by member
+module _ (A : Automaton) (ok : InBounds A) (a : ℕ) where
+  step-reaches : (S : Set) (r : ℕ) → r < A .size → has r (step A S a) ≡ any (reaches A a r) S
+  unfolding step outgoing reaches takes leaving
+  step-reaches S r l =
+      has-pick (A .size) _ r l
+      ∙ true-same _ _
+      (λ h.
+      let x = any-out _ _ h in
+      let e = x .0 in
+      let k = keep-out _ e (A .transitions) (x .1) in
+      let v = and-parts (eqb (e .kind) 1) _ (k .1) in
+      let w = and-parts (holds a e) _ (x .2) in
+      any-in _ (has-mem (e .from) S (v .1)) (any-in _ (keep-in _ (k .0) (eq-eqb (e .from) (e .from) refl)) (and-both _ _ (and-both _ _ (v .0) (w .0)) (w .1))))
+      (λ h.
+      let x = any-out _ S h in
+      let p = x .0 in
+      let y = any-out _ _ (x .2) in
+      let e = y .0 in
+      let k = keep-out _ e (A .transitions) (y .1) in
+      let f : e .from ≡ p = eqb-true _ _ (k .1) in
+      let v = and-parts (eqb (e .kind) 1 && holds a e) _ (y .2) in
+      let w = and-parts (eqb (e .kind) 1) _ (v .0) in
+      any-in _ (keep-in _ (k .0) (and-both _ _ (w .0) (rw f (mem-has (x .1))))) (and-both _ _ (w .1) (v .1)))
+
+  pub step-canon : (S : Set) → Canon (A .size) (step A S a)
+  unfolding step
+  step-canon S = pick-canon (A .size) _
+
+  -- nothing outside the states is reached
+  reaches-in : (r p : ℕ) → reaches A a r p ≡ true → r < A .size
+  unfolding reaches leaving
+  reaches-in r p h =
+      let x = any-out _ _ h in
+      let e = x .0 in
+      let t = ok .tos e (keep-out _ e (A .transitions) (x .1) .0) in
+      run-bound A ok t (closure-sound A ok (e .to) r t (and-parts (takes a e) _ (x .2) .1))
+
+  step-wide : (S : Set) → A .size ≤ 256 → pick 256 (λ r. any (reaches A a r) S) ≡ step A S a
+  step-wide S l =
+      wide 0 (A .size) 256 _ l
+      (λ r g.
+      ⊎-elim (λ (t : any (reaches A a r) S ≡ true). let x = any-out _ S t in let b = reaches-in r (x .0) (x .2) in absurd (omega arith)) (λ t. t)
+      (test (any (reaches A a r) S)))
+      ∙ pick-ext 0 (A .size) _ _ (λ r g. sym (step-reaches S r (omega arith)))
+      ∙ step-canon S
+
+module _ (s starts c : List ℕ) (t : Tables s starts c) (a : ℕ) where
+  row : (p : ℕ) → p < stateCount s → setAt c (4 * p) ≡ closure (read s) p
+  unfolding closure
+  row p l = sym (entry-at c (stateCount s) p l) ∙ ap (λ R. getD R p []) (t .closed)
+
+  ok : InBounds (read s)
+  ok = read-well s (t .accepted) .states
+
+  -- the run of q has its targets in the table
+  pub step-targets : (q : ℕ) (run : List ℕ) → run ≡ writeRecords (leaving (read s) q) → Targets (readRecords run) c
+  unfolding leaving
+  step-targets q run e =
+      record {
+        inside = λ d m.
+            let i = ok .tos d (keep-out _ d (read s .transitions) (rw (e, read-write) at m) .0) in
+            omega (arith, t .long, t .accepted .few-states, i) }
+
+  -- gathering the run of q adds what q reaches
+  step-gather : (q : ℕ) (old u run : List ℕ) (R : Set) → run ≡ writeRecords (leaving (read s) q) → setAt u 0 ≡ gathered old c a (readRecords run)
+      → withReached (read s) a u R ≡ withReached (read s) a old (q ∷ R)
+  unfolding withReached gathered reaches any leaving
+  step-gather q old u run R e h =
+      pick-ext 0 256 _ _
+      (λ r l.
+      let x : Bool = any (λ d. takes a d && has r (setAt c (4 * d .to))) (leaving (read s) q) in
+      let z : Bool = any (reaches (read s) a r) R in
+      let m : has r (setAt u 0) ≡ (has r (setAt old 0) || x) = ap (has r) (h ∙ ap (gathered old c a) (ap readRecords e ∙ read-write (leaving (read s) q))) ∙ has-pick 256 _ r (omega arith) in
+      let y : x ≡ reaches (read s) a r q = any-ext _ _ (leaving (read s) q) (λ d i. ap (λ T. takes a d && has r T) (row (d .to) (ok .tos d (keep-out _ d (read s .transitions) i .0)))) in
+      ap (λ b. b || z) (m ∙ ap (λ b. has r (setAt old 0) || b) y) ∙ sym (or-assoc (has r (setAt old 0)) (reaches (read s) a r q) z))
+
+  module _ (cur : List ℕ) where
+    -- the run of a member
+    pub step-run : (q : ℕ) → Canon (stateCount s) (setAt cur 0) → q ≡ nextMember (setAt cur 0) q → q < 256 → RunAt s starts q
+    step-run q n h l = run-at s (t .accepted) starts q (t .indexed) (has-below (stateCount s) (setAt cur 0) n q (visit-has (setAt cur 0) (at-canon cur 0) q h l))
+
+    pub step-begins : (u v : List ℕ) (q : ℕ) → u ≡ clearAt v 0 → 4 ≤ length v → q ≡ nextMember (setAt cur 0) 0 → withReached (read s) a u (membersFrom q (setAt cur 0)) ≡ step (read s) (setAt cur 0) a
+    unfolding withReached
+    step-begins u v q e l h =
+        ap (λ R. withReached (read s) a u R) (visit-start (setAt cur 0) (at-canon cur 0) q h)
+        ∙ pick-ext 0 256 _ _ (λ r g. ap (λ b. b || any (reaches (read s) a r) (setAt cur 0)) (ap (has r) (ap (λ x. setAt x 0) e ∙ cleared v 0 l) ∙ has-nil r))
+        ∙ step-wide (read s) ok a (setAt cur 0) (t .accepted .few-states)
+
+    pub step-next : (q x : ℕ) (old u run : List ℕ) → withReached (read s) a old (membersFrom q (setAt cur 0)) ≡ step (read s) (setAt cur 0) a → q ≡ nextMember (setAt cur 0) q → q < 256
+        → x ≡ nextMember (setAt cur 0) (q + 1) → run ≡ writeRecords (leaving (read s) q) → setAt u 0 ≡ gathered old c a (readRecords run)
+        → withReached (read s) a u (membersFrom x (setAt cur 0)) ≡ step (read s) (setAt cur 0) a
+    step-next q x old u run i h l k e g =
+        step-gather q old u run (membersFrom x (setAt cur 0)) e g ∙ ap (withReached (read s) a old) (sym (visit-next (setAt cur 0) (at-canon cur 0) q x h l k)) ∙ i
+
+    pub step-ended : (q : ℕ) (u : List ℕ) → withReached (read s) a u (membersFrom q (setAt cur 0)) ≡ step (read s) (setAt cur 0) a → 256 ≤ q → setAt u 0 ≡ step (read s) (setAt cur 0) a
+    unfolding withReached any
+    step-ended q u i l =
+        sym (pick-ext 0 256 _ _ (λ r l. or-none (has r (setAt u 0))) ∙ at-canon u 0) ∙ ap (withReached (read s) a u) (sym (from-end (setAt cur 0) (at-canon cur 0) q l)) ∙ i
+
+-- a member that a visit stands at is found again from itself
+pub member-here : (cur : List ℕ) (p q : ℕ) → q ≡ nextMember (setAt cur 0) p → q ≡ nextMember (setAt cur 0) q
+member-here cur p q e = visit-here (setAt cur 0) (at-canon cur 0) p q e
+
+pub member-later : (cur : List ℕ) (q x : ℕ) → q < 256 → x ≡ nextMember (setAt cur 0) (q + 1) → 256 - x < 256 - q
+member-later cur q x l e = let a = next-above (setAt cur 0) (at-canon cur 0) (q + 1) (omega arith) in omega arith
+
+pub ruleset stepLaws = (step-run, step-targets, step-begins, step-next, step-ended, member-here, member-later, needs)

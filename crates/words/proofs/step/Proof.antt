@@ -1,0 +1,25 @@
+-- `step` meets its contract: what is in `next`, with what the members from `q` on reach, is the step.
+use Prim.Native.Nat.{_-_, _≤_}
+use mathlib.Core.Path.{_≡_}
+use lib.ListN.{length}
+use Rattle.sets.specs.Sets.{membersFrom, nextMember}
+use Rattle.sets.specs.BitSet.{setAt}
+use Rattle.sheets.specs.Sheet.{read}
+use Rattle.words.specs.Gather.{withReached}
+use Rattle.words.specs.Simulation
+use Rattle.words.proofs.Stepping.{stepLaws}
+use Rattle.words.proofs.step.Statement.{statement}
+use Rattle.words.proofs.step.Tie as tie
+
+abbrev Inv-loop : tie.InvT-loop
+Inv-loop s starts closures current symbol next₀ q₀ next q = (length next ≡ length next₀) × (q ≡ nextMember (setAt current 0) q) × (withReached (read s) symbol next (membersFrom q (setAt current 0)) ≡ Simulation.step (read s) (setAt current 0) symbol)
+
+abbrev μ-loop : tie.MeasureT-loop
+μ-loop s starts closures current symbol next₀ q₀ next q = 256 - q
+
+pub step-spec : {M : Type 1} → statement M
+step-spec =
+    tie.close
+    (tie.spec Inv-loop μ-loop (λ c κs. search stepLaws) (λ c κs. search stepLaws) (λ c. search stepLaws) (λ c. search stepLaws)
+    (λ c κs. search stepLaws) (λ c κs. search stepLaws) (λ c. search stepLaws) (λ c κs. search stepLaws) (λ c. search stepLaws)
+    (λ c. search stepLaws) (λ c. search stepLaws) (λ c. search stepLaws))

@@ -1,0 +1,3 @@
+-- Closures, steps and acceptance.
+pub mod Simulation
+pub mod Gather
