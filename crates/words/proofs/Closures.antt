@@ -137,4 +137,3 @@ module _ (A : Automaton) (ok : InBounds A) where
       on-trans (A .size) p (e .to) q (le-refl _) t (run-bound t r)
       (on-lift (A .size) p (e .to) t (on-zero p (e .to) l t (or-right (eqb p (e .to)) _ (any-in (isEpsilon p (e .to)) m (isEpsilon-in p (e .to) e k f refl)))))
       (closure-complete t r)
-

@@ -15,14 +15,13 @@ use Rattle.lists.proofs.Tests.{true-same, and-both, and-parts}
 use Rattle.automata.specs.Automaton.{Transition, Automaton, InBounds, holds, leaving}
 use Rattle.automata.specs.Records.{readRecords, recordAt}
 use Rattle.automata.proofs.Records.{records-at, records-end, part-record}
-use Rattle.sets.specs.Sets.{Set, has, pick}
+use Rattle.sets.specs.Sets.{Set, has, pick, Canon}
 use Rattle.sets.specs.BitSet.{setAt}
 use Rattle.sets.specs.Words.{unionAt}
 use Rattle.sets.proofs.Sets.{picked, pick-out, has-pick, pick-ext, mem-has, has-mem}
 use Rattle.sets.proofs.BitSet.{at-canon}
 use Rattle.sets.proofs.Stores.{unioned}
-use Rattle.words.specs.Simulation.{closure, outgoing, step}
-use Rattle.words.specs.Gather.{takes, reaches, gathered, Targets}
+use Rattle.words.specs.Gather.{withAll, takes, gathered, Targets}
 
 or-assoc : (a b c : Bool) → (a || (b || c)) ≡ ((a || b) || c)
 or-assoc true b c = refl
@@ -32,29 +31,52 @@ or-none : (a : Bool) → (a || false) ≡ a
 or-none true = refl
 or-none false = refl
 
+-- one element after the other
+module _ {X : Type 0} (f : ℕ → X → Bool) where
+  pub all-none : (S : Set) → Canon 256 S → withAll S f [] ≡ S
+  unfolding withAll any
+  all-none S c = pick-ext 0 256 _ _ (λ q l. or-none (has q S)) ∙ c
+
+  pub all-cons : (S : Set) (x : X) (xs : List X) → withAll S f (x ∷ xs) ≡ withAll (withAll S f (x ∷ [])) f xs
+  unfolding withAll any
+  all-cons S x xs =
+      pick-ext 0 256 _ _
+      (λ q l.
+      or-assoc (has q S) (f q x) (any (f q) xs)
+      ∙ ap (λ b. b || any (f q) xs) (ap (λ b. has q S || b) (sym (or-none (f q x))) ∙ sym (has-pick 256 _ q (omega arith))))
+
+  pub all-skip : (S : Set) (x : X) → Canon 256 S → ((q : ℕ) → f q x ≡ false) → withAll S f (x ∷ []) ≡ S
+  unfolding withAll any
+  all-skip S x c h = pick-ext 0 256 _ _ (λ q l. ap (λ b. has q S || (b || false)) (h q) ∙ or-none (has q S)) ∙ c
+
+  pub all-one : (S : Set) (x : X) → withAll S f (x ∷ []) ≡ pick 256 (λ q. has q S || f q x)
+  unfolding withAll any
+  all-one S x = pick-ext 0 256 _ _ (λ q l. ap (λ b. has q S || b) (or-none (f q x)))
+
+  pub all-ext : (g : ℕ → X → Bool) (S : Set) (xs : List X) → ((q : ℕ) (x : X) → x ∈ xs → f q x ≡ g q x) → withAll S f xs ≡ withAll S g xs
+  unfolding withAll
+  all-ext g S xs h = pick-ext 0 256 _ _ (λ q l. ap (λ b. has q S || b) (any-ext (f q) (g q) xs (h q)))
+
+and-no : (a b : Bool) → a ≡ false → (a && b) ≡ false
+and-no a b h = rw h
+
 module _ (c : List ℕ) (a : ℕ) where
   pub gather-none : (t : List ℕ) → gathered t c a [] ≡ setAt t 0
-  unfolding gathered any
-  gather-none t = pick-ext 0 256 _ _ (λ r l. or-none (has r (setAt t 0))) ∙ at-canon t 0
+  unfolding gathered
+  gather-none t = all-none _ (setAt t 0) (at-canon t 0)
 
   -- gathering the first transition and then the others
   pub gather-cons : (t u : List ℕ) (e : Transition) (es : List Transition) → setAt u 0 ≡ gathered t c a (e ∷ []) → gathered t c a (e ∷ es) ≡ gathered u c a es
-  unfolding gathered any
-  gather-cons t u e es h =
-      pick-ext 0 256 _ _
-      (λ r l.
-      let x : Bool = takes a e && has r (setAt c (4 * e .to)) in
-      let y : Bool = any (λ e. takes a e && has r (setAt c (4 * e .to))) es in
-      let m : has r (setAt u 0) ≡ (has r (setAt t 0) || (x || false)) = ap (has r) h ∙ has-pick 256 _ r (omega arith) in
-      or-assoc (has r (setAt t 0)) x y ∙ ap (λ z. z || y) (ap (λ z. has r (setAt t 0) || z) (sym (or-none x)) ∙ sym m))
+  unfolding gathered
+  gather-cons t u e es h = all-cons _ (setAt t 0) e es ∙ ap (λ S. withAll S (λ r e. takes a e && has r (setAt c (4 * e .to))) es) (sym h)
 
-  pub gather-skip : (t : List ℕ) (e : Transition) → takes a e ≡ false → setAt t 0 ≡ gathered t c a (e ∷ [])
-  unfolding gathered any
-  gather-skip t e h = sym (pick-ext 0 256 _ _ (λ r l. rw h (or-none (has r (setAt t 0)))) ∙ at-canon t 0)
+  gather-skip : (t : List ℕ) (e : Transition) → takes a e ≡ false → setAt t 0 ≡ gathered t c a (e ∷ [])
+  unfolding gathered
+  gather-skip t e h = sym (all-skip _ (setAt t 0) e (at-canon t 0) (λ q. and-no (takes a e) _ h))
 
-  pub gather-take : (t : List ℕ) (e : Transition) → takes a e ≡ true → 4 ≤ length t → setAt (unionAt t 0 c (4 * e .to)) 0 ≡ gathered t c a (e ∷ [])
-  unfolding gathered any
-  gather-take t e h l = unioned t 0 c (4 * e .to) l ∙ pick-ext 0 256 _ _ (λ r l. rw h (ap (λ x. has r (setAt t 0) || x) (sym (or-none _))))
+  gather-take : (t : List ℕ) (e : Transition) → takes a e ≡ true → 4 ≤ length t → setAt (unionAt t 0 c (4 * e .to)) 0 ≡ gathered t c a (e ∷ [])
+  unfolding gathered
+  gather-take t e h l = unioned t 0 c (4 * e .to) l ∙ pick-ext 0 256 _ _ (λ r l. rw h) ∙ sym (all-one _ (setAt t 0) e)
 
 -- a record that the code tests
 module _ (t c : List ℕ) (a : ℕ) (r : List ℕ) where

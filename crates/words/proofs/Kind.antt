@@ -74,4 +74,3 @@ module _ (A : Automaton) where
       let r = kindOf-some S (rw e at h) in
       (r .0, or-right (eqb (r .0) x) _ (r .1), r .2 ∙ sym e))
       (least-one (getD (A .accept) x 0) (kindOf A S))
-

@@ -3,4 +3,5 @@ pub mod Kind
 pub mod Closures
 pub mod Simulation
 pub mod Gather
+pub mod Epsilons
 pub mod Stepping

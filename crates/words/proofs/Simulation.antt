@@ -44,7 +44,8 @@ module _ (A : Automaton) (ok : InBounds A) where
         from-in = v .1;
         low = leb-true _ _ (i .0);
         high = leb-true _ _ (i .1);
-        then = closure-sound A ok (e .to) q (ok .tos e (k .0)) (c .1) }
+        then = closure-sound A ok (e .to) q (ok .tos e (k .0)) (c .1);
+      }
 
   pub step-in : (S : Set) (a q : ℕ) → Stepped S a q → has q (step A S a) ≡ true
   unfolding step outgoing holds
@@ -88,9 +89,10 @@ module _ (A : Automaton) (ok : InBounds A) where
   -- (i) a word is accepted by a run exactly when the simulation gives it a kind
   pub accepts-kind : (w : List ℕ) → Accepts A w ↔ (0 < kind A w)
   unfolding kind startSet
-  accepts-kind w =
-      (λ a. kindOf-least A _ (a .0) (simulate-complete (a .1) (closure A (A .start)) (closure-shut (A .start) (ok .starts)) (closure-complete A ok (ok .starts) stay)) (a .2) .0,
-      λ h.
-      let r = kindOf-some A _ h in
-      let s = simulate-sound (closure A (A .start)) w (r .0) (r .1) in
-      (r .0, join (closure-sound A ok (A .start) (s .0) (ok .starts) (s .1)) (s .2), rw (r .2) h))
+  accepts-kind w = (
+    λ a. kindOf-least A _ (a .0) (simulate-complete (a .1) (closure A (A .start)) (closure-shut (A .start) (ok .starts)) (closure-complete A ok (ok .starts) stay)) (a .2) .0,
+    λ h.
+        let r = kindOf-some A _ h in
+        let s = simulate-sound (closure A (A .start)) w (r .0) (r .1) in
+        (r .0, join (closure-sound A ok (A .start) (s .0) (ok .starts) (s .1)) (s .2), rw (r .2) h),
+  )

@@ -28,16 +28,9 @@ use Rattle.sheets.specs.Sheet.{stateCount, read}
 use Rattle.sheets.proofs.Meaning.{read-well}
 use Rattle.sheets.proofs.Runs.{run-at}
 use Rattle.words.specs.Simulation.{closures, closure, outgoing, step}
-use Rattle.words.specs.Gather.{takes, reaches, gathered, Targets, Tables, withReached}
+use Rattle.words.specs.Gather.{takes, reaches, gathered, Targets, Tables, withReached, withAll}
+use Rattle.words.proofs.Gather.{all-none, all-cons, all-one}
 use Rattle.words.proofs.Closures.{closure-sound, run-bound}
-
-or-assoc : (a b c : Bool) → (a || (b || c)) ≡ ((a || b) || c)
-or-assoc true b c = refl
-or-assoc false b c = refl
-
-or-none : (a : Bool) → (a || false) ≡ a
-or-none true = refl
-or-none false = refl
 
 -- a step, member by member
 module _ (A : Automaton) (ok : InBounds A) (a : ℕ) where
@@ -101,20 +94,23 @@ module _ (s starts c : List ℕ) (t : Tables s starts c) (a : ℕ) where
       record {
         inside = λ d m.
             let i = ok .tos d (keep-out _ d (read s .transitions) (rw (e, read-write) at m) .0) in
-            omega (arith, t .long, t .accepted .few-states, i) }
+            omega (arith, t .long, t .accepted .few-states, i);
+      }
 
   -- gathering the run of q adds what q reaches
+  gathered-reached : (q : ℕ) (old : List ℕ) → gathered old c a (leaving (read s) q) ≡ withAll (setAt old 0) (reaches (read s) a) (q ∷ [])
+  unfolding gathered reaches withAll leaving
+  gathered-reached q old =
+      pick-ext 0 256 _ _
+      (λ r l. ap (λ b. has r (setAt old 0) || b) (any-ext _ _ (leaving (read s) q) (λ d i. ap (λ T. takes a d && has r T) (row (d .to) (ok .tos d (keep-out _ d (read s .transitions) i .0))))))
+      ∙ sym (all-one (reaches (read s) a) (setAt old 0) q)
+
   step-gather : (q : ℕ) (old u run : List ℕ) (R : Set) → run ≡ writeRecords (leaving (read s) q) → setAt u 0 ≡ gathered old c a (readRecords run)
       → withReached (read s) a u R ≡ withReached (read s) a old (q ∷ R)
-  unfolding withReached gathered reaches any leaving
+  unfolding withReached
   step-gather q old u run R e h =
-      pick-ext 0 256 _ _
-      (λ r l.
-      let x : Bool = any (λ d. takes a d && has r (setAt c (4 * d .to))) (leaving (read s) q) in
-      let z : Bool = any (reaches (read s) a r) R in
-      let m : has r (setAt u 0) ≡ (has r (setAt old 0) || x) = ap (has r) (h ∙ ap (gathered old c a) (ap readRecords e ∙ read-write (leaving (read s) q))) ∙ has-pick 256 _ r (omega arith) in
-      let y : x ≡ reaches (read s) a r q = any-ext _ _ (leaving (read s) q) (λ d i. ap (λ T. takes a d && has r T) (row (d .to) (ok .tos d (keep-out _ d (read s .transitions) i .0)))) in
-      ap (λ b. b || z) (m ∙ ap (λ b. has r (setAt old 0) || b) y) ∙ sym (or-assoc (has r (setAt old 0)) (reaches (read s) a r q) z))
+      ap (λ S. withAll S (reaches (read s) a) R) (h ∙ ap (gathered old c a) (ap readRecords e ∙ read-write (leaving (read s) q)) ∙ gathered-reached q old)
+      ∙ sym (all-cons (reaches (read s) a) (setAt old 0) q R)
 
   module _ (cur : List ℕ) where
     -- the run of a member
@@ -122,7 +118,7 @@ module _ (s starts c : List ℕ) (t : Tables s starts c) (a : ℕ) where
     step-run q n h l = run-at s (t .accepted) starts q (t .indexed) (has-below (stateCount s) (setAt cur 0) n q (visit-has (setAt cur 0) (at-canon cur 0) q h l))
 
     pub step-begins : (u v : List ℕ) (q : ℕ) → u ≡ clearAt v 0 → 4 ≤ length v → q ≡ nextMember (setAt cur 0) 0 → withReached (read s) a u (membersFrom q (setAt cur 0)) ≡ step (read s) (setAt cur 0) a
-    unfolding withReached
+    unfolding withReached withAll
     step-begins u v q e l h =
         ap (λ R. withReached (read s) a u R) (visit-start (setAt cur 0) (at-canon cur 0) q h)
         ∙ pick-ext 0 256 _ _ (λ r g. ap (λ b. b || any (reaches (read s) a r) (setAt cur 0)) (ap (has r) (ap (λ x. setAt x 0) e ∙ cleared v 0 l) ∙ has-nil r))
@@ -135,9 +131,9 @@ module _ (s starts c : List ℕ) (t : Tables s starts c) (a : ℕ) where
         step-gather q old u run (membersFrom x (setAt cur 0)) e g ∙ ap (withReached (read s) a old) (sym (visit-next (setAt cur 0) (at-canon cur 0) q x h l k)) ∙ i
 
     pub step-ended : (q : ℕ) (u : List ℕ) → withReached (read s) a u (membersFrom q (setAt cur 0)) ≡ step (read s) (setAt cur 0) a → 256 ≤ q → setAt u 0 ≡ step (read s) (setAt cur 0) a
-    unfolding withReached any
+    unfolding withReached
     step-ended q u i l =
-        sym (pick-ext 0 256 _ _ (λ r l. or-none (has r (setAt u 0))) ∙ at-canon u 0) ∙ ap (withReached (read s) a u) (sym (from-end (setAt cur 0) (at-canon cur 0) q l)) ∙ i
+        sym (all-none (reaches (read s) a) (setAt u 0) (at-canon u 0)) ∙ ap (withReached (read s) a u) (sym (from-end (setAt cur 0) (at-canon cur 0) q l)) ∙ i
 
 -- a member that a visit stands at is found again from itself
 pub member-here : (cur : List ℕ) (p q : ℕ) → q ≡ nextMember (setAt cur 0) p → q ≡ nextMember (setAt cur 0) q

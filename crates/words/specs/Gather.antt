@@ -14,6 +14,10 @@ use Rattle.sheets.specs.Runs.{Indexed}
 use Rattle.sheets.specs.Sheet.{stateCount, read}
 use Rattle.words.specs.Simulation.{closure, closures}
 
+-- the set S with each q that passes the test with some element
+unfoldable pub withAll : {X : Type 0} → Set → (ℕ → X → Bool) → List X → Set
+withAll S f xs = pick 256 (λ q. has q S || any (f q) xs)
+
 -- the transition is a range that holds a
 unfoldable pub takes : ℕ → Transition → Bool
 takes a e = eqb (e .kind) 1 && holds a e
@@ -24,7 +28,7 @@ reaches A a r p = any (λ e. takes a e && has r (closure A (e .to))) (leaving A 
 
 -- the set in t with the rows of the table c for the targets of the transitions that take a
 unfoldable pub gathered : List ℕ → List ℕ → ℕ → List Transition → Set
-gathered t c a es = pick 256 (λ r. has r (setAt t 0) || any (λ e. takes a e && has r (setAt c (4 * e .to))) es)
+gathered t c a es = withAll (setAt t 0) (λ r e. takes a e && has r (setAt c (4 * e .to))) es
 
 -- the rows of the targets stand in the table
 pub record Targets (es : List Transition) (c : List ℕ) : Type 0 where
@@ -39,4 +43,4 @@ pub record Tables (s starts c : List ℕ) : Type 0 where
 
 -- the set in t with all that the states of R reach under a
 unfoldable pub withReached : Automaton → ℕ → List ℕ → Set → Set
-withReached A a t R = pick 256 (λ r. has r (setAt t 0) || any (reaches A a r) R)
+withReached A a t R = withAll (setAt t 0) (reaches A a) R

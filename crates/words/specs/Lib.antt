@@ -1,3 +1,4 @@
 -- Closures, steps and acceptance.
 pub mod Simulation
 pub mod Gather
+pub mod Epsilons

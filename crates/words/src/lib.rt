@@ -4,13 +4,61 @@
 ghost use mathlib.Core.Path.{_≡_};
 ghost use mathlib.Core.List.{[], _∷_};
 ghost use Prim.Native.Nat.{_+_, _*_, _≤_, _<_};
-ghost use lib.ListN.{length};
+ghost use lib.ListN.{length, getD};
 ghost use Rattle.automata.specs.Records.{recordAt, readRecords};
-ghost use Rattle.sets.specs.BitSet.{setAt};
+ghost use Rattle.sets.specs.BitSet.{setAt, entries};
 ghost use Rattle.sets.specs.Sets.{Canon};
 ghost use Rattle.sheets.specs.Sheet.{stateCount, read};
 ghost use Rattle.words.specs.Gather.{gathered, Targets, Tables};
-ghost use Rattle.words.specs.Simulation.{step};
+ghost use Rattle.words.specs.Simulation.{step, closures};
+ghost use Rattle.words.specs.Epsilons.{Fresh, SelvesAdded, Named, EpsilonsAdded};
+ghost use Rattle.sheets.specs.Accepted.{Accepted};
+
+// Each of the first n rows gets its own number.
+fn add_selves(rows: &mut [u64], n: usize)
+    requires { ⌜ (n ≤ 256) × (length (now rows) ≡ 1024) ⌝ }
+    ensures { λ u. ⌜ SelvesAdded (now (rows .entry)) (now (rows .exit)) n ⌝ }
+{
+    let mut p: usize = 0;
+    while p < n {
+        sets::insert(rows, p, p);
+        p += 1;
+    }
+}
+
+// The row of the state that the record r leaves gets its target, if it is an epsilon.
+fn add_epsilon(r: &[u32], rows: &mut [u64])
+    requires { ⌜ (length (now r) ≡ 5) × (getD (now r) 0 0 < 256) × (getD (now r) 4 0 < 256) × (length (now rows) ≡ 1024) ⌝ }
+    ensures { λ u. ⌜ EpsilonsAdded (now (rows .entry)) (now (rows .exit)) (recordAt (now (r .entry)) 0 ∷ []) ⌝ }
+{
+    if r[1] != 0 {
+        return;
+    }
+    sets::insert(rows, r[0] as usize, r[4] as usize);
+}
+
+// Each row gets the targets of the epsilons that leave its state.
+fn add_epsilons(records: &[u32], rows: &mut [u64])
+    requires { ⌜ Named (readRecords (now records)) × (length (now rows) ≡ 1024) ⌝ }
+    ensures { λ u. ⌜ EpsilonsAdded (now (rows .entry)) (now (rows .exit)) (readRecords (now (records .entry))) ⌝ }
+{
+    let mut at: usize = 0;
+    while 5 <= records.len() - at {
+        add_epsilon(&records[at..at + 5], rows);
+        at += 5;
+    }
+}
+
+// For each state the states that any number of epsilons reaches, itself included, as row after row of a zeroed table.
+pub fn state_closures(s: &[u32], rows: &mut [u64])
+    requires { ⌜ Accepted (now s) × Fresh (now rows) ⌝ }
+    ensures { λ u. ⌜ (length (now (rows .exit)) ≡ 1024) × (entries (now (rows .exit)) (stateCount (now (s .entry))) ≡ closures (read (now (s .entry)))) ⌝ }
+{
+    let n = s[2] as usize;
+    add_selves(rows, n);
+    add_epsilons(&s[n + 4..], rows);
+    sets::closure::warshall(rows, n);
+}
 
 // next takes in the closure of the target of the record r, if that is a range that holds the symbol.
 fn follow_record(r: &[u32], symbol: u32, closures: &[u64], next: &mut [u64])
@@ -42,7 +90,14 @@ fn follow(run: &[u32], symbol: u32, closures: &[u64], next: &mut [u64])
 }
 
 // The states that the symbol leads to from those of current, in next.
-pub fn step(s: &[u32], starts: &[u32], closures: &[u64], current: &[u64], symbol: u32, next: &mut [u64])
+pub fn step(
+    s: &[u32],
+    starts: &[u32],
+    closures: &[u64],
+    current: &[u64],
+    symbol: u32,
+    next: &mut [u64],
+)
     requires { ⌜ Tables (now s) (now starts) (now closures) × Canon (stateCount (now s)) (setAt (now current) 0) × (4 ≤ length (now current)) × (4 ≤ length (now next)) ⌝ }
     ensures { λ u. ⌜ setAt (now (next .exit)) 0 ≡ step (read (now (s .entry))) (setAt (now (current .entry)) 0) symbol ⌝ }
 {

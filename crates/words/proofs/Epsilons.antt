@@ -1,0 +1,185 @@
+-- The laws by which the closures are proved: the table's rows get their own numbers, then the targets of epsilons, then Warshall's rounds.
+use Prim.Native.Nat.{ℕ, zero, suc, _+_, _-_, _*_, _≤_, _<_}
+use mathlib.Core.Bool.{Bool, true, false, cond, _&&_, _||_}
+use mathlib.Core.List.{List, [], _∷_, List·Memᴰ·head, List·Memᴰ·tail}
+use mathlib.Core.Logic.{_⊎_, inl, inr, ⊎-elim}
+use mathlib.Core.Path.{_≡_, refl, sym, _∙_, ap, subst, subst⁻¹}
+use native.Mathlib.Nat.{eq-or-lt-of-le}
+use native.Mathlib.Numerals.{add-one}
+use native.Mathlib.Omega.{arith}
+use borrow.Author.Needs.{needs}
+use borrow.Author.Tests.{eq-eqb, eqb-true, ne-eqb, eqb-false}
+use lib.Dec.{eqb}
+use lib.ListN.{length, getD, take, drop, replicate, length-replicate}
+use Rattle.lists.specs.Lists.{_∈_, any, tabulate}
+use Rattle.lists.proofs.Lists.{any-out, tabulate-ext}
+use Rattle.lists.proofs.Parts.{part-all}
+use Rattle.lists.proofs.Tests.{test, true-same, and-parts}
+use Rattle.automata.specs.Automaton.{Transition, Automaton, InBounds}
+use Rattle.automata.specs.Records.{readRecords, recordAt}
+use Rattle.automata.proofs.Records.{records-at, records-end, part-record}
+use Rattle.sets.specs.Sets.{Set, has, pick, Canon}
+use Rattle.sets.specs.BitSet.{setAt, entries}
+use Rattle.sets.specs.Closure.{closed}
+use Rattle.sets.specs.Words.{insertAt, closeRows}
+use Rattle.sets.proofs.Sets.{has-pick, pick-ext, pick-canon, has-nil, wide}
+use Rattle.sets.proofs.BitSet.{at-canon, fresh-at}
+use Rattle.sets.proofs.Stores.{inserted, insert-other, length-insert}
+use Rattle.sets.proofs.Warshall.{rounds-closed}
+use Rattle.sheets.specs.Accepted.{Accepted}
+use Rattle.sheets.specs.Sheet.{stateCount, recordsAt, read}
+use Rattle.sheets.proofs.Meaning.{read-well}
+use Rattle.words.specs.Simulation.{isEpsilon, epsilonRow, closures}
+use Rattle.words.specs.Gather.{withAll}
+use Rattle.words.specs.Epsilons.{Fresh, SelvesAdded, Named, withEpsilons, EpsilonsAdded, EpsilonsLeft}
+use Rattle.words.proofs.Gather.{all-none, all-cons, all-skip, all-one}
+
+eqb-comm : (a b : ℕ) → eqb a b ≡ eqb b a
+eqb-comm a b = true-same _ _ (λ h. eq-eqb b a (sym (eqb-true a b h))) (λ h. eq-eqb a b (sym (eqb-true b a h)))
+
+-- rows get their own numbers
+pub selves-none : (t : List ℕ) → SelvesAdded t t 0
+selves-none t = record { below = λ p l. absurd (omega arith); above = λ p l. refl }
+
+pub selves-next : (t u v : List ℕ) (n m : ℕ) → SelvesAdded t u n → n < m → m ≤ 256 → length u ≡ length t → length t ≡ 1024 → v ≡ insertAt u (4 * n) n → SelvesAdded t v (n + 1)
+selves-next t u v n m s g h j k e =
+    let l : n < 256 = omega arith in
+    subst⁻¹ (λ (x : List ℕ). SelvesAdded t x (n + 1)) e (record {
+      below = λ p h.
+          ⊎-elim
+          (λ (e : suc p ≡ suc n).
+          let c : p ≡ n = omega arith in
+          rw c (inserted u (4 * n) n (omega arith) l ∙ pick-ext 0 256 _ _ (λ q g. ap (λ S. has q S || eqb q n) (s .above n (omega arith)) ∙ ap (λ b. has q (setAt t (4 * n)) || b) (eqb-comm q n))))
+          (λ (e : suc p < suc n). insert-other u n n p l (λ c. omega arith) ∙ s .below p (omega arith))
+          (eq-or-lt-of-le (le-of h));
+      above = λ p h. insert-other u n n p l (λ c. omega arith) ∙ s .above p (omega arith);
+    })
+  where
+    le-of : {p : ℕ} → p < n + 1 → suc p ≤ suc n
+    le-of h = omega arith
+
+pub selves-all : (t u : List ℕ) (p n : ℕ) → SelvesAdded t u p → p ≤ n → n ≤ p → SelvesAdded t u n
+selves-all t u p n s l h = subst (SelvesAdded t u) (omega arith) s
+
+pub ruleset selfLaws = (selves-none, selves-next, selves-all, length-insert, needs)
+
+-- a record that the code tests
+pub epsilon-not : (t r : List ℕ) → (getD r 1 0 ≡ 0 → ⊥) → EpsilonsAdded t t (recordAt r 0 ∷ [])
+unfolding withEpsilons isEpsilon
+epsilon-not t r h = record { row = λ p l. sym (all-skip (isEpsilon p) (setAt t (4 * p)) (recordAt r 0) (at-canon t (4 * p)) (λ q. rw (ne-eqb (getD r 1 0) 0 h))) }
+
+pub epsilon-put : (t u r : List ℕ) → getD r 1 0 ≡ 0 → getD r 0 0 < 256 → getD r 4 0 < 256 → length t ≡ 1024 → u ≡ insertAt t (4 * getD r 0 0) (getD r 4 0) → EpsilonsAdded t u (recordAt r 0 ∷ [])
+unfolding withEpsilons isEpsilon
+epsilon-put t u r k f g l e =
+    record {
+      row = λ p h.
+          ⊎-elim
+          (λ (c : eqb (getD r 0 0) p ≡ true).
+          let q : getD r 0 0 ≡ p = eqb-true _ _ c in
+          ap (λ x. setAt x (4 * p)) (e ∙ ap (λ x. insertAt t (4 * x) (getD r 4 0)) q) ∙ inserted t (4 * p) (getD r 4 0) (omega arith) g
+          ∙ pick-ext 0 256 _ _ (λ x i. ap (λ b. has x (setAt t (4 * p)) || b) (eqb-comm x (getD r 4 0) ∙ rw (eq-eqb (getD r 1 0) 0 k, c)))
+          ∙ sym (all-one (isEpsilon p) (setAt t (4 * p)) (recordAt r 0)))
+          (λ (c : eqb (getD r 0 0) p ≡ false).
+          ap (λ x. setAt x (4 * p)) e ∙ insert-other t (getD r 0 0) (getD r 4 0) p g (λ z. eqb-false _ _ c (sym z))
+          ∙ sym (all-skip (isEpsilon p) (setAt t (4 * p)) (recordAt r 0) (at-canon t (4 * p)) (λ q. rw (eq-eqb (getD r 1 0) 0 k, c))))
+          (test (eqb (getD r 0 0) p));
+    }
+
+pub ruleset epsilonLaws = (epsilon-not, epsilon-put, length-insert, needs)
+
+-- the records from a place on
+pub epsilons-begin : (t run : List ℕ) → EpsilonsLeft t (readRecords run) t (readRecords (drop 0 run))
+epsilons-begin t run = record { row = λ p l. refl }
+
+pub epsilons-next : (t run u v : List ℕ) (at : ℕ) → EpsilonsLeft t (readRecords run) u (readRecords (drop at run)) → 5 ≤ length run - at
+    → EpsilonsAdded u v (recordAt (take (at + 5 - at) (drop at run)) 0 ∷ []) → EpsilonsLeft t (readRecords run) v (readRecords (drop (at + 5) run))
+unfolding withEpsilons
+epsilons-next t run u v at s h e =
+    record {
+      row = λ p l.
+          ap (λ S. withAll S (isEpsilon p) (readRecords (drop (at + 5) run))) (e .row p l ∙ ap (λ x. withAll (setAt u (4 * p)) (isEpsilon p) (x ∷ [])) (part-record run at))
+          ∙ sym (all-cons (isEpsilon p) (setAt u (4 * p)) (recordAt run at) (readRecords (drop (at + 5) run)))
+          ∙ ap (withAll (setAt u (4 * p)) (isEpsilon p)) (sym (records-at run at h)) ∙ s .row p l;
+    }
+
+pub epsilons-end : (t run u : List ℕ) (at : ℕ) → EpsilonsLeft t (readRecords run) u (readRecords (drop at run)) → length run - at < 5 → EpsilonsAdded t u (readRecords run)
+unfolding withEpsilons
+epsilons-end t run u at s h =
+    record { row = λ p l. sym (all-none (isEpsilon p) (setAt u (4 * p)) (at-canon u (4 * p))) ∙ ap (withAll (setAt u (4 * p)) (isEpsilon p)) (sym (records-end run at h)) ∙ s .row p l }
+
+module _ (run : List ℕ) (at : ℕ) (n : Named (readRecords (drop at run))) (h : 5 ≤ length run - at) where
+  pub named-from : getD (take (at + 5 - at) (drop at run)) 0 0 < 256
+  named-from = subst (λ (e : Transition). e .from < 256) (sym (part-record run at)) (n .froms (recordAt run at) (rw (records-at run at h) (List·Memᴰ·head refl)))
+
+  pub named-to : getD (take (at + 5 - at) (drop at run)) 4 0 < 256
+  named-to = subst (λ (e : Transition). e .to < 256) (sym (part-record run at)) (n .tos (recordAt run at) (rw (records-at run at h) (List·Memᴰ·head refl)))
+
+  pub named-next : Named (readRecords (drop (at + 5) run))
+  named-next = record { froms = λ e m. n .froms e (rw (records-at run at h) (List·Memᴰ·tail m)); tos = λ e m. n .tos e (rw (records-at run at h) (List·Memᴰ·tail m)) }
+
+pub ruleset epsilonsLaws = (epsilons-begin, epsilons-next, epsilons-end, named-from, named-to, named-next, needs)
+
+pub fresh : Fresh (replicate 1024 0)
+fresh = record { long = length-replicate {A = ℕ} 1024 0; empty = fresh-at 1024 }
+
+-- the table of an accepted sheet
+module _ (s : List ℕ) (a : Accepted s) where
+  records : List Transition
+  records = readRecords (take (length s - recordsAt s) (drop (recordsAt s) s))
+
+  same-records : records ≡ read s .transitions
+  unfolding records
+  same-records = ap readRecords (part-all (recordsAt s) s)
+
+  ok : InBounds (read s)
+  ok = read-well s a .states
+
+  pub closures-named : Named (readRecords (take (length s - recordsAt s) (drop (recordsAt s) s)))
+  unfolding records
+  closures-named =
+      record {
+        froms = λ e m. let l = ok .froms e (rw same-records at m) in omega (arith, a .few-states, l);
+        tos = λ e m. let l = ok .tos e (rw same-records at m) in omega (arith, a .few-states, l);
+      }
+
+  -- nothing outside the states is named
+  outside : (p q : ℕ) → p < stateCount s → stateCount s ≤ q → (eqb p q || any (isEpsilon p q) (read s .transitions)) ≡ false
+  unfolding isEpsilon
+  outside p q l h =
+      rw (ne-eqb p q (λ e. omega arith))
+      (⊎-elim
+      (λ t.
+      let x = any-out _ _ t in
+      let i = ok .tos (x .0) (x .1) in
+      let b : x .0 .to ≡ q = eqb-true _ _ (and-parts (eqb (x .0 .from) p) _ (and-parts (eqb (x .0 .kind) 0) _ (x .2) .1) .1) in
+      absurd (omega arith))
+      (λ t. t)
+      (test (any (isEpsilon p q) (read s .transitions))))
+
+  row-canon : (p : ℕ) → Canon (stateCount s) (epsilonRow (read s) p)
+  unfolding epsilonRow
+  row-canon p = pick-canon (stateCount s) _
+
+  module _ (z t u : List ℕ) (e : Fresh z) (f : SelvesAdded z t (stateCount s)) (g : EpsilonsAdded t u (readRecords (take (length s - recordsAt s) (drop (recordsAt s) s)))) where
+    row : (p : ℕ) → p < stateCount s → setAt u (4 * p) ≡ epsilonRow (read s) p
+    unfolding withEpsilons withAll epsilonRow records
+    row p l =
+        let few = a .few-states in
+        let ts : List Transition = read s .transitions in
+        g .row p (omega arith)
+        ∙ pick-ext 0 256 _ _
+        (λ q h.
+        ap (λ b. b || any (isEpsilon p q) records)
+        (ap (has q) (f .below p l) ∙ has-pick 256 _ q (omega arith) ∙ ap (λ b. b || eqb p q) (ap (has q) (e .empty (4 * p)) ∙ has-nil q))
+        ∙ ap (λ es. eqb p q || any (isEpsilon p q) es) same-records)
+        ∙ wide 0 (stateCount s) 256 _ few (λ q h. outside p q l (omega arith))
+
+    pub closures-done : (v : List ℕ) → length t ≡ length z → length u ≡ length t → v ≡ closeRows u (stateCount s) (stateCount s) → entries v (stateCount s) ≡ closures (read s)
+    unfolding closures entries
+    closures-done v m n k =
+        let o = e .long in
+        ap (λ x. tabulate (stateCount s) (λ j. setAt x (4 * j))) k
+        ∙ rounds-closed (stateCount s) (a .few-states) u (omega (arith, a .few-states)) (λ j l. subst (Canon (stateCount s)) (sym (row j l)) (row-canon j))
+        ∙ ap (closed (stateCount s) (stateCount s)) (tabulate-ext (stateCount s) _ _ row)
+
+pub ruleset closureLaws = (closures-named, closures-done, needs)
