@@ -73,7 +73,7 @@ close-all t₀ t n k e l u = e ∙ ap (closeRows t₀ n) (omega arith)
 pub ruleset roundLaws = (visit-done, visit-not, visits-none, visits-next, visits-all, close-none, close-next, close-all, length-visit, length-visits, needs)
 
 -- a row that takes in itself stays as it is
-through-self : (n k : ℕ) (K : Set) → Canon n K → through n k K K ≡ K
+pub through-self : (n k : ℕ) (K : Set) → Canon n K → through n k K K ≡ K
 unfolding through
 through-self n k K c = go (has k K)
   where
@@ -85,7 +85,7 @@ through-self n k K c = go (has k K)
     go true = pick-ext 0 n _ _ (λ q l. or-same (has q K)) ∙ c
     go false = refl
 
-through-canon : (n k : ℕ) (K R : Set) → Canon n R → Canon n (through n k K R)
+pub through-canon : (n k : ℕ) (K R : Set) → Canon n R → Canon n (through n k K R)
 unfolding through
 through-canon n k K R c = go (has k R)
   where

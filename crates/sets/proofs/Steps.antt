@@ -23,6 +23,7 @@ use Rattle.sets.proofs.Sets.{empty-yes}
 use Rattle.sets.proofs.Tables.{same-yes, same-no}
 use Rattle.sets.proofs.BitSet.{four, in-has, sets-by-words, words-by-sets, zeros-at, entry-at, length-entries}
 
+-- one bit is read, or stored
 pub has-word : (t : List ℕ) (o q : ℕ) → q < 256 → eqb (getD t (o + q / 64) 0 / 2 ^ (q % 64) % 2) 1 ≡ has q (setAt t o)
 unfolding inWords bit
 has-word t o q l = in-has t o q l
@@ -34,6 +35,7 @@ pub insert-word : (t : List ℕ) (o q : ℕ) → set t (o + q / 64) (bitOr (getD
 unfolding insertAt
 insert-word t o q = ap (λ w. set t (o + q / 64) (bitOr (getD t (o + q / 64) 0) w)) (one-shl (q % 64) (omega arith))
 
+-- four words that are 0 hold the empty set, and no others do
 or-none : (a b : ℕ) → bitOr a b ≡ 0 → (a ≡ 0) × (b ≡ 0)
 or-none a b e = let p = or-add-and a b in let l = and-le-l a b in let r = and-le-r a b in (omega arith, omega arith)
 
