@@ -1,17 +1,14 @@
 -- From words to sets: four words hold the set of their bits, and equal words hold equal sets.
 use Prim.Native.Nat.{ℕ, zero, suc, _+_, _*_, _/_, _%_, _^_, _≤_, _<_}
-use mathlib.Core.Bool.{Bool, true, false}
+use mathlib.Core.Bool.{Bool, false}
 use mathlib.Core.List.{List, []}
-use mathlib.Core.Logic.{_≢_}
 use mathlib.Core.Path.{_≡_, refl, sym, _∙_, ap}
 use native.Mathlib.Omega.{arith}
-use lib.ListN.{getD, set, length, replicate, length-set}
-use lib.Seq.{getD-set-same, getD-set-other, ext-getD}
+use lib.ListN.{getD, length, replicate}
 use Rattle.lists.proofs.Lists.{tabulate-at, length-tabulate}
-use Rattle.lists.proofs.Tests.{true-same}
-use Rattle.sets.specs.Sets.{Set, has, pick, pickFrom, Canon}
+use Rattle.sets.specs.Sets.{Set, has, pick, Canon}
 use Rattle.sets.specs.BitSet.{bit, inWords, setAt, entries}
-use Rattle.sets.proofs.Sets.{pick-ext, pick-out, picked, has-pick, pick-canon, wide, has-past}
+use Rattle.sets.proofs.Sets.{pick-ext, has-pick, pick-canon, pick-none, wide, has-past}
 use Rattle.sets.proofs.Bits.{word-ext, bit-nothing}
 
 -- the places of a set's words
@@ -41,15 +38,15 @@ pub set-at : (t : List ℕ) (o n : ℕ) (S : Set) → n ≤ 256 → Canon n S �
 set-at t o n S b c h = bits-at t o _ h ∙ wide 0 n 256 _ b (λ q l. has-past n S c q (omega arith)) ∙ c
 
 -- equal words hold equal sets
-pub words-same : (t u : List ℕ) (o p : ℕ) → ((i : ℕ) → i < 4 → getD t (o + i) 0 ≡ getD u (p + i) 0) → setAt t o ≡ setAt u p
+pub sets-by-words : (t u : List ℕ) (o p : ℕ) → ((i : ℕ) → i < 4 → getD t (o + i) 0 ≡ getD u (p + i) 0) → setAt t o ≡ setAt u p
 unfolding setAt inWords
-words-same t u o p h = pick-ext 0 256 _ _ (λ q l. rw (h (q / 64) (omega arith)))
+sets-by-words t u o p h = pick-ext 0 256 _ _ (λ q l. rw (h (q / 64) (omega arith)))
 
 -- equal sets are held by equal words
-pub same-words : (t u : List ℕ) (o p : ℕ) → ((i : ℕ) → getD t i 0 < 2 ^ 64) → ((i : ℕ) → getD u i 0 < 2 ^ 64) → setAt t o ≡ setAt u p
+pub words-by-sets : (t u : List ℕ) (o p : ℕ) → ((i : ℕ) → getD t i 0 < 2 ^ 64) → ((i : ℕ) → getD u i 0 < 2 ^ 64) → setAt t o ≡ setAt u p
     → (i : ℕ) → i < 4 → getD t (o + i) 0 ≡ getD u (p + i) 0
 unfolding inWords
-same-words t u o p b d e i l =
+words-by-sets t u o p b d e i l =
     word-ext 64 _ _ (b (o + i)) (d (p + i))
     (λ k v.
     let c : (i * 64 + k) / 64 ≡ i = omega arith in
@@ -59,8 +56,9 @@ same-words t u o p b d e i l =
 
 -- words of no bit hold the empty set
 pub zeros-at : (t : List ℕ) (o : ℕ) → ((i : ℕ) → i < 4 → getD t (o + i) 0 ≡ 0) → setAt t o ≡ []
-unfolding inWords pickFrom
-zeros-at t o h = bits-at t o (λ q. false) (λ q l. ap (λ w. bit w (q % 64)) (h (q / 64) (omega arith)) ∙ bit-nothing (q % 64)) ∙ wide 0 0 256 (λ q. false) (omega arith) (λ q l. refl)
+unfolding inWords
+zeros-at t o h =
+    bits-at t o (λ q. false) (λ q l. ap (λ w. bit w (q % 64)) (h (q / 64) (omega arith)) ∙ bit-nothing (q % 64)) ∙ pick-none 256 _ (λ q l. refl)
 
 zero-at : (n i : ℕ) → getD {A = ℕ} (replicate n 0) i 0 ≡ 0
 zero-at zero i = refl

@@ -7,4 +7,4 @@ pub mod BitSet
 pub mod Stores
 pub mod Steps
 pub mod Scan
-pub mod Warshall
+pub mod Rounds

@@ -1,18 +1,18 @@
 -- The members of a set in ascending order, one after the other.
-use Prim.Native.Nat.{ℕ, zero, suc, _+_, _≤_, _<_}
+use Prim.Native.Nat.{ℕ, zero, suc, _+_, _-_, _≤_, _<_}
 use mathlib.Core.Bool.{Bool, true, false, cond, false≢true}
 use mathlib.Core.List.{List, [], _∷_, List·Memᴰ·head, List·Memᴰ·tail}
 use mathlib.Core.Logic.{_⊎_, inl, inr, ⊎-elim}
 use mathlib.Core.Path.{_≡_, refl, sym, _∙_, ap, ap₂, subst}
 use native.Mathlib.Nat.{eq-or-lt-of-le}
 use native.Mathlib.Omega.{arith}
-use borrow.Author.Tests.{le-leb, lt-leb, leb-true, leb-false, ltb-true, ltb-false}
+use borrow.Author.Tests.{le-leb, lt-leb, leb-true, ltb-true, ltb-false}
 use lib.Dec.{leb, ltb}
 use lib.ListN.{getD}
 use Rattle.lists.specs.Lists.{_∈_, keep}
 use Rattle.lists.proofs.Lists.{keep-all, keep-none, keep-out}
 use Rattle.lists.proofs.Tests.{test, true-same}
-use Rattle.sets.specs.Sets.{Set, has, pickFrom, pick, Canon, membersFrom, nextMember}
+use Rattle.sets.specs.Sets.{Set, has, pickFrom, Canon, membersFrom, nextMember}
 use Rattle.sets.proofs.Sets.{mem-has, pick-out, has-below}
 
 keep-ext : {A : Type 0} (f g : A → Bool) (l : List A) → ((x : A) → x ∈ l → f x ≡ g x) → keep f l ≡ keep g l
@@ -134,3 +134,6 @@ module _ (S : Set) (c : Canon 256 S) where
 
   pub visit-next : (q x : ℕ) → q ≡ nextMember S q → q < 256 → x ≡ nextMember S (q + 1) → membersFrom q S ≡ q ∷ membersFrom x S
   visit-next q x e l n = from-here q (visit-has q e l) ∙ ap (λ L. q ∷ L) (next-from (q + 1) ∙ ap (λ y. membersFrom y S) (sym n))
+
+  pub visit-less : (q x : ℕ) → q < 256 → x ≡ nextMember S (q + 1) → 256 - x < 256 - q
+  visit-less q x l e = omega (arith, next-above (q + 1) (omega arith))

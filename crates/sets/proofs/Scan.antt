@@ -12,7 +12,7 @@ use lib.Dec.{ltb}
 use lib.ListN.{getD}
 use lib.Pow.{shr-le}
 use Rattle.lists.proofs.Tests.{test}
-use Rattle.sets.specs.Sets.{Set, has, membersFrom, nextMember}
+use Rattle.sets.specs.Sets.{has, nextMember}
 use Rattle.sets.specs.BitSet.{bit, inWords, setAt}
 use Rattle.sets.proofs.Members.{from-skip, from-here, from-end}
 use Rattle.sets.proofs.Bits.{bit-nothing, bit-past, bit-shift, trailing-one, trailing-none}
@@ -92,4 +92,4 @@ module _ (s : List ℕ) (q : ℕ) (l : q < 256) where
   pub next-later : (r : ℕ) → getD s (q / 64) 0 / 2 ^ (q % 64) ≡ 0 → r ≡ nextMember (setAt s 0) (64 * (q / 64 + 1)) → r ≡ nextMember (setAt s 0) q
   next-later r h k = k ∙ word-none s q l _ refl h
 
-pub ruleset scan = (next-over, first-over, first-found, first-next, next-found, next-later, needs)
+pub ruleset scanLaws = (next-over, first-over, first-found, first-next, next-found, next-later, needs)

@@ -1,8 +1,8 @@
 -- Sets of states: what membership says, and that the members make the set.
 use Prim.Native.Nat.{ℕ, zero, suc, _+_, _≤_, _<_}
-use mathlib.Core.Bool.{Bool, true, false, cond, _||_, false≢true}
-use mathlib.Core.List.{List, [], _∷_, List·Memᴰ·head, List·Memᴰ·tail}
-use mathlib.Core.Logic.{_⊎_, inl, inr, ⊎-elim}
+use mathlib.Core.Bool.{Bool, true, false, cond, false≢true}
+use mathlib.Core.List.{[], _∷_, List·Memᴰ·head, List·Memᴰ·tail}
+use mathlib.Core.Logic.{⊎-elim}
 use mathlib.Core.Path.{_≡_, refl, sym, _∙_, ap}
 use native.Mathlib.Nat.{eq-or-lt-of-le}
 use native.Mathlib.Omega.{arith}
@@ -87,6 +87,9 @@ picked n P q l h = pick-in 0 n P q (omega arith) (omega arith) h
 pub has-pick : (n : ℕ) (P : ℕ → Bool) (q : ℕ) → q < n → has q (pick n P) ≡ P q
 has-pick n P q l = true-same _ _ (λ h. pick-out 0 n P q h .2) (λ h. picked n P q l h)
 
+pub pick-none : (n : ℕ) (P : ℕ → Bool) → ((q : ℕ) → q < n → P q ≡ false) → pick n P ≡ []
+pick-none n P h = no-member _ (λ q t. let r = pick-out 0 n P q t in false≢true (sym (h q (omega (arith, r .1))) ∙ r .2))
+
 -- a test that none past n passes
 pub wide : (k n m : ℕ) (P : ℕ → Bool) → n ≤ m → ((q : ℕ) → k + n ≤ q → P q ≡ false) → pickFrom k m P ≡ pickFrom k n P
 unfolding pickFrom
@@ -118,7 +121,3 @@ canon-wide n m S l c = wide 0 n m _ l (λ q g. has-past n S c q (omega arith)) �
 -- two sets of states with the same members are equal
 pub set-ext : (n : ℕ) (S T : Set) → Canon n S → Canon n T → ((q : ℕ) → q < n → has q S ≡ has q T) → S ≡ T
 set-ext n S T c d h = sym c ∙ pick-ext 0 n _ _ (λ q l. h q (omega arith)) ∙ d
-
--- a union of two sets of states below n
-pub union-wide : (n m : ℕ) (S T : Set) → n ≤ m → Canon n S → Canon n T → pick m (λ q. has q S || has q T) ≡ pick n (λ q. has q S || has q T)
-union-wide n m S T l c d = wide 0 n m _ l (λ q g. rw (has-past n S c q (omega arith), has-past n T d q (omega arith)))

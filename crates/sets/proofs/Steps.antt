@@ -1,8 +1,8 @@
 -- The laws by which the functions are proved: each has the shape of what a function is asked at a return or at the next turn of its loop.
-use Prim.Native.Nat.{ℕ, zero, suc, _+_, _*_, _/_, _%_, _^_, _-_, _≤_, _<_}
+use Prim.Native.Nat.{ℕ, _+_, _*_, _/_, _%_, _^_, _≤_, _<_}
 use mathlib.Core.Bool.{Bool, true, false, false≢true}
 use mathlib.Core.List.{List, [], _∷_}
-use mathlib.Core.Logic.{_⊎_, inl, inr, ⊎-elim}
+use mathlib.Core.Logic.{⊎-elim}
 use mathlib.Core.Path.{_≡_, refl, sym, _∙_, ap}
 use native.Mathlib.Numerals.{add-one}
 use native.Mathlib.Omega.{arith}
@@ -21,8 +21,9 @@ use Rattle.sets.specs.BitSet.{bit, inWords, setAt, entries}
 use Rattle.sets.specs.Words.{insertAt}
 use Rattle.sets.proofs.Sets.{empty-yes}
 use Rattle.sets.proofs.Tables.{same-yes, same-no}
-use Rattle.sets.proofs.BitSet.{four, in-has, words-same, same-words, zeros-at, entry-at, length-entries}
+use Rattle.sets.proofs.BitSet.{four, in-has, sets-by-words, words-by-sets, zeros-at, entry-at, length-entries}
 
+-- one bit is read, or stored
 pub has-word : (t : List ℕ) (o q : ℕ) → q < 256 → eqb (getD t (o + q / 64) 0 / 2 ^ (q % 64) % 2) 1 ≡ has q (setAt t o)
 unfolding inWords bit
 has-word t o q l = in-has t o q l
@@ -34,6 +35,7 @@ pub insert-word : (t : List ℕ) (o q : ℕ) → set t (o + q / 64) (bitOr (getD
 unfolding insertAt
 insert-word t o q = ap (λ w. set t (o + q / 64) (bitOr (getD t (o + q / 64) 0) w)) (one-shl (q % 64) (omega arith))
 
+-- four words that are 0 hold the empty set, and no others do
 or-none : (a b : ℕ) → bitOr a b ≡ 0 → (a ≡ 0) × (b ≡ 0)
 or-none a b e = let p = or-add-and a b in let l = and-le-l a b in let r = and-le-r a b in (omega arith, omega arith)
 
@@ -57,7 +59,7 @@ module _ (s : List ℕ) (small : Small s) where
 
   nothing : setAt s 0 ≡ [] → all ≡ 0
   nothing h =
-      let w = same-words s [] 0 0 (below s small) (λ i. lit< tt) (h ∙ sym (zeros-at [] 0 (λ i l. refl))) in
+      let w = words-by-sets s [] 0 0 (below s small) (λ i. lit< tt) (h ∙ sym (zeros-at [] 0 (λ i l. refl))) in
       rw (w 0 (omega arith), w 1 (omega arith), w 2 (omega arith), w 3 (omega arith))
 
   pub empty-words : eqb all 0 ≡ isEmpty (setAt s 0)
@@ -67,7 +69,7 @@ module _ (s : List ℕ) (small : Small s) where
 -- a row is the set s if all four words are equal
 module _ (t s : List ℕ) (o : ℕ) (bt : Small t) (bs : Small s) where
   differ : (i : ℕ) → i < 4 → (getD t (o + i) 0 ≡ getD s i 0 → ⊥) → false ≡ same (setAt s 0) (setAt t o)
-  differ i l h = sym (same-no _ _ (λ e. let z : 0 + i ≡ i = omega arith in h (rw z at (same-words t s o 0 (below t bt) (below s bs) (sym e) i l))))
+  differ i l h = sym (same-no _ _ (λ e. let z : 0 + i ≡ i = omega arith in h (rw z at (words-by-sets t s o 0 (below t bt) (below s bs) (sym e) i l))))
 
   pub same-differ₀ : (getD t o 0 ≡ getD s 0 0 → ⊥) → false ≡ same (setAt s 0) (setAt t o)
   same-differ₀ h = differ 0 (omega arith) (λ e. let z : o + 0 ≡ o = omega arith in h (rw z at e))
@@ -85,12 +87,12 @@ module _ (t s : List ℕ) (o : ℕ) (bt : Small t) (bs : Small s) where
       first = let e : o + 0 ≡ o = omega arith in rw e x
 
       all : eqb (getD t (o + 3) 0) (getD s 3 0) ≡ true → same (setAt s 0) (setAt t o) ≡ true
-      all h = same-yes _ _ (sym (words-same t s o 0 (four (λ i. getD t (o + i) 0 ≡ getD s (0 + i) 0) first y z (eqb-true _ _ h))))
+      all h = same-yes _ _ (sym (sets-by-words t s o 0 (four (λ i. getD t (o + i) 0 ≡ getD s (0 + i) 0) first y z (eqb-true _ _ h))))
 
       none : same (setAt s 0) (setAt t o) ≡ true → eqb (getD t (o + 3) 0) (getD s 3 0) ≡ true
       none h = ⊎-elim (λ e. e) (λ e. absurd (false≢true (differ 3 (omega arith) (eqb-false _ _ e) ∙ h))) (test (eqb (getD t (o + 3) 0) (getD s 3 0)))
 
-pub ruleset steps = (has-word, insert-word, empty-words, same-differ₀, same-differ₁, same-differ₂, same-last, needs)
+pub ruleset wordLaws = (has-word, insert-word, empty-words, same-differ₀, same-differ₁, same-differ₂, same-last, needs)
 
 -- the entries from j on decide
 pub find-start : (T : List Set) (S : Set) → index S T ≡ 0 + index S (drop 0 T)
@@ -112,4 +114,4 @@ module _ (t s : List ℕ) (n j : ℕ) (e : index (setAt s 0) (entries t n) ≡ j
   unfolding index
   find-end l u = sym (e ∙ rw (drop-of-length-le (entries t n) {i = j} (rw length-entries u)) (omega arith))
 
-pub ruleset search-steps = (find-start, find-here, find-next, find-end, needs)
+pub ruleset findLaws = (find-start, find-here, find-next, find-end, needs)

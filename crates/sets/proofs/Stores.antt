@@ -1,5 +1,5 @@
 -- What the stores do to the sets that the words hold, and that they keep the table's length.
-use Prim.Native.Nat.{ℕ, zero, suc, _+_, _*_, _/_, _%_, _^_, _≤_, _<_}
+use Prim.Native.Nat.{ℕ, _+_, _*_, _/_, _%_, _^_, _≤_, _<_}
 use mathlib.Core.Bool.{Bool, true, false, _||_}
 use mathlib.Core.List.{List, [], _∷_, _++_}
 use mathlib.Core.Logic.{_⊎_, inl, inr, ⊎-elim, _≢_}
@@ -8,18 +8,17 @@ use native.Mathlib.Numerals.{add-one}
 use native.Mathlib.Omega.{arith}
 use borrow.Author.Tests.{ltb-true, ltb-false, eq-eqb, eqb-true, eqb-false, ne-eqb}
 use lib.Bits.{bitOr}
-use lib.Dec.{eqb, ltb, lit<}
+use lib.Dec.{eqb, ltb}
 use lib.ListN.{getD, set, length, length-set}
-use lib.Pow.{shl-exact}
 use lib.Seq.{getD-set-same, getD-set-other, ext-getD}
-use Rattle.lists.specs.Lists.{tabulate}
 use Rattle.lists.proofs.Lists.{tabulate-ext, tabulate-end}
 use Rattle.lists.proofs.Tests.{test, true-same}
-use Rattle.sets.specs.Sets.{Set, has, pick}
+use Rattle.sets.specs.Sets.{Set, has, pick, Canon}
 use Rattle.sets.specs.BitSet.{bit, inWords, setAt, entries}
 use Rattle.sets.specs.Words.{putWords, insertAt, unionAt, putAt, clearAt}
+use Rattle.sets.proofs.Sets.{wide, has-past}
 use Rattle.sets.proofs.Bits.{bit-or, bit-pow}
-use Rattle.sets.proofs.BitSet.{four, in-has, bits-at, words-same, zeros-at, entry-at, length-entries}
+use Rattle.sets.proofs.BitSet.{four, in-has, bits-at, sets-by-words, zeros-at, entry-at, length-entries}
 
 apart : (j p : ℕ) → j ≢ p → (4 * j + 4 ≤ 4 * p) ⊎ (4 * p + 4 ≤ 4 * j)
 apart j p h =
@@ -49,7 +48,7 @@ module _ (t : List ℕ) (o a b c d : ℕ) where
 
   row-other : (m : ℕ) → (m + 4 ≤ o) ⊎ (o + 4 ≤ m) → setAt (putWords t o a b c d) m ≡ setAt t m
   row-other m h =
-      words-same _ t m m
+      sets-by-words _ t m m
       (λ i l. word-other (m + i) (⊎-elim (λ (g : m + 4 ≤ o). inl (omega arith)) (λ (g : o + 4 ≤ m). inr (omega arith)) h))
 
   word-same : o + 4 ≤ length t → (i : ℕ) → i < 4 → getD (putWords t o a b c d) (o + i) 0 ≡ getD (a ∷ b ∷ c ∷ d ∷ []) i 0
@@ -89,6 +88,11 @@ module _ (t : List ℕ) (o : ℕ) (u : List ℕ) (k : ℕ) where
       ap (λ w. bit w (q % 64)) (word-union b (q / 64) (omega arith)) ∙ bit-or _ _ (q % 64)
       ∙ ap₂ _||_ (in-has t o q l) (in-has u k q l))
 
+  -- the same for sets of states below n
+  pub unioned-below : (n : ℕ) → n ≤ 256 → o + 4 ≤ length t → Canon n (setAt t o) → Canon n (setAt u k) → setAt (unionAt t o u k) o ≡ pick n (λ q. has q (setAt t o) || has q (setAt u k))
+  unioned-below n l b c d =
+      unioned b ∙ wide 0 n 256 _ l (λ q g. rw (has-past n _ c q (omega arith), has-past n _ d q (omega arith)))
+
 pub union-other : (t : List ℕ) (p : ℕ) (u : List ℕ) (k j : ℕ) → j ≢ p → setAt (unionAt t (4 * p) u k) (4 * j) ≡ setAt t (4 * j)
 unfolding unionAt
 union-other t p u k j h = row-other t (4 * p) _ _ _ _ (4 * j) (apart j p h)
@@ -99,10 +103,10 @@ module _ (t : List ℕ) (o : ℕ) (u : List ℕ) (k : ℕ) where
   unfolding putAt
   length-put = length-put-words t o _ _ _ _
 
-  pub put : o + 4 ≤ length t → setAt (putAt t o u k) o ≡ setAt u k
+  pub put-same : o + 4 ≤ length t → setAt (putAt t o u k) o ≡ setAt u k
   unfolding putAt
-  put b =
-      words-same _ u o k
+  put-same b =
+      sets-by-words _ u o k
       (four (λ i. getD (putAt t o u k) (o + i) 0 ≡ getD u (k + i) 0)
       (word-same t o _ _ _ _ b 0 (omega arith) ∙ (let y : k + 0 ≡ k = omega arith in rw y))
       (word-same t o _ _ _ _ b 1 (omega arith))
@@ -159,10 +163,14 @@ module _ (t : List ℕ) (o q : ℕ) where
           ap (λ w. bit w (r % 64)) (getD-set-other t (o + q / 64) (o + r / 64) new 0 (λ e. n (omega arith))) ∙ in-has t o r m
           ∙ or-false (has r (setAt t o)) ∙ ap (λ b. has r (setAt t o) || b) (sym (ne-eqb r q (λ e. n (ap (λ x. x / 64) e))))
 
+  pub inserted-below : (n : ℕ) → n ≤ 256 → o + 4 ≤ length t → q < n → Canon n (setAt t o) → setAt (insertAt t o q) o ≡ pick n (λ r. has r (setAt t o) || eqb r q)
+  inserted-below n l b m c =
+      inserted b (omega arith) ∙ wide 0 n 256 _ l (λ r g. rw (has-past n _ c r (omega arith), ne-eqb r q (omega arith)))
+
 pub insert-other : (t : List ℕ) (p q j : ℕ) → q < 256 → j ≢ p → setAt (insertAt t (4 * p) q) (4 * j) ≡ setAt t (4 * j)
 unfolding insertAt
 insert-other t p q j l h =
-    words-same _ t (4 * j) (4 * j)
+    sets-by-words _ t (4 * j) (4 * j)
     (λ i m.
     getD-set-other t (4 * p + q / 64) (4 * j + i) _ 0
     (λ e. ⊎-elim (λ (g : 4 * j + 4 ≤ 4 * p). omega arith) (λ (g : 4 * p + 4 ≤ 4 * j). omega arith) (apart j p h)))
@@ -193,4 +201,4 @@ pub entries-put : (t : List ℕ) (n : ℕ) (s : List ℕ) → 4 * n + 4 ≤ leng
 unfolding entries
 entries-put t n s b =
     rw add-one
-    (tabulate-end n _ ∙ ap₂ (λ T S. T ++ S ∷ []) (tabulate-ext n _ _ (λ j l. put-other t n s 0 j (omega arith))) (put t (4 * n) s 0 b))
+    (tabulate-end n _ ∙ ap₂ (λ T S. T ++ S ∷ []) (tabulate-ext n _ _ (λ j l. put-other t n s 0 j (omega arith))) (put-same t (4 * n) s 0 b))

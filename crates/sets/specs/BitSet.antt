@@ -5,7 +5,7 @@ use mathlib.Core.List.{List}
 use lib.Dec.{eqb}
 use lib.ListN.{getD}
 use Rattle.lists.specs.Lists.{tabulate}
-use Rattle.sets.specs.Sets.{Set, pick, Canon}
+use Rattle.sets.specs.Sets.{Set, pick}
 
 unfoldable pub bit : ℕ → ℕ → Bool
 bit w k = eqb (w / 2 ^ k % 2) 1

@@ -8,8 +8,11 @@ ghost use Rattle.sets.specs.Sets.{has, isEmpty, same, nextMember};
 ghost use Rattle.sets.specs.BitSet.{setAt};
 ghost use Rattle.sets.specs.Words.{putWords, insertAt, unionAt, putAt, clearAt};
 
-pub mod closure;
-pub mod lookup;
+mod closure;
+mod lookup;
+
+pub use closure::warshall;
+pub use lookup::find;
 
 // Whether row p has q.
 pub fn has(t: &[u64], p: usize, q: usize) -> bool

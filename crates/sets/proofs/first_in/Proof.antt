@@ -3,7 +3,7 @@ use Prim.Native.Nat.{_*_, _-_, _≤_}
 use mathlib.Core.Path.{_≡_}
 use Rattle.sets.specs.Sets.{nextMember}
 use Rattle.sets.specs.BitSet.{setAt}
-use Rattle.sets.proofs.Scan.{scan}
+use Rattle.sets.proofs.Scan.{scanLaws}
 use Rattle.sets.proofs.first_in.Statement.{statement}
 use Rattle.sets.proofs.first_in.Tie as tie
 
@@ -16,6 +16,6 @@ abbrev μ-loop : tie.MeasureT-loop
 pub first-in-spec : {M : Type 1} → statement M
 first-in-spec =
     tie.close
-    (tie.spec Inv-loop μ-loop (λ c. search scan) (λ c. search scan) (λ c. search scan) (λ c. search scan)
-    (λ c κs. search scan) (λ c. search scan) (λ c. search scan) (λ c. search scan) (λ c. search scan)
-    (λ c. search scan) (λ c. search scan))
+    (tie.spec Inv-loop μ-loop (λ c. search scanLaws) (λ c. search scanLaws) (λ c. search scanLaws) (λ c. search scanLaws)
+    (λ c κs. search scanLaws) (λ c. search scanLaws) (λ c. search scanLaws) (λ c. search scanLaws) (λ c. search scanLaws)
+    (λ c. search scanLaws) (λ c. search scanLaws))

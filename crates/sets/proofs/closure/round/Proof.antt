@@ -3,7 +3,7 @@ use Prim.Native.Nat.{_-_, _≤_}
 use mathlib.Core.Path.{_≡_}
 use lib.ListN.{length}
 use Rattle.sets.specs.Words.{visitRows}
-use Rattle.sets.proofs.Warshall.{rounds}
+use Rattle.sets.proofs.Rounds.{roundLaws}
 use Rattle.sets.proofs.closure.round.Statement.{statement}
 use Rattle.sets.proofs.closure.round.Tie as tie
 
@@ -16,5 +16,5 @@ abbrev μ-loop : tie.MeasureT-loop
 pub round-spec : {M : Type 1} → statement M
 round-spec =
     tie.close
-    (tie.spec Inv-loop μ-loop (λ c. search rounds) (λ c κs. search rounds) (λ c. search rounds) (λ c. search rounds)
-    (λ c. search rounds) (λ c. search rounds) (λ c. search rounds))
+    (tie.spec Inv-loop μ-loop (λ c. search roundLaws) (λ c κs. search roundLaws) (λ c. search roundLaws) (λ c. search roundLaws)
+    (λ c. search roundLaws) (λ c. search roundLaws) (λ c. search roundLaws))

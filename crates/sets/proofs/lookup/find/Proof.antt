@@ -4,7 +4,7 @@ use mathlib.Core.Path.{_≡_}
 use lib.ListN.{drop}
 use Rattle.sets.specs.Sets.{index}
 use Rattle.sets.specs.BitSet.{setAt, entries}
-use Rattle.sets.proofs.Steps.{search-steps, find-next}
+use Rattle.sets.proofs.Steps.{findLaws, find-next}
 use Rattle.sets.proofs.lookup.find.Statement.{statement}
 use Rattle.sets.proofs.lookup.find.Tie as tie
 
@@ -17,7 +17,7 @@ abbrev μ-loop : tie.MeasureT-loop
 pub find-spec : {M : Type 1} → statement M
 find-spec =
     tie.close
-    (tie.spec Inv-loop μ-loop (λ c. search search-steps) (λ c κs. search search-steps) (λ c. search search-steps)
-    (λ c. search search-steps) (λ c. search search-steps)
-    (λ c. let a = c .before .before .before in (search search-steps, find-next _ _ _ _ (a .loop .inv .1) _ (c .before .before .loop-test .taken) (c .before .same .ensures) (c .if1 .left)))
-    (λ c. search search-steps))
+    (tie.spec Inv-loop μ-loop (λ c. search findLaws) (λ c κs. search findLaws) (λ c. search findLaws)
+    (λ c. search findLaws) (λ c. search findLaws)
+    (λ c. let a = c .before .before .before in (search findLaws, find-next _ _ _ _ (a .loop .inv .1) _ (c .before .before .loop-test .taken) (c .before .same .ensures) (c .if1 .left)))
+    (λ c. search findLaws))

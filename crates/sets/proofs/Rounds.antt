@@ -11,16 +11,15 @@ use borrow.Author.Needs.{needs}
 use borrow.Author.Tests.{ltb-true, ltb-false}
 use lib.Dec.{ltb}
 use lib.ListN.{getD, length}
-use Rattle.lists.specs.Lists.{tabulate}
 use Rattle.lists.proofs.Lists.{tabulate-ext, map-tabulate}
 use Rattle.lists.proofs.Tests.{test}
 use Rattle.sets.specs.Sets.{Set, has, pick, Canon}
 use Rattle.sets.specs.BitSet.{setAt, entries}
 use Rattle.sets.specs.Words.{unionAt, visitRow, visitRows, closeRows}
 use Rattle.sets.specs.Closure.{through, closed}
-use Rattle.sets.proofs.Sets.{pick-ext, pick-canon, union-wide}
+use Rattle.sets.proofs.Sets.{pick-ext, pick-canon}
 use Rattle.sets.proofs.BitSet.{entry-at}
-use Rattle.sets.proofs.Stores.{length-union, unioned, union-other}
+use Rattle.sets.proofs.Stores.{length-union, unioned-below, union-other}
 
 -- what the loops need
 pub visit-done : (t u : List ℕ) (k p : ℕ) (b : Bool) → b ≡ has k (setAt t (4 * p)) → b ≡ true → u ≡ unionAt t (4 * p) t (4 * k) → u ≡ visitRow t k p
@@ -71,10 +70,10 @@ close-next t₀ t u n k e q = rw add-one (q ∙ ap (λ x. visitRows x k n) e)
 pub close-all : (t₀ t : List ℕ) (n k : ℕ) → t ≡ closeRows t₀ n k → k ≤ n → n ≤ k → t ≡ closeRows t₀ n n
 close-all t₀ t n k e l u = e ∙ ap (closeRows t₀ n) (omega arith)
 
-pub ruleset rounds = (visit-done, visit-not, visits-none, visits-next, visits-all, close-none, close-next, close-all, length-visit, length-visits, needs)
+pub ruleset roundLaws = (visit-done, visit-not, visits-none, visits-next, visits-all, close-none, close-next, close-all, length-visit, length-visits, needs)
 
 -- a row that takes in itself stays as it is
-through-self : (n k : ℕ) (K : Set) → Canon n K → through n k K K ≡ K
+pub through-self : (n k : ℕ) (K : Set) → Canon n K → through n k K K ≡ K
 unfolding through
 through-self n k K c = go (has k K)
   where
@@ -86,7 +85,7 @@ through-self n k K c = go (has k K)
     go true = pick-ext 0 n _ _ (λ q l. or-same (has q K)) ∙ c
     go false = refl
 
-through-canon : (n k : ℕ) (K R : Set) → Canon n R → Canon n (through n k K R)
+pub through-canon : (n k : ℕ) (K R : Set) → Canon n R → Canon n (through n k K R)
 unfolding through
 through-canon n k K R c = go (has k R)
   where
@@ -111,7 +110,7 @@ module _ (n k : ℕ) (small : n ≤ 256) where
   visit-row t p b cp ck = go (has k (row t p))
     where
       go : (c : Bool) → row (cond c (unionAt t (4 * p) t (4 * k)) t) p ≡ cond c (pick n (λ q. has q (row t p) || has q (row t k))) (row t p)
-      go true = unioned t (4 * p) t (4 * k) b ∙ union-wide n 256 (row t p) (row t k) small cp ck
+      go true = unioned-below t (4 * p) t (4 * k) n small b cp ck
       go false = refl
 
   -- the rows of n states after the first m of a round
