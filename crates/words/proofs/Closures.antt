@@ -3,7 +3,7 @@ use Prim.Native.Nat.{ℕ, zero, suc, _+_, _≤_, _<_}
 use mathlib.Core.Bool.{Bool, true, false, cond, _||_}
 use mathlib.Core.List.{List, [], _∷_, _++_, map}
 use mathlib.Core.Logic.{_⊎_, inl, inr, ⊎-elim, _↔_}
-use mathlib.Core.Path.{_≡_, refl, ap, subst}
+use mathlib.Core.Path.{_≡_, refl, sym, ap, subst}
 use native.Mathlib.Nat.{eq-or-lt-of-le, le-refl}
 use native.Mathlib.Omega.{arith}
 use borrow.Author.Tests.{eq-eqb, eqb-true}
@@ -13,9 +13,10 @@ use Rattle.lists.specs.Lists.{_∈_, any, tabulate}
 use Rattle.lists.proofs.Lists.{any-out, any-in, tabulate-at}
 use Rattle.lists.proofs.Tests.{test, or-cases, or-left, or-right, and-both, and-parts}
 use Rattle.automata.specs.Automaton.{Transition, Automaton, Run, stay, skip, read, InBounds}
-use Rattle.sets.specs.Sets.{Set, has, pick}
+use Rattle.sets.specs.Sets.{Set, has, pick, Canon}
 use Rattle.sets.specs.Closure.{through, closed}
-use Rattle.sets.proofs.Sets.{picked, pick-out}
+use Rattle.sets.proofs.Sets.{picked, pick-out, pick-canon}
+use Rattle.sets.proofs.Rounds.{through-canon}
 use Rattle.words.specs.Simulation.{isEpsilon, epsilonRow, closures, closure}
 
 -- runs compose
@@ -137,3 +138,13 @@ module _ (A : Automaton) (ok : InBounds A) where
       on-trans (A .size) p (e .to) q (le-refl _) t (run-bound t r)
       (on-lift (A .size) p (e .to) t (on-zero p (e .to) l t (or-right (eqb p (e .to)) _ (any-in (isEpsilon p (e .to)) m (isEpsilon-in p (e .to) e k f refl)))))
       (closure-complete t r)
+
+  -- a closure is a set of states
+  rows-canon : (k p : ℕ) → p < A .size → Canon (A .size) (getD (rows A k) p [])
+  unfolding rows closed epsilonRow
+  rows-canon zero p l = rw (tabulate-at (A .size) (epsilonRow A) p [] l) (pick-canon (A .size) _)
+  rows-canon (suc k) p l = subst (Canon (A .size)) (sym (row k p)) (through-canon (A .size) k _ _ (rows-canon k p l))
+
+  pub closure-canon : (p : ℕ) → p < A .size → Canon (A .size) (closure A p)
+  unfolding closure closures rows
+  closure-canon p l = rows-canon (A .size) p l

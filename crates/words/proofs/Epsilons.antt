@@ -25,7 +25,7 @@ use Rattle.sets.specs.Words.{insertAt, closeRows}
 use Rattle.sets.proofs.Sets.{has-pick, pick-ext, pick-canon, has-nil, wide}
 use Rattle.sets.proofs.BitSet.{at-canon, fresh-at}
 use Rattle.sets.proofs.Stores.{inserted, insert-other, length-insert}
-use Rattle.sets.proofs.Warshall.{rounds-closed}
+use Rattle.sets.proofs.Rounds.{rounds-closed}
 use Rattle.sheets.specs.Accepted.{Accepted}
 use Rattle.sheets.specs.Sheet.{stateCount, recordsAt, read}
 use Rattle.sheets.proofs.Meaning.{read-well}

@@ -3,16 +3,25 @@ use Prim.Native.Nat.{ℕ, zero, suc, _+_, _≤_, _<_}
 use mathlib.Core.Bool.{Bool, true, false, cond, false≢true}
 use mathlib.Core.List.{List, [], _∷_}
 use mathlib.Core.Logic.{_⊎_, inl, inr, ⊎-elim}
-use mathlib.Core.Path.{_≡_, refl, sym, _∙_}
+use mathlib.Core.Path.{_≡_, refl, sym, _∙_, ap}
 use native.Mathlib.Nat.{le-refl}
 use native.Mathlib.Omega.{arith}
-use borrow.Author.Tests.{eq-eqb, eqb-true, leb-true, ne-eqb, eqb-false, leb-false}
+use borrow.Author.Needs.{needs}
+use borrow.Author.Tests.{eq-eqb, eqb-true, leb-true, ne-eqb, eqb-false, leb-false, le-leb, lt-leb}
 use lib.Dec.{eqb, leb}
-use lib.ListN.{getD}
+use lib.ListN.{getD, drop, length}
+use lib.Seq.{getD-take, getD-drop}
 use Rattle.lists.proofs.Tests.{test, or-cases, or-left, or-right}
 use Rattle.automata.specs.Automaton.{Automaton}
-use Rattle.sets.specs.Sets.{Set, has}
+use Rattle.sets.specs.Sets.{Set, has, Canon, membersFrom, nextMember}
+use Rattle.sets.specs.BitSet.{setAt}
+use Rattle.sets.proofs.Sets.{has-below}
+use Rattle.sets.proofs.BitSet.{at-canon}
+use Rattle.sets.proofs.Members.{visit-start, visit-has, visit-next, from-end}
+use Rattle.sheets.specs.Accepted.{Accepted}
+use Rattle.sheets.specs.Sheet.{stateCount, read}
 use Rattle.words.specs.Simulation.{least, kindOf}
+use Rattle.words.proofs.Visiting.{member-here, member-later}
 
 -- the lesser kind, where one is not 0
 least-left : (a b : ℕ) → 0 < a → (0 < least a b) × (least a b ≤ a)
@@ -74,3 +83,70 @@ module _ (A : Automaton) where
       let r = kindOf-some S (rw e at h) in
       (r .0, or-right (eqb (r .0) x) _ (r .1), r .2 ∙ sym e))
       (least-one (getD (A .accept) x 0) (kindOf A S))
+
+-- the lesser of three, in either order
+least-zero : (a : ℕ) → least a 0 ≡ a
+unfolding least
+least-zero zero = refl
+least-zero (suc a) = rw (ne-eqb (suc a) 0 (λ e. omega arith))
+
+least-first : (a b : ℕ) → 0 < a → a ≤ b → least a b ≡ a
+unfolding least
+least-first a b h l = rw (ne-eqb a 0 (λ e. omega arith), ne-eqb b 0 (λ e. omega arith), le-leb a b l)
+
+least-second : (a b : ℕ) → 0 < b → b ≤ a → least a b ≡ b
+least-second a b h l = ⊎-elim (λ t. let e : a ≤ b = leb-true a b t in let c : a ≡ b = omega arith in rw c (least-first b b h (le-refl b))) (λ t. strict (leb-false a b t)) (test (leb a b))
+  where
+    strict : b < a → least a b ≡ b
+    strict k = unfold least in rw (ne-eqb a 0 (λ e. omega arith), ne-eqb b 0 (λ e. omega arith), lt-leb a b k)
+
+pub least-assoc : (a b c : ℕ) → least (least a b) c ≡ least a (least b c)
+least-assoc zero b c = unfold least in refl
+least-assoc (suc a) zero c = ap (λ x. least x c) (least-zero (suc a)) ∙ ap (least (suc a)) (unfold least in refl)
+least-assoc (suc a) (suc b) zero = least-zero _ ∙ ap (least (suc a)) (sym (least-zero (suc b)))
+least-assoc (suc a) (suc b) (suc c) = go (test (leb a b)) (test (leb b c))
+  where
+    go : (leb a b ≡ true) ⊎ (leb a b ≡ false) → (leb b c ≡ true) ⊎ (leb b c ≡ false) → least (least (suc a) (suc b)) (suc c) ≡ least (suc a) (least (suc b) (suc c))
+    go (inl x) (inl y) =
+        let m : a ≤ b = leb-true a b x in
+        let n : b ≤ c = leb-true b c y in
+        rw (least-first (suc a) (suc b) (omega arith) (omega arith), least-first (suc b) (suc c) (omega arith) (omega arith), least-first (suc a) (suc b) (omega arith) (omega arith)) (least-first (suc a) (suc c) (omega arith) (omega arith))
+    go (inl x) (inr y) =
+        let m : a ≤ b = leb-true a b x in
+        let n : c < b = leb-false b c y in
+        rw (least-first (suc a) (suc b) (omega arith) (omega arith), least-second (suc b) (suc c) (omega arith) (omega arith)) refl
+    go (inr x) (inl y) =
+        let m : b < a = leb-false a b x in
+        let n : b ≤ c = leb-true b c y in
+        rw (least-second (suc a) (suc b) (omega arith) (omega arith), least-first (suc b) (suc c) (omega arith) (omega arith)) (sym (least-second (suc a) (suc b) (omega arith) (omega arith)))
+    go (inr x) (inr y) =
+        let m : b < a = leb-false a b x in
+        let n : c < b = leb-false b c y in
+        rw (least-second (suc a) (suc b) (omega arith) (omega arith), least-second (suc b) (suc c) (omega arith) (omega arith)) (sym (least-second (suc a) (suc c) (omega arith) (omega arith)))
+
+-- the members of a set that the code holds, one after the other
+module _ (s set : List ℕ) (a : Accepted s) where
+  pub kind-begins : (q : ℕ) → q ≡ nextMember (setAt set 0) 0 → least 0 (kindOf (read s) (membersFrom q (setAt set 0))) ≡ kindOf (read s) (setAt set 0)
+  unfolding least
+  kind-begins q e = ap (kindOf (read s)) (visit-start (setAt set 0) (at-canon set 0) q e)
+
+  member-word : (q : ℕ) → q < stateCount s → getD (read s .accept) q 0 ≡ getD s (q + 3) 0
+  member-word q l = getD-take (stateCount s) (drop 3 s) q 0 l ∙ getD-drop 3 s q 0 ∙ ap (λ k. getD s k 0) (omega arith)
+
+  module _ (n : Canon (stateCount s) (setAt set 0)) (q : ℕ) (h : q ≡ nextMember (setAt set 0) q) (l : q < 256) where
+    pub kind-inside : q + 3 < length s
+    kind-inside = let b = has-below (stateCount s) (setAt set 0) n q (visit-has (setAt set 0) (at-canon set 0) q h l) in omega (arith, a .whole)
+
+    pub kind-next : (b m x : ℕ) → least b (kindOf (read s) (membersFrom q (setAt set 0))) ≡ kindOf (read s) (setAt set 0) → m ≡ least b (getD s (q + 3) 0) → x ≡ nextMember (setAt set 0) (q + 1)
+        → least m (kindOf (read s) (membersFrom x (setAt set 0))) ≡ kindOf (read s) (setAt set 0)
+    unfolding kindOf
+    kind-next b m x i e k =
+        let w = member-word q (has-below (stateCount s) (setAt set 0) n q (visit-has (setAt set 0) (at-canon set 0) q h l)) in
+        ap (λ y. least y (kindOf (read s) (membersFrom x (setAt set 0)))) (e ∙ ap (least b) (sym w)) ∙ least-assoc b _ _
+        ∙ ap (λ R. least b (kindOf (read s) R)) (sym (visit-next (setAt set 0) (at-canon set 0) q x h l k)) ∙ i
+
+  pub kind-ended : (q b : ℕ) → least b (kindOf (read s) (membersFrom q (setAt set 0))) ≡ kindOf (read s) (setAt set 0) → 256 ≤ q → b ≡ kindOf (read s) (setAt set 0)
+  unfolding kindOf
+  kind-ended q b i h = sym (least-zero b) ∙ ap (λ R. least b (kindOf (read s) R)) (sym (from-end (setAt set 0) (at-canon set 0) q h)) ∙ i
+
+pub ruleset kindLaws = (kind-begins, kind-inside, kind-next, kind-ended, member-here, member-later, needs)

@@ -1,4 +1,5 @@
 -- The laws of closures, steps and acceptance.
+pub mod Visiting
 pub mod Kind
 pub mod Closures
 pub mod Simulation

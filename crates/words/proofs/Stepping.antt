@@ -21,7 +21,7 @@ use Rattle.sets.specs.Words.{clearAt}
 use Rattle.sets.proofs.Sets.{has-pick, pick-ext, pick-canon, mem-has, has-mem, has-nil, has-below, wide}
 use Rattle.sets.proofs.BitSet.{at-canon, entry-at}
 use Rattle.sets.proofs.Stores.{cleared}
-use Rattle.sets.proofs.Members.{visit-start, visit-here, visit-has, visit-next, from-end, next-above}
+use Rattle.sets.proofs.Members.{visit-start, visit-has, visit-next, from-end}
 use Rattle.sheets.specs.Accepted.{Accepted}
 use Rattle.sheets.specs.Runs.{Indexed, RunAt}
 use Rattle.sheets.specs.Sheet.{stateCount, read}
@@ -29,6 +29,7 @@ use Rattle.sheets.proofs.Meaning.{read-well}
 use Rattle.sheets.proofs.Runs.{run-at}
 use Rattle.words.specs.Simulation.{closures, closure, outgoing, step}
 use Rattle.words.specs.Gather.{takes, reaches, gathered, Targets, Tables, withReached, withAll}
+use Rattle.words.proofs.Visiting.{member-here, member-later}
 use Rattle.words.proofs.Gather.{all-none, all-cons, all-one}
 use Rattle.words.proofs.Closures.{closure-sound, run-bound}
 
@@ -134,12 +135,5 @@ module _ (s starts c : List ℕ) (t : Tables s starts c) (a : ℕ) where
     unfolding withReached
     step-ended q u i l =
         sym (all-none (reaches (read s) a) (setAt u 0) (at-canon u 0)) ∙ ap (withReached (read s) a u) (sym (from-end (setAt cur 0) (at-canon cur 0) q l)) ∙ i
-
--- a member that a visit stands at is found again from itself
-pub member-here : (cur : List ℕ) (p q : ℕ) → q ≡ nextMember (setAt cur 0) p → q ≡ nextMember (setAt cur 0) q
-member-here cur p q e = visit-here (setAt cur 0) (at-canon cur 0) p q e
-
-pub member-later : (cur : List ℕ) (q x : ℕ) → q < 256 → x ≡ nextMember (setAt cur 0) (q + 1) → 256 - x < 256 - q
-member-later cur q x l e = let a = next-above (setAt cur 0) (at-canon cur 0) (q + 1) (omega arith) in omega arith
 
 pub ruleset stepLaws = (step-run, step-targets, step-begins, step-next, step-ended, member-here, member-later, needs)

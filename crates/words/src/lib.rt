@@ -10,7 +10,7 @@ ghost use Rattle.sets.specs.BitSet.{setAt, entries};
 ghost use Rattle.sets.specs.Sets.{Canon};
 ghost use Rattle.sheets.specs.Sheet.{stateCount, read};
 ghost use Rattle.words.specs.Gather.{gathered, Targets, Tables};
-ghost use Rattle.words.specs.Simulation.{step, closures};
+ghost use Rattle.words.specs.Simulation.{step, closures, least, kindOf};
 ghost use Rattle.words.specs.Epsilons.{Fresh, SelvesAdded, Named, EpsilonsAdded};
 ghost use Rattle.sheets.specs.Accepted.{Accepted};
 
@@ -57,7 +57,7 @@ pub fn state_closures(s: &[u32], rows: &mut [u64])
     let n = s[2] as usize;
     add_selves(rows, n);
     add_epsilons(&s[n + 4..], rows);
-    sets::closure::warshall(rows, n);
+    sets::warshall(rows, n);
 }
 
 // next takes in the closure of the target of the record r, if that is a range that holds the symbol.
@@ -107,4 +107,34 @@ pub fn step(
         follow(sheets::run(s, starts, q as u32), symbol, closures, next);
         q = sets::next_member(current, q + 1);
     }
+}
+
+// The smaller of two accept words that is not 0, or 0.
+fn least(a: u32, b: u32) -> u32
+    ensures { λ r. ⌜ r ≡ least a b ⌝ }
+{
+    if a == 0 {
+        return b;
+    }
+    if b == 0 {
+        return a;
+    }
+    if a <= b {
+        return a;
+    }
+    b
+}
+
+// The least nonzero accept word among the states of a set, or 0.
+pub fn kind_of(s: &[u32], set: &[u64]) -> u32
+    requires { ⌜ Accepted (now s) × Canon (stateCount (now s)) (setAt (now set) 0) × (4 ≤ length (now set)) ⌝ }
+    ensures { λ r. ⌜ r ≡ kindOf (read (now (s .entry))) (setAt (now (set .entry)) 0) ⌝ }
+{
+    let mut kind: u32 = 0;
+    let mut q = sets::next_member(set, 0);
+    while q < 256 {
+        kind = least(kind, s[q + 3]);
+        q = sets::next_member(set, q + 1);
+    }
+    kind
 }
