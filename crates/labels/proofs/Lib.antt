@@ -1,0 +1,3 @@
+-- The laws of label lists.
+pub mod Labels
+pub mod Checking
