@@ -1,5 +1,5 @@
 -- The laws in the shape of what the check asks.
-use Prim.Native.Nat.{ℕ, zero, suc, _+_, _-_, _*_, _≤_, _<_}
+use Prim.Native.Nat.{ℕ, zero, suc, _+_, _-_, _*_, _/_, _%_, _≤_, _<_}
 use mathlib.Core.Bool.{Bool, true, false, cond, _&&_}
 use mathlib.Core.List.{List, [], _∷_}
 use mathlib.Core.Path.{_≡_, refl, sym, _∙_, ap}
@@ -65,19 +65,24 @@ module _ (n : ℕ) (b : List ℕ) where
   unfolding labelsFault labelsOk
   fault-short h = sym (rw (lt-leb 2 (length b) h))
 
-  module _ (low high : ℕ) (d : low ≡ getD b 0 0) (f : high ≡ getD b 1 0) (h : 2 ≤ length b) where
-    pub fault-count : (low + 256 * high ≡ n → ⊥) → 10 ≡ labelsFault n b
+  module _ (low : ℕ) (d : low ≡ getD b 0 0) (h : 2 ≤ length b) where
+    pub fault-low : (low ≡ n % 256 → ⊥) → 10 ≡ labelsFault n b
     unfolding labelsFault labelsOk
-    fault-count p = sym (rw (le-leb 2 (length b) h, ← d, ← f, ne-eqb (low + 256 * high) n p))
+    fault-low p = sym (rw (le-leb 2 (length b) h, ← d, ne-eqb low (n % 256) p))
 
-    fault-entries : (r : Bool) → low + 256 * high ≡ n → r ≡ entriesOk n (drop 2 b) → labelsFault n b ≡ cond r 0 10
-    unfolding labelsFault labelsOk
-    fault-entries r p q = rw (le-leb 2 (length b) h, ← d, ← f, eq-eqb (low + 256 * high) n p, ← q)
+    module _ (high : ℕ) (f : high ≡ getD b 1 0) (p : low ≡ n % 256) where
+      pub fault-high : (high ≡ n / 256 → ⊥) → 10 ≡ labelsFault n b
+      unfolding labelsFault labelsOk
+      fault-high q = sym (rw (le-leb 2 (length b) h, ← d, ← f, eq-eqb low (n % 256) p, ne-eqb high (n / 256) q))
 
-    pub fault-none : (r : Bool) → low + 256 * high ≡ n → r ≡ entriesOk n (drop 2 b) → r ≡ true → 0 ≡ labelsFault n b
-    fault-none r p q t = sym (fault-entries r p q ∙ rw t)
+      fault-entries : (r : Bool) → high ≡ n / 256 → r ≡ entriesOk n (drop 2 b) → labelsFault n b ≡ cond r 0 10
+      unfolding labelsFault labelsOk
+      fault-entries r q e = rw (le-leb 2 (length b) h, ← d, ← f, eq-eqb low (n % 256) p, eq-eqb high (n / 256) q, ← e)
 
-    pub fault-some : (r : Bool) → low + 256 * high ≡ n → r ≡ entriesOk n (drop 2 b) → r ≡ false → 10 ≡ labelsFault n b
-    fault-some r p q t = sym (fault-entries r p q ∙ rw t)
+      pub fault-none : (r : Bool) → high ≡ n / 256 → r ≡ entriesOk n (drop 2 b) → r ≡ true → 0 ≡ labelsFault n b
+      fault-none r q e t = sym (fault-entries r q e ∙ rw t)
 
-pub ruleset faultLaws = (fault-short, fault-count, fault-none, fault-some, needs)
+      pub fault-some : (r : Bool) → high ≡ n / 256 → r ≡ entriesOk n (drop 2 b) → r ≡ false → 10 ≡ labelsFault n b
+      fault-some r q e t = sym (fault-entries r q e ∙ rw t)
+
+pub ruleset faultLaws = (fault-short, fault-low, fault-high, fault-none, fault-some, needs)

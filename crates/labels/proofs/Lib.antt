@@ -1,3 +1,4 @@
 -- The laws of label lists.
 pub mod Labels
 pub mod Checking
+pub mod Places

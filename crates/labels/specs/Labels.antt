@@ -43,9 +43,9 @@ entriesOk zero (x ∷ b) = false
 entriesOk (suc k) [] = false
 entriesOk (suc k) (l ∷ b) = leb 1 l && (leb l 64 && (leb l (length b) && entriesOk k (drop l b)))
 
--- the list has a count, it is n, and n labels follow
+-- the list begins with the count n, and n labels follow
 unfoldable pub labelsOk : ℕ → List ℕ → Bool
-labelsOk n b = leb 2 (length b) && (eqb (labelCount b) n && entriesOk n (drop 2 b))
+labelsOk n b = leb 2 (length b) && (eqb (getD b 0 0) (n % 256) && (eqb (getD b 1 0) (n / 256) && entriesOk n (drop 2 b)))
 
 -- the fault of the bytes b as the labels of n states: every fault is 10
 unfoldable pub labelsFault : ℕ → List ℕ → ℕ

@@ -2,8 +2,9 @@
 use refusal::InputRefusal;
 ghost use mathlib.Core.Path.{_≡_};
 ghost use Prim.Native.Nat.{_+_, _*_, _≤_, _<_};
-ghost use lib.ListN.{length, getD, drop};
-ghost use Rattle.labels.specs.Labels.{entriesOk, labelsFault};
+ghost use mathlib.Core.List.{[]};
+ghost use lib.ListN.{length, getD, take, drop};
+ghost use Rattle.labels.specs.Labels.{entriesOk, labelsFault, LabelList, labelCount, labelPlace, readLabels};
 ghost use Rattle.labels.specs.Checked.{checkedNumber};
 
 pub enum Checked {
@@ -54,12 +55,59 @@ pub fn check(n: usize, b: &[u8]) -> Checked
     if b.len() < 2 {
         return Checked::Refused(InputRefusal::Labels);
     }
-    let count = wide(b[0]) + 256 * wide(b[1]);
-    if count != n {
+    let low = wide(b[0]);
+    if low != n % 256 {
+        return Checked::Refused(InputRefusal::Labels);
+    }
+    let high = wide(b[1]);
+    if high != n / 256 {
         return Checked::Refused(InputRefusal::Labels);
     }
     if entries_ok(n, b) {
         return Checked::Accepted;
     }
     Checked::Refused(InputRefusal::Labels)
+}
+
+// The place behind the label whose length stands at at: where the length of the next one stands.
+pub fn next_label(b: &[u8], at: usize) -> usize
+    requires { ⌜ at < length (now b) ⌝ }
+    ensures { λ r. ⌜ r ≡ at + 1 + getD (now (b .entry)) at 0 ⌝ }
+{
+    at + 1 + wide(b[at])
+}
+
+// The label whose length stands at at.
+pub fn label_from(b: &[u8], at: usize) -> &[u8]
+    requires { ⌜ at + 1 + getD (now b) at 0 ≤ length (now b) ⌝ }
+    ensures { λ r. ⌜ now r ≡ take (getD (now (b .entry)) at 0) (drop (at + 1) (now (b .entry))) ⌝ }
+{
+    let first = at + 1;
+    let end = first + wide(b[at]);
+    &b[first..end]
+}
+
+// The place where the length of label i stands.
+pub fn label_at(b: &[u8], i: usize) -> usize
+    requires { ⌜ LabelList (now b) ⌝ }
+    requires { ⌜ i < labelCount (now b) ⌝ }
+    ensures { λ r. ⌜ r ≡ labelPlace (now (b .entry)) i ⌝ }
+{
+    let mut at: usize = 2;
+    let mut j = 0;
+    while j < i {
+        at = next_label(b, at);
+        j += 1;
+    }
+    at
+}
+
+// Label i of an accepted list.
+pub fn label(b: &[u8], i: usize) -> &[u8]
+    requires { ⌜ LabelList (now b) ⌝ }
+    requires { ⌜ i < labelCount (now b) ⌝ }
+    ensures { λ r. ⌜ now r ≡ getD (readLabels (now (b .entry))) i [] ⌝ }
+{
+    let at = label_at(b, i);
+    label_from(b, at)
 }
