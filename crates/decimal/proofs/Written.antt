@@ -24,6 +24,10 @@ written-append l m n v w i j k p q =
       behind = omega (arith, p .behind, q .behind, length-append v w);
     }
 
+-- a run behind one element
+pub written-cons : (l m n w : List ℕ) (i j k x : ℕ) → Written l i (x ∷ []) m j → Written m j w n k → Written l i (x ∷ w) n k
+written-cons l m n w i j k x p q = written-append l m n (x ∷ []) w i j k p q
+
 -- one element behind a run
 pub written-more : (l m v : List ℕ) (i j x : ℕ) → Written l i v m j → Written l i (v ++ x ∷ []) (set m j x) (j + 1)
 written-more l m v i j x p = written-append l m (set m j x) v (x ∷ []) i j (j + 1) p (written-one m j x)

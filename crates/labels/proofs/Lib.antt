@@ -2,3 +2,5 @@
 pub mod Labels
 pub mod Checking
 pub mod Places
+pub mod Same
+pub mod Putting

@@ -13,6 +13,9 @@ use borrow.Author.Needs.{needs}
 use borrow.Author.Tests.{ltb-true, ltb-false}
 use Rattle.lists.proofs.Parts.{drop-at}
 use Rattle.labels.specs.Labels.{labelCount, readEntries, readLabels, entriesOk, LabelList, labelPlace, labelsFault}
+use Rattle.labels.specs.Checked.{checkedNumber}
+use Rattle.labels.specs.declared.Checked.{Checked}
+use Rattle.labels.specs.declared.Checked.the-variants.{Accepted}
 use Rattle.labels.proofs.Labels.{first, count-read, label-list}
 
 -- what is known at a place where one label and then k more stand
@@ -119,3 +122,20 @@ pub found-label : (b l : List ℕ) (i at : ℕ) → at ≡ labelPlace b i → La
 found-label b l i at e a h d = d ∙ rw e (place-label b i a h)
 
 pub ruleset placeLaws = (place-first, part-label, seek-inside, seek-next, seek-found, found-whole, found-label, needs)
+
+-- for callers of `label` and `label_at`: what they require, from an accepted list of n labels, or from the answer r of the check
+module _ (n : ℕ) (b : List ℕ) where
+  pub within-count : (i : ℕ) → labelsFault n b ≡ 0 → i < n → i < labelCount b
+  within-count i h g = rw (count-read n b h) g
+
+  module _ (r : Checked) (e : checkedNumber r ≡ labelsFault n b) (p : r ≡ Accepted) where
+    pub accepted-none : labelsFault n b ≡ 0
+    accepted-none = sym e ∙ ap checkedNumber p
+
+    pub accepted-list : LabelList b
+    accepted-list = label-list n b accepted-none
+
+    pub accepted-within : (i : ℕ) → i < n → i < labelCount b
+    accepted-within i g = within-count i accepted-none g
+
+pub ruleset acceptedLaws = (label-list, within-count, accepted-none, accepted-list, accepted-within, needs)
