@@ -100,9 +100,9 @@ module _ (n : ℕ) (b : List ℕ) (h : labelsFault n b ≡ 0) where
   pub count-read : labelCount b ≡ n
   count-read = omega (arith, sound n b h .low, sound n b h .high)
 
-  -- what a function may assume of it
+  -- it is an accepted list
   pub label-list : LabelList b
-  label-list = record { counted = sound n b h .counted; entries = rw count-read (sound n b h .entries) }
+  label-list = record { accepted = rw count-read h }
 
   -- it has n labels
   pub length-read : length (readLabels b) ≡ n
@@ -118,6 +118,10 @@ module _ (n : ℕ) (b : List ℕ) (h : labelsFault n b ≡ 0) where
   pub labels-read : AllLabels (readLabels b)
   unfolding readLabels
   labels-read = rw count-read (labels-read-entries n (drop 2 b) (sound n b h .entries))
+
+  -- it has at most 65 bytes a label
+  pub size-read : length b ≤ 2 + 65 * n
+  size-read = omega (arith, size-entries labels-read, ap length entries-read, length-drop 2 b, length-read)
 
   -- written again it is the same list
   pub write-read : writeLabels (readLabels b) ≡ b

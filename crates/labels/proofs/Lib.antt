@@ -4,3 +4,4 @@ pub mod Checking
 pub mod Places
 pub mod Same
 pub mod Putting
+pub mod Whole

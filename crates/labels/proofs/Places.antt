@@ -16,7 +16,7 @@ use Rattle.labels.specs.Labels.{labelCount, readEntries, readLabels, ent
 use Rattle.labels.specs.Checked.{checkedNumber}
 use Rattle.labels.specs.declared.Checked.{Checked}
 use Rattle.labels.specs.declared.Checked.the-variants.{Accepted}
-use Rattle.labels.proofs.Labels.{first, count-read, label-list}
+use Rattle.labels.proofs.Labels.{first, sound, count-read, label-list}
 
 -- what is known at a place where one label and then k more stand
 pub record Here (b : List ℕ) (p k : ℕ) : Type 0 where
@@ -53,7 +53,7 @@ record From (b : List ℕ) (i k : ℕ) : Type 0 where
 
 from : (b : List ℕ) → LabelList b → (i k : ℕ) → labelCount b ≡ i + k → From b i k
 unfolding labelPlace readLabels
-from b a zero k e = let c : labelCount b ≡ k = omega arith in record { within = a .counted; ok = rw c at (a .entries); read = ap (λ j. readEntries j (drop 2 b)) c }
+from b a zero k e = let c : labelCount b ≡ k = omega arith in let s = sound (labelCount b) b (a .accepted) in record { within = s .counted; ok = rw c at (s .entries); read = ap (λ j. readEntries j (drop 2 b)) c }
 from b a (suc i) k e =
     let f = from b a i (suc k) (omega arith) in
     let h = here k (labelPlace b i) b (f .ok) in

@@ -51,10 +51,9 @@ labelsOk n b = leb 2 (length b) && (eqb (getD b 0 0) (n % 256) && (eqb (getD b 1
 unfoldable pub labelsFault : ℕ → List ℕ → ℕ
 labelsFault n b = cond (labelsOk n b) 0 10
 
--- what a function may assume of bytes that were accepted as a label list
+-- an accepted list: one without a fault as the labels of as many states as it announces
 pub record LabelList (b : List ℕ) : Type 0 where
-  pub counted : 2 ≤ length b
-  pub entries : entriesOk (labelCount b) (drop 2 b) ≡ true
+  pub accepted : labelsFault (labelCount b) b ≡ 0
 
 -- where the length of label i stands: the first behind the count, each other behind the label before it
 unfoldable pub labelPlace : List ℕ → ℕ → ℕ

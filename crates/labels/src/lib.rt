@@ -224,3 +224,40 @@ pub fn put_pair(out: &mut [u8], at: usize, p: u32, q: u32) -> usize
     let end = put_byte(out, second, b')');
     put_length(out, at, end)
 }
+
+// Writes the list of the n labels D0, D1 and so on.
+pub fn write_numbered(out: &mut [u8], n: usize) -> usize
+    requires { ⌜ 16642 ≤ length (now out) ⌝ }
+    requires { ⌜ n ≤ 256 ⌝ }
+    ensures { λ r. ⌜ Written (now (out .entry)) 0 (writeLabels (numbered n)) (now (out .exit)) r ⌝ }
+{
+    let mut at = put_count(out, n);
+    let mut k = 0;
+    while k < n {
+        at = put_numbered(out, at, k as u32);
+        k += 1;
+    }
+    at
+}
+
+// Writes the labels of an accepted list of n, and then the label `sink`.
+pub fn copy_with_sink(out: &mut [u8], b: &[u8], n: usize) -> usize
+    requires { ⌜ 16642 ≤ length (now out) ⌝ }
+    requires { ⌜ labelsFault n (now b) ≡ 0 ⌝ }
+    requires { ⌜ n < 256 ⌝ }
+    ensures { λ r. ⌜ Written (now (out .entry)) 0 (writeLabels (readLabels (now (b .entry)) ++ sinkLabel ∷ [])) (now (out .exit)) r ⌝ }
+{
+    let first = put_count(out, n + 1);
+    let behind = copy(out, first, &b[2..]);
+    put_sink(out, behind)
+}
+
+// Writes an accepted list again.
+pub fn copy_all(out: &mut [u8], b: &[u8]) -> usize
+    requires { ⌜ 16642 ≤ length (now out) ⌝ }
+    requires { ⌜ LabelList (now b) ⌝ }
+    requires { ⌜ labelCount (now b) ≤ 256 ⌝ }
+    ensures { λ r. ⌜ Written (now (out .entry)) 0 (writeLabels (readLabels (now (b .entry)))) (now (out .exit)) r ⌝ }
+{
+    copy(out, 0, b)
+}
