@@ -1,7 +1,6 @@
 -- The laws in the shape of what the recursion of `put_digits` asks: l is the memory before, m after the digits of the tenth.
 use Prim.Native.Nat.{ℕ, _+_, _/_, _%_, _^_, _≤_, _<_}
 use mathlib.Core.List.{List}
-use mathlib.Core.Path.{_≡_, ap, subst, sym}
 use native.Mathlib.Omega.{arith}
 use lib.ListN.{length, set}
 use mir.Syntax.{w64}
@@ -9,7 +8,7 @@ use mir.Val.{Fits}
 use borrow.Author.Needs.{needs}
 use Rattle.decimal.specs.Decimal.{digits}
 use Rattle.decimal.specs.Written.{Written}
-use Rattle.decimal.proofs.Decimal.{digits-one, digits-more, length-one, length-more, length-some, length-word}
+use Rattle.decimal.proofs.Decimal.{digits-one, digits-more, length-more, length-some, length-word}
 use Rattle.decimal.proofs.Written.{written-one, written-more, written-length}
 
 module _ (l : List ℕ) (at x : ℕ) where

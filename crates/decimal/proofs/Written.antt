@@ -1,11 +1,11 @@
 -- Laws of written memory: one run behind another is one run, and lengths are kept.
-use Prim.Native.Nat.{ℕ, suc, _+_, _≤_, _<_}
+use Prim.Native.Nat.{ℕ, _+_}
 use mathlib.Core.List.{List, [], _∷_, _++_}
-use mathlib.Core.Path.{_≡_, refl, sym, _∙_, ap}
+use mathlib.Core.Path.{_≡_, refl, _∙_, ap}
 use native.Mathlib.Omega.{arith}
 use lib.ListN.{length, set, length-append}
 use lib.Seq.{sets, length-sets}
-use Rattle.lists.proofs.Parts.{sets-append, sets-one}
+use Rattle.lists.proofs.Parts.{sets-append}
 use Rattle.decimal.specs.Written.{Written}
 
 -- nothing is written

@@ -1,17 +1,17 @@
 -- The laws in the shape of what the check asks.
-use Prim.Native.Nat.{ℕ, zero, suc, _+_, _-_, _*_, _/_, _%_, _≤_, _<_}
-use mathlib.Core.Bool.{Bool, true, false, cond, _&&_}
-use mathlib.Core.List.{List, [], _∷_}
+use Prim.Native.Nat.{ℕ, zero, suc, _+_, _-_, _/_, _%_, _≤_, _<_}
+use mathlib.Core.Bool.{Bool, true, false, cond, _&&_, and-false}
+use mathlib.Core.List.{List, []}
 use mathlib.Core.Path.{_≡_, refl, sym, _∙_, ap}
 use native.Mathlib.Numerals.{sub-one}
 use native.Mathlib.Omega.{arith}
-use lib.Dec.{leb, eqb}
+use lib.Dec.{leb}
 use lib.ListN.{length, getD, drop, length-drop, drop-of-length-le}
 use lib.Seq.{drop-drop}
 use borrow.Author.Needs.{needs}
 use borrow.Author.Tests.{lt-leb, le-leb, eq-eqb, ne-eqb}
 use Rattle.lists.proofs.Parts.{drop-at}
-use Rattle.labels.specs.Labels.{labelCount, entriesOk, labelsOk, labelsFault}
+use Rattle.labels.specs.Labels.{entriesOk, labelsOk, labelsFault}
 
 -- the entries from a place on, by the length that stands there
 pub entries-at : (k at : ℕ) (b : List ℕ) → 0 < k → at < length b →
@@ -45,14 +45,15 @@ module _ (n k at : ℕ) (b : List ℕ) (e : entriesOk n (drop 2 b) ≡ entriesOk
     ok-at : entriesOk n (drop 2 b) ≡ (leb 1 l && (leb l 64 && (leb l (length b - (at + 1)) && entriesOk (k - 1) (drop (at + 1 + l) b))))
     ok-at = e ∙ entries-at k at b h g ∙ rw (← d)
 
-    pub ok-empty : l < 1 → false ≡ entriesOk n (drop 2 b)
-    ok-empty p = sym (ok-at ∙ rw (lt-leb 1 l p))
+    -- a length below 1, above 64 or beyond the end: m is the number that the code compares with
+    pub ok-empty : (m : ℕ) → l < m → m ≤ 1 → false ≡ entriesOk n (drop 2 b)
+    ok-empty m p q = sym (ok-at ∙ rw (lt-leb 1 l (omega arith)))
 
-    pub ok-long : 1 ≤ l → 64 < l → false ≡ entriesOk n (drop 2 b)
-    ok-long q p = sym (ok-at ∙ rw (le-leb 1 l q, lt-leb l 64 p))
+    pub ok-long : (m : ℕ) → m < l → 64 ≤ m → false ≡ entriesOk n (drop 2 b)
+    ok-long m p q = sym (ok-at ∙ rw (le-leb 1 l (omega arith), lt-leb l 64 (omega arith)))
 
-    pub ok-cut : 1 ≤ l → l ≤ 64 → length b - (at + 1) < l → false ≡ entriesOk n (drop 2 b)
-    ok-cut q r p = sym (ok-at ∙ rw (le-leb 1 l q, le-leb l 64 r, lt-leb l (length b - (at + 1)) p))
+    pub ok-cut : length b - (at + 1) < l → false ≡ entriesOk n (drop 2 b)
+    ok-cut p = sym (ok-at ∙ rw (le-leb 1 l (omega arith), lt-leb l (length b - (at + 1)) p) (and-false (leb l 64)))
 
     pub ok-next : 1 ≤ l → l ≤ 64 → l ≤ length b - (at + 1) → entriesOk n (drop 2 b) ≡ entriesOk (k - 1) (drop (at + 1 + l) b)
     ok-next q r p = ok-at ∙ rw (le-leb 1 l q, le-leb l 64 r, le-leb l (length b - (at + 1)) p)

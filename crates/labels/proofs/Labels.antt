@@ -1,15 +1,15 @@
 -- Reading and writing label lists are inverse, and what an accepted list has.
-use Prim.Native.Nat.{ℕ, zero, suc, _+_, _-_, _*_, _/_, _%_, _≤_, _<_}
-use mathlib.Core.Bool.{Bool, true, false, cond, _&&_, false≢true}
-use mathlib.Core.List.{List, [], _∷_, _++_, append-assoc}
-use mathlib.Core.Path.{_≡_, refl, sym, _∙_, ap, ap₂, subst}
+use Prim.Native.Nat.{ℕ, zero, suc, _+_, _-_, _*_, _/_, _%_, _≤_}
+use mathlib.Core.Bool.{true, false≢true}
+use mathlib.Core.List.{List, [], _∷_, _++_}
+use mathlib.Core.Path.{_≡_, refl, sym, _∙_, ap, ap₂}
 use native.Mathlib.Omega.{arith}
 use lib.Dec.{leb, eqb}
 use lib.ListN.{length, getD, take, drop, length-append, length-drop, take-append-drop}
-use lib.Seq.{length-take-le, take-append-seam, drop-append-seam, drop-drop}
+use lib.Seq.{length-take-le, take-append-seam, drop-append-seam}
 use borrow.Author.Tests.{leb-true, eqb-true, le-leb, eq-eqb}
 use Rattle.lists.proofs.Tests.{and-both, and-parts, cond-yes}
-use Rattle.labels.specs.Labels.{entry, writeEntries, countBytes, writeLabels, labelCount, readEntries, readLabels, entriesOk, labelsOk, labelsFault, LabelList, Label, AllLabels, none, more}
+use Rattle.labels.specs.Labels.{writeEntries, writeLabels, labelCount, readEntries, readLabels, entriesOk, labelsOk, labelsFault, LabelList, AllLabels, none, more}
 
 -- what it says that the first of some entries is right
 pub record First (l : ℕ) (b : List ℕ) (k : ℕ) : Type 0 where

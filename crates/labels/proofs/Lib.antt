@@ -4,4 +4,5 @@ pub mod Checking
 pub mod Places
 pub mod Same
 pub mod Putting
+pub mod Listing
 pub mod Whole

@@ -123,10 +123,13 @@ found-label b l i at e a h d = d ∙ rw e (place-label b i a h)
 
 pub ruleset placeLaws = (place-first, part-label, seek-inside, seek-next, seek-found, found-whole, found-label, needs)
 
--- for callers of `label` and `label_at`: what they require, from an accepted list of n labels, or from the answer r of the check
+-- for callers: what `label`, `label_at` and `copy_all` require, from the fault of b as the labels of n states or the check's answer r
 module _ (n : ℕ) (b : List ℕ) where
   pub within-count : (i : ℕ) → labelsFault n b ≡ 0 → i < n → i < labelCount b
   within-count i h g = rw (count-read n b h) g
+
+  pub few-count : labelsFault n b ≡ 0 → n ≤ 256 → labelCount b ≤ 256
+  few-count h g = rw (count-read n b h) g
 
   module _ (r : Checked) (e : checkedNumber r ≡ labelsFault n b) (p : r ≡ Accepted) where
     pub accepted-none : labelsFault n b ≡ 0
@@ -138,4 +141,7 @@ module _ (n : ℕ) (b : List ℕ) where
     pub accepted-within : (i : ℕ) → i < n → i < labelCount b
     accepted-within i g = within-count i accepted-none g
 
-pub ruleset acceptedLaws = (label-list, within-count, accepted-none, accepted-list, accepted-within, needs)
+    pub accepted-few : n ≤ 256 → labelCount b ≤ 256
+    accepted-few g = few-count accepted-none g
+
+pub ruleset acceptedLaws = (label-list, within-count, few-count, accepted-none, accepted-list, accepted-within, accepted-few, needs)

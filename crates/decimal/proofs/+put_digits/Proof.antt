@@ -1,6 +1,5 @@
 -- `put_digits` meets its contract. The measure is the number, whose tenth is smaller.
 use Prim.Native.Nat.{ℕ, _<_}
-use borrow.Author.Needs.{needs}
 use borrow.Fn.Kinds.{In}
 use borrow.Fn.PlainCycle.{Measures, is, falls, and}
 use Rattle.decimal.proofs.Put.{putLaws}
