@@ -14,7 +14,7 @@ use Rattle.lists.proofs.Parts.{drop-at}
 use Rattle.labels.specs.Labels.{entriesOk, labelsOk, labelsFault}
 
 -- the entries from a place on, by the length that stands there
-pub entries-at : (k at : ℕ) (b : List ℕ) → 0 < k → at < length b →
+entries-at : (k at : ℕ) (b : List ℕ) → 0 < k → at < length b →
     entriesOk k (drop at b) ≡ (leb 1 (getD b at 0) && (leb (getD b at 0) 64 && (leb (getD b at 0) (length b - (at + 1)) && entriesOk (k - 1) (drop (at + 1 + getD b at 0) b))))
 unfolding entriesOk
 entries-at zero at b h g = absurd (omega arith)

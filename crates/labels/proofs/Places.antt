@@ -19,11 +19,11 @@ use Rattle.labels.specs.declared.Checked.the-variants.{Accepted}
 use Rattle.labels.proofs.Labels.{first, sound, count-read, label-list}
 
 -- what is known at a place where one label and then k more stand
-pub record Here (b : List ℕ) (p k : ℕ) : Type 0 where
-  pub inside : p < length b
-  pub whole : p + 1 + getD b p 0 ≤ length b
-  pub rest : entriesOk k (drop (p + 1 + getD b p 0) b) ≡ true
-  pub read : readEntries (suc k) (drop p b) ≡ take (getD b p 0) (drop (p + 1) b) ∷ readEntries k (drop (p + 1 + getD b p 0) b)
+record Here (b : List ℕ) (p k : ℕ) : Type 0 where
+  inside : p < length b
+  whole : p + 1 + getD b p 0 ≤ length b
+  rest : entriesOk k (drop (p + 1 + getD b p 0) b) ≡ true
+  read : readEntries (suc k) (drop p b) ≡ take (getD b p 0) (drop (p + 1) b) ∷ readEntries k (drop (p + 1 + getD b p 0) b)
 
 inside-of : (k p : ℕ) (b : List ℕ) → entriesOk (suc k) (drop p b) ≡ true → p < length b
 unfolding entriesOk
@@ -86,7 +86,7 @@ place-first b = refl
 -- the next place
 pub place-next : (b : List ℕ) (i : ℕ) → labelPlace b (i + 1) ≡ labelPlace b i + 1 + getD b (labelPlace b i) 0
 unfolding labelPlace
-place-next b i = rw add-one
+place-next b i = rw (add-one i)
 
 none-left : (t : List ℕ) → entriesOk 0 t ≡ true → length t ≡ 0
 unfolding entriesOk

@@ -18,7 +18,7 @@ writeEntries (l ∷ ls) = entry l ++ writeEntries ls
 abbrev pub countBytes : ℕ → List ℕ
 countBytes n = n % 256 ∷ n / 256 ∷ []
 
--- the list of these labels
+-- the list of these labels, which has its form for at most 65,535 of them
 unfoldable pub writeLabels : List (List ℕ) → List ℕ
 writeLabels ls = countBytes (length ls) ++ writeEntries ls
 

@@ -1,8 +1,8 @@
 -- `label_at` meets its contract: each turn is one label further.
-use Rattle.labels.proofs.Places.{placeLaws}
 use Prim.Native.Nat.{_-_, _≤_}
 use mathlib.Core.Path.{_≡_}
 use Rattle.labels.specs.Labels.{labelPlace}
+use Rattle.labels.proofs.Places.{placeLaws}
 use Rattle.labels.proofs.label_at.Statement.{statement}
 use Rattle.labels.proofs.label_at.Tie as tie
 

@@ -1,4 +1,5 @@
--- `put_pair` meets its contract.
+-- `put_pair` meets its contract: the four runs that its calls write are the label.
+use native.Mathlib.Omega.{arith}
 use Rattle.labels.proofs.Putting.{entryLaws, pair-put}
 use Rattle.labels.proofs.put_pair.Statement.{statement}
 use Rattle.labels.proofs.put_pair.Tie as tie
@@ -7,12 +8,12 @@ pub put-pair-spec : {M : Type 1} → statement M
 put-pair-spec =
     tie.close
     (tie.spec
-    (λ c. search entryLaws)
-    (λ c κs. search entryLaws)
-    (λ c κs. search entryLaws)
-    (λ c κs. search entryLaws)
-    (λ c κs. search entryLaws)
-    (λ c κs. search entryLaws)
+    (λ c. omega arith)
+    (λ c κs. omega arith)
+    (λ c κs. omega arith)
+    (λ c κs. omega arith)
+    (λ c κs. omega arith)
+    (λ c κs. omega arith)
     (λ c. search entryLaws)
     (λ c.
     let length = c .before .before in

@@ -1,9 +1,9 @@
 -- `same_label` meets its contract: the labels are equal up to the index.
-use Rattle.labels.proofs.Same.{sameLaws}
 use Prim.Native.Nat.{_-_}
 use mathlib.Core.Path.{_≡_}
 use lib.ListN.{length, drop}
 use Rattle.labels.specs.Labels.{sameLabel}
+use Rattle.labels.proofs.Same.{sameLaws}
 use Rattle.labels.proofs.same_label.Statement.{statement}
 use Rattle.labels.proofs.same_label.Tie as tie
 

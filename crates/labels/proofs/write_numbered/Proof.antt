@@ -1,9 +1,9 @@
 -- `write_numbered` meets its contract: each turn writes one label more.
-use Rattle.labels.proofs.Whole.{numberedLaws}
 use Prim.Native.Nat.{_-_, _≤_}
 use Rattle.decimal.specs.Written.{Written}
 use Rattle.labels.specs.Labels.{writeEntries}
 use Rattle.labels.specs.Forms.{numbered}
+use Rattle.labels.proofs.Whole.{numberedLaws}
 use Rattle.labels.proofs.write_numbered.Statement.{statement}
 use Rattle.labels.proofs.write_numbered.Tie as tie
 
