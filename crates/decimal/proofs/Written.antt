@@ -1,0 +1,37 @@
+-- Laws of written memory: one run behind another is one run, and lengths are kept.
+use Prim.Native.Nat.{ℕ, _+_}
+use mathlib.Core.List.{List, [], _∷_, _++_}
+use mathlib.Core.Path.{_≡_, refl, _∙_, ap}
+use native.Mathlib.Omega.{arith}
+use lib.ListN.{length, set, length-append}
+use lib.Seq.{sets, length-sets}
+use Rattle.lists.proofs.Parts.{sets-append}
+use Rattle.decimal.specs.Written.{Written}
+
+-- nothing is written
+pub written-none : (l : List ℕ) (i : ℕ) → Written l i [] l i
+written-none l i = record { stored = refl; behind = omega arith }
+
+-- one element
+pub written-one : (l : List ℕ) (i x : ℕ) → Written l i (x ∷ []) (set l i x) (i + 1)
+written-one l i x = record { stored = refl; behind = refl }
+
+-- a second run behind the first
+pub written-append : (l m n v w : List ℕ) (i j k : ℕ) → Written l i v m j → Written m j w n k → Written l i (v ++ w) n k
+written-append l m n v w i j k p q =
+    record {
+      stored = q .stored ∙ ap (λ (t : List ℕ). sets t j w) (p .stored) ∙ ap (λ (t : ℕ). sets (sets l i v) t w) (p .behind) ∙ sets-append l v w i;
+      behind = omega (arith, p .behind, q .behind, length-append v w);
+    }
+
+-- a run behind one element
+pub written-cons : (l m n w : List ℕ) (i j k x : ℕ) → Written l i (x ∷ []) m j → Written m j w n k → Written l i (x ∷ w) n k
+written-cons l m n w i j k x p q = written-append l m n (x ∷ []) w i j k p q
+
+-- one element behind a run
+pub written-more : (l m v : List ℕ) (i j x : ℕ) → Written l i v m j → Written l i (v ++ x ∷ []) (set m j x) (j + 1)
+written-more l m v i j x p = written-append l m (set m j x) v (x ∷ []) i j (j + 1) p (written-one m j x)
+
+-- the length is kept
+pub written-length : (l m v : List ℕ) (i j : ℕ) → Written l i v m j → length m ≡ length l
+written-length l m v i j p = ap length (p .stored) ∙ length-sets l i v

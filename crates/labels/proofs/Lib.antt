@@ -1,0 +1,8 @@
+-- The laws of label lists.
+pub mod Labels
+pub mod Checking
+pub mod Places
+pub mod Same
+pub mod Putting
+pub mod Listing
+pub mod Whole
