@@ -6,3 +6,4 @@ pub mod Simulation
 pub mod Gather
 pub mod Epsilons
 pub mod Stepping
+pub mod Reading

@@ -10,7 +10,7 @@ ghost use Rattle.sets.specs.BitSet.{setAt, entries};
 ghost use Rattle.sets.specs.Sets.{Canon};
 ghost use Rattle.sheets.specs.Sheet.{stateCount, read};
 ghost use Rattle.words.specs.Gather.{gathered, Targets, Tables};
-ghost use Rattle.words.specs.Simulation.{step, closures, least, kindOf};
+ghost use Rattle.words.specs.Simulation.{closures, step, startSet, simulate, least, kindOf, kind};
 ghost use Rattle.words.specs.Epsilons.{Fresh, SelvesAdded, Named, EpsilonsAdded};
 ghost use Rattle.sheets.specs.Accepted.{Accepted};
 
@@ -137,4 +137,39 @@ pub fn kind_of(s: &[u32], set: &[u64]) -> u32
         q = sets::next_member(set, q + 1);
     }
     kind
+}
+
+// The states that the symbol leads to from those of current, in its place.
+fn advance(s: &[u32], starts: &[u32], closures: &[u64], current: &mut [u64], symbol: u32)
+    requires { ⌜ Tables (now s) (now starts) (now closures) × Canon (stateCount (now s)) (setAt (now current) 0) × (4 ≤ length (now current)) ⌝ }
+    ensures { λ u. ⌜ setAt (now (current .exit)) 0 ≡ step (read (now (s .entry))) (setAt (now (current .entry)) 0) symbol ⌝ }
+{
+    let mut next = [0u64; 4];
+    step(s, starts, closures, current, symbol, &mut next);
+    sets::copy_row(current, &next, 0);
+}
+
+// The states at the end of the word that is read from those of current, in its place.
+fn read_word(s: &[u32], starts: &[u32], closures: &[u64], word: &[u32], current: &mut [u64])
+    requires { ⌜ Tables (now s) (now starts) (now closures) × Canon (stateCount (now s)) (setAt (now current) 0) × (4 ≤ length (now current)) ⌝ }
+    ensures { λ u. ⌜ setAt (now (current .exit)) 0 ≡ simulate (read (now (s .entry))) (setAt (now (current .entry)) 0) (now (word .entry)) ⌝ }
+{
+    let mut i: usize = 0;
+    while i < word.len() {
+        if sets::is_empty(current) {
+            return;
+        }
+        advance(s, starts, closures, current, word[i]);
+        i += 1;
+    }
+}
+
+// The tables of a sheet: where its runs begin, and its closures; and the states that the empty word leads to.
+fn begin(s: &[u32], starts: &mut [u32], closures: &mut [u64], current: &mut [u64])
+    requires { ⌜ Accepted (now s) × (length (now starts) ≡ 257) × Fresh (now closures) × (4 ≤ length (now current)) ⌝ }
+    ensures { λ u. ⌜ Tables (now (s .entry)) (now (starts .exit)) (now (closures .exit)) × (setAt (now (current .exit)) 0 ≡ startSet (read (now (s .entry)))) ⌝ }
+{
+    sheets::run_starts(s, starts);
+    state_closures(s, closures);
+    sets::copy_row(current, closures, s[1] as usize);
 }

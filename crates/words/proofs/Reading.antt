@@ -1,0 +1,82 @@
+-- Reading a word symbol by symbol: the laws by which acceptance is proved.
+use Prim.Native.Nat.{ℕ, zero, suc, _+_, _-_, _*_, _≤_, _<_}
+use mathlib.Core.Bool.{Bool, true, false, _&&_, false≢true}
+use mathlib.Core.List.{List, [], _∷_}
+use mathlib.Core.Path.{_≡_, refl, sym, _∙_, ap, subst}
+use native.Mathlib.Omega.{arith}
+use borrow.Author.Needs.{needs}
+use lib.Dec.{eqb}
+use lib.ListN.{length, getD, drop, drop-of-length-le}
+use lib.Seq.{sets}
+use Rattle.lists.specs.Lists.{any}
+use Rattle.lists.proofs.Lists.{keep-none}
+use Rattle.lists.proofs.Parts.{drop-at}
+use Rattle.automata.specs.Automaton.{Automaton, holds}
+use Rattle.sets.specs.Sets.{Set, has, pick, Canon, isEmpty}
+use Rattle.sets.specs.BitSet.{setAt, entries}
+use Rattle.sets.specs.Words.{putAt}
+use Rattle.sets.proofs.Sets.{no-member, pick-out, empty-yes, has-nil}
+use Rattle.sets.proofs.BitSet.{entry-at}
+use Rattle.sets.proofs.Stores.{put-same}
+use Rattle.sheets.specs.Accepted.{Accepted}
+use Rattle.sheets.specs.Runs.{startsOf}
+use Rattle.sheets.specs.Sheet.{stateCount, read}
+use Rattle.sheets.proofs.Meaning.{read-well}
+use Rattle.sheets.proofs.Runs.{starts-indexed}
+use Rattle.words.specs.Simulation.{closures, closure, outgoing, step, simulate, startSet}
+use Rattle.words.specs.Gather.{Tables}
+use Rattle.words.proofs.Stepping.{step-canon}
+
+-- from no state no symbol leads anywhere
+step-nothing : (A : Automaton) (a : ℕ) → step A [] a ≡ []
+unfolding step outgoing any
+step-nothing A a =
+    no-member _
+    (λ q h.
+    let e : outgoing A [] ≡ [] = keep-none _ (A .transitions) (λ d m. ap (_&&_ (eqb (d .kind) 1)) (has-nil (d .from)) ∙ and-false (eqb (d .kind) 1)) in
+    let f : any (λ d. holds a d && has q (closure A (d .to))) (outgoing A []) ≡ true = pick-out 0 (A .size) _ q h .2 in
+    false≢true (sym (ap (any (λ d. holds a d && has q (closure A (d .to)))) e) ∙ f))
+  where
+    and-false : (b : Bool) → (b && false) ≡ false
+    and-false true = refl
+    and-false false = refl
+
+simulate-nothing : (A : Automaton) (w : List ℕ) → simulate A [] w ≡ []
+unfolding simulate
+simulate-nothing A [] = refl
+simulate-nothing A (a ∷ w) = ap (λ S. simulate A S w) (step-nothing A a) ∙ simulate-nothing A w
+
+pub advance-done : (cur u v : List ℕ) (S : Set) → setAt u 0 ≡ S → v ≡ putAt cur 0 u 0 → 4 ≤ length cur → setAt v 0 ≡ S
+advance-done cur u v S e h l = ap (λ x. setAt x 0) h ∙ put-same cur 0 u 0 l ∙ e
+
+-- the symbols of the word from i on are left to read
+module _ (s old : List ℕ) (word cur : List ℕ) (i : ℕ) (e : simulate (read s) (setAt cur 0) (drop i word) ≡ simulate (read s) (setAt old 0) word) where
+  pub read-ended : length word ≤ i → setAt cur 0 ≡ simulate (read s) (setAt old 0) word
+  unfolding simulate
+  read-ended h = ap (simulate (read s) (setAt cur 0)) (sym (drop-of-length-le word h)) ∙ e
+
+  pub read-nothing : (b : Bool) → b ≡ isEmpty (setAt cur 0) → b ≡ true → setAt cur 0 ≡ simulate (read s) (setAt old 0) word
+  read-nothing b h k =
+      let n : setAt cur 0 ≡ [] = empty-yes (setAt cur 0) (sym h ∙ k) in
+      n ∙ sym (simulate-nothing (read s) (drop i word)) ∙ ap (λ S. simulate (read s) S (drop i word)) (sym n) ∙ e
+
+  pub read-next : i < length word → (u : List ℕ) → setAt u 0 ≡ step (read s) (setAt cur 0) (getD word i 0) → simulate (read s) (setAt u 0) (drop (i + 1) word) ≡ simulate (read s) (setAt old 0) word
+  unfolding simulate
+  read-next h u k = ap (λ S. simulate (read s) S (drop (i + 1) word)) k ∙ ap (simulate (read s) (setAt cur 0)) (sym (drop-at word i h)) ∙ e
+
+pub read-canon : (s starts c cur u : List ℕ) (a : ℕ) → Tables s starts c → setAt u 0 ≡ step (read s) (setAt cur 0) a → Canon (stateCount s) (setAt u 0)
+read-canon s starts c cur u a t e = subst (Canon (stateCount s)) (sym e) (step-canon (read s) (read-well s (t .accepted) .states) a (setAt cur 0))
+
+pub ruleset readLaws = (advance-done, read-ended, read-nothing, read-next, read-canon, needs)
+
+-- the tables and the start
+pub begin-tables : (s old starts c : List ℕ) → Accepted s → starts ≡ sets old 0 (startsOf s) → length old ≡ 257 → length c ≡ 1024 → entries c (stateCount s) ≡ closures (read s) → Tables s starts c
+begin-tables s old starts c a e l m h =
+    record { accepted = a; indexed = starts-indexed s old starts e (omega (arith, a .few-states)); long = m; closed = h }
+
+pub begin-set : (s c cur v : List ℕ) → Accepted s → entries c (stateCount s) ≡ closures (read s) → v ≡ putAt cur 0 c (4 * getD s 1 0) → 4 ≤ length cur → setAt v 0 ≡ startSet (read s)
+unfolding startSet closure
+begin-set s c cur v a h e l =
+    ap (λ x. setAt x 0) e ∙ put-same cur 0 c (4 * getD s 1 0) l ∙ sym (entry-at c (stateCount s) (getD s 1 0) (a .start)) ∙ ap (λ R. getD R (getD s 1 0) []) h
+
+pub ruleset beginLaws = (begin-tables, begin-set, needs)
