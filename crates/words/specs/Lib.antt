@@ -2,3 +2,4 @@
 pub mod Simulation
 pub mod Gather
 pub mod Epsilons
+pub mod Acceptance

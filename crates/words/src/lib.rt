@@ -1,6 +1,7 @@
 // Closures, steps and acceptance: the states that a word leads to are kept as a set of bits, and each symbol leads to the
 // union of the closures of all targets whose range holds it. Closures are made once; a symbol costs at most the records of
 // the sheet.
+ghost use mathlib.Core.Bool.{true};
 ghost use mathlib.Core.Path.{_≡_};
 ghost use mathlib.Core.List.{[], _∷_};
 ghost use Prim.Native.Nat.{_+_, _*_, _≤_, _<_};
@@ -13,6 +14,11 @@ ghost use Rattle.words.specs.Gather.{gathered, Targets, Tables};
 ghost use Rattle.words.specs.Simulation.{closures, step, startSet, simulate, least, kindOf, kind};
 ghost use Rattle.words.specs.Epsilons.{Fresh, SelvesAdded, Named, EpsilonsAdded};
 ghost use Rattle.sheets.specs.Accepted.{Accepted};
+ghost use Rattle.utf8.specs.Utf8.{decode, wellformed};
+ghost use Rattle.words.specs.Acceptance.{acceptsWords, acceptsText, answerOf, pointsOf};
+
+use refusal::InputRefusal;
+use sheets::Checked;
 
 // Each of the first n rows gets its own number.
 fn add_selves(rows: &mut [u64], n: usize)
@@ -172,4 +178,82 @@ fn begin(s: &[u32], starts: &mut [u32], closures: &mut [u64], current: &mut [u64
     sheets::run_starts(s, starts);
     state_closures(s, closures);
     sets::copy_row(current, closures, s[1] as usize);
+}
+
+// The states at the end of the text that is read from those of current, in its place.
+fn read_text(s: &[u32], starts: &[u32], closures: &[u64], text: &[u8], current: &mut [u64])
+    requires { ⌜ Tables (now s) (now starts) (now closures) × Canon (stateCount (now s)) (setAt (now current) 0) × (4 ≤ length (now current)) × (wellformed (now text) ≡ true) ⌝ }
+    ensures { λ u. ⌜ setAt (now (current .exit)) 0 ≡ simulate (read (now (s .entry))) (setAt (now (current .entry)) 0) (pointsOf (decode (now (text .entry)))) ⌝ }
+{
+    let mut at: usize = 0;
+    while at < text.len() {
+        if sets::is_empty(current) {
+            return;
+        }
+        match utf8::next(text, at) {
+            utf8::Step::Point(symbol, to) => {
+                advance(s, starts, closures, current, symbol);
+                at = to;
+            }
+            utf8::Step::End => return,
+            utf8::Step::Malformed => return,
+        }
+    }
+}
+
+// The accept word of a word in an accepted sheet.
+fn word_kind(s: &[u32], word: &[u32]) -> u32
+    requires { ⌜ Accepted (now s) ⌝ }
+    ensures { λ r. ⌜ r ≡ kind (read (now (s .entry))) (now (word .entry)) ⌝ }
+{
+    let mut starts = [0u32; 257];
+    let mut closures = [0u64; 1024];
+    let mut current = [0u64; 4];
+    begin(s, &mut starts, &mut closures, &mut current);
+    read_word(s, &starts, &closures, word, &mut current);
+    kind_of(s, &current)
+}
+
+// The accept word of a text that is not malformed in an accepted sheet.
+fn text_kind(s: &[u32], text: &[u8]) -> u32
+    requires { ⌜ Accepted (now s) × (wellformed (now text) ≡ true) ⌝ }
+    ensures { λ r. ⌜ r ≡ kind (read (now (s .entry))) (pointsOf (decode (now (text .entry)))) ⌝ }
+{
+    let mut starts = [0u32; 257];
+    let mut closures = [0u64; 1024];
+    let mut current = [0u64; 4];
+    begin(s, &mut starts, &mut closures, &mut current);
+    read_text(s, &starts, &closures, text, &mut current);
+    kind_of(s, &current)
+}
+
+// The answer of acceptance: the accept word that the states at the word's end give, 0 where it is not accepted.
+pub enum Acceptance {
+    Kind(u32),
+    Refused(InputRefusal),
+}
+
+// Whether a sheet accepts a word of u32 symbols.
+pub fn accepts_words(s: &[u32], word: &[u32]) -> Acceptance
+    ensures { λ r. ⌜ answerOf r ≡ acceptsWords (now (s .entry)) (now (word .entry)) ⌝ }
+{
+    match sheets::check(s) {
+        Checked::Accepted => Acceptance::Kind(word_kind(s, word)),
+        Checked::Refused(r) => Acceptance::Refused(r),
+    }
+}
+
+// Whether a sheet accepts a text in UTF-8, as the word of its code points.
+pub fn accepts_text(s: &[u32], text: &[u8]) -> Acceptance
+    ensures { λ r. ⌜ answerOf r ≡ acceptsText (now (s .entry)) (now (text .entry)) ⌝ }
+{
+    match sheets::check(s) {
+        Checked::Accepted => {
+            if utf8::is_wellformed(text) {
+                return Acceptance::Kind(text_kind(s, text));
+            }
+            Acceptance::Refused(InputRefusal::Utf8)
+        }
+        Checked::Refused(r) => Acceptance::Refused(r),
+    }
 }
