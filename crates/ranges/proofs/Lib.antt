@@ -1,0 +1,6 @@
+-- The laws of ranges, cuts and holes.
+pub mod Cuts
+pub mod Missing
+pub mod Overlap
+pub mod Sorting
+pub mod Samples
