@@ -4,3 +4,4 @@ pub mod Missing
 pub mod Overlap
 pub mod Sorting
 pub mod Samples
+pub mod Runs

@@ -120,11 +120,11 @@ pub rest-sorted : {e : Transition} {es : List Transition} → Sorted (e ∷ es) 
 rest-sorted p = record { rises = rest-rises (p .rises); full = λ d m. p .full d (List·Memᴰ·tail m) }
 
 -- a gap is one span or none
-gap-some : (a b : ℕ) → a < b → gap a b ≡ record { low = a; high = b - 1 } ∷ []
+pub gap-some : (a b : ℕ) → a < b → gap a b ≡ record { low = a; high = b - 1 } ∷ []
 unfolding gap
 gap-some a b h = rw (lt-ltb a b h)
 
-gap-none : (a b : ℕ) → b ≤ a → gap a b ≡ []
+pub gap-none : (a b : ℕ) → b ≤ a → gap a b ≡ []
 unfolding gap
 gap-none a b h = rw (le-ltb a b h)
 
