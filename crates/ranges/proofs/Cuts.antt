@@ -1,6 +1,6 @@
 -- Spans between cuts: every symbol from lo to hi lies in exactly one, and no range tells two symbols of a span apart.
 use Prim.Native.Nat.{ℕ, zero, suc, _+_, _-_, _≤_, _<_}
-use mathlib.Core.Bool.{Bool, true, false, cond, _&&_}
+use mathlib.Core.Bool.{Bool, true, false, cond}
 use mathlib.Core.List.{List, [], _∷_, _++_, List·Memᴰ·head, List·Memᴰ·tail, List·Memᴰ·cases-cons}
 use mathlib.Core.Logic.{_⊎_, inl, inr, ⊎-elim}
 use mathlib.Core.Path.{_≡_, refl, sym, _∙_}
@@ -10,7 +10,7 @@ use lib.Dec.{leb, ltb}
 use Rattle.lists.specs.Lists.{_∈_, keep}
 use Rattle.lists.proofs.Tests.{test}
 use Rattle.automata.specs.Automaton.{Transition, holds}
-use Rattle.ranges.specs.Span.{Span}
+use Rattle.ranges.specs.Span.{Span, inside}
 use Rattle.ranges.specs.Cuts.{nearer, nextCut, spans, cutAll}
 
 module _ (a c b : ℕ) where
@@ -76,9 +76,10 @@ module _ (a : ℕ) where
       let b = nearer a (suc (d .last)) top in
       let n = next-le (lower top d) es in
       let z = nearer-le a (d .first) b in
-      rw q
-      (⊎-elim inl (λ (h : lower top d ≤ d .first). inr (omega arith)) (nearer-cut a (d .first) b),
-      ⊎-elim inl (λ (h : b ≤ suc (d .last)). inr (omega arith)) (nearer-cut a (suc (d .last)) top))
+      rw q (
+        ⊎-elim inl (λ (h : lower top d ≤ d .first). inr (omega arith)) (nearer-cut a (d .first) b),
+        ⊎-elim inl (λ (h : b ≤ suc (d .last)). inr (omega arith)) (nearer-cut a (suc (d .last)) top),
+      )
   next-cuts top {es = d ∷ es} (List·Memᴰ·tail m) = next-cuts (lower top d) m
 
   -- the next cut is top or a cut of some range
@@ -113,29 +114,25 @@ unfolding holds
 next-alike a top es x l u e m =
     let c = next-cuts a top m in
     let f : leb (e .first) x ≡ leb (e .first) a =
-            leb-same (e .first) x (e .first) a
-            (⊎-elim (λ (h : e .first ≤ a). inl (omega arith)) (λ (h : nextCut a top es ≤ e .first). inr (omega arith)) (c .0)) in
+    leb-same (e .first) x (e .first) a
+    (⊎-elim (λ (h : e .first ≤ a). inl (omega arith)) (λ (h : nextCut a top es ≤ e .first). inr (omega arith)) (c .0)) in
     let g : leb x (e .last) ≡ leb a (e .last) =
-            leb-same x (e .last) a (e .last)
-            (⊎-elim (λ (h : suc (e .last) ≤ a). inr (omega arith)) (λ (h : nextCut a top es ≤ suc (e .last)). inl (omega arith)) (c .1)) in
+    leb-same x (e .last) a (e .last)
+    (⊎-elim (λ (h : suc (e .last) ≤ a). inr (omega arith)) (λ (h : nextCut a top es ≤ suc (e .last)). inl (omega arith)) (c .1)) in
     rw (f, g)
 
--- the span holds the symbol x
-unfoldable pub inside : ℕ → Span → Bool
-inside x s = leb (s .low) x && leb x (s .high)
-
 -- a span from a on, below top, that no range cuts
-pub record Even (top : ℕ) (es : List Transition) (a : ℕ) (s : Span) : Type 0 where
+pub record Uncut (top : ℕ) (es : List Transition) (a : ℕ) (s : Span) : Type 0 where
   pub above : a ≤ s .low
   pub below : s .high < top
   pub alike : (x : ℕ) → s .low ≤ x → x ≤ s .high → (e : Transition) → e ∈ es → holds x e ≡ holds (s .low) e
   pub full : s .low ≤ s .high
 
 module _ (top : ℕ) (es : List Transition) where
-  pub spans-even : (n a : ℕ) (s : Span) → s ∈ spans n a top es → Even top es a s
+  pub spans-uncut : (n a : ℕ) (s : Span) → s ∈ spans n a top es → Uncut top es a s
   unfolding spans
-  spans-even zero a s m = elim m [ ]
-  spans-even (suc n) a s m = go (ltb a top) refl m (spans-even n b s)
+  spans-uncut zero a s m = elim m [ ]
+  spans-uncut (suc n) a s m = go (ltb a top) refl m (spans-uncut n b s)
     where
       b : ℕ
       b = nextCut a top es
@@ -143,18 +140,18 @@ module _ (top : ℕ) (es : List Transition) where
       sp : Span
       sp = record { low = a; high = b - 1 }
 
-      first : a < top → Even top es a sp
+      first : a < top → Uncut top es a sp
       first h =
           let l : a < b = next-gt a top es h in
           let u : b ≤ top = next-le a top es in
           record { above = omega arith; below = omega arith; alike = λ x y z. next-alike a top es x y (omega arith); full = omega arith }
 
-      later : a < top → Even top es b s → Even top es a s
+      later : a < top → Uncut top es b s → Uncut top es a s
       later h r =
           let l : a < b = next-gt a top es h in
           record { above = omega (arith, r .above); below = r .below; alike = r .alike; full = r .full }
 
-      go : (t : Bool) → ltb a top ≡ t → s ∈ cond t (sp ∷ spans n b top es) [] → (s ∈ spans n b top es → Even top es b s) → Even top es a s
+      go : (t : Bool) → ltb a top ≡ t → s ∈ cond t (sp ∷ spans n b top es) [] → (s ∈ spans n b top es → Uncut top es b s) → Uncut top es a s
       go true e m ih =
           ⊎-elim (λ (q : s ≡ sp). rw q (first (ltb-true a top e))) (λ m. later (ltb-true a top e) (ih m)) (List·Memᴰ·cases-cons m)
       go false e m ih = elim m [ ]
@@ -200,9 +197,9 @@ module _ (top : ℕ) (es : List Transition) where
       (test (ltb a top))
 
 module _ (hi : ℕ) (es : List Transition) where
-  pub cut-even : (lo : ℕ) (s : Span) → s ∈ cutAll lo hi es → Even (suc hi) es lo s
+  pub cut-spans : (lo : ℕ) (s : Span) → s ∈ cutAll lo hi es → Uncut (suc hi) es lo s
   unfolding cutAll
-  cut-even lo s m = spans-even (suc hi) es (suc hi - lo) lo s m
+  cut-spans lo s m = spans-uncut (suc hi) es (suc hi - lo) lo s m
 
   -- exactly one span holds x
   pub cut-one : (lo x : ℕ) → lo ≤ x → x ≤ hi → (s : Span) × (keep (inside x) (cutAll lo hi es) ≡ s ∷ [])

@@ -5,3 +5,4 @@ pub mod Overlap
 pub mod Sorting
 pub mod Samples
 pub mod Runs
+pub mod Writing

@@ -1,23 +1,23 @@
 -- Holes: the definition by cuts and the pass over sorted ranges both give the maximal runs of free symbols, and there is only one such list.
 use Prim.Native.Nat.{ℕ, zero, suc, _-_, _≤_, _<_, min, max}
-use mathlib.Core.Bool.{Bool, true, false, cond, _&&_, not, false≢true}
+use mathlib.Core.Bool.{Bool, true, false, not, false≢true}
 use mathlib.Core.List.{List, [], _∷_, _++_, List·Memᴰ·head, List·Memᴰ·tail, List·Memᴰ·not-nil, List·Memᴰ·cases-cons}
 use mathlib.Core.Logic.{_⊎_, inl, inr, ⊎-elim}
 use mathlib.Core.Path.{_≡_, refl, sym, _∙_, ap₂}
 use native.Mathlib.Nat.{eq-or-lt-of-le, le-antisymm}
 use native.Mathlib.Omega.{arith}
-use borrow.Author.Tests.{le-leb, lt-leb, leb-true, leb-false, lt-ltb, le-ltb, ltb-true, ltb-false, not-true}
+use borrow.Author.Tests.{le-leb, leb-true, leb-false, lt-ltb, le-ltb, ltb-true, ltb-false, not-true}
 use lib.Dec.{leb, ltb}
 use Rattle.lists.specs.Lists.{_∈_, any, keep, Ascending}
 use Rattle.lists.proofs.Tests.{test, and-parts}
 use Rattle.lists.proofs.Lists.{any-in, any-out, keep-in, keep-out}
 use Rattle.automata.specs.Automaton.{Transition, holds}
-use Rattle.ranges.specs.Span.{Span, Inside}
+use Rattle.ranges.specs.Span.{Span, Inside, inside}
 use Rattle.ranges.specs.Cuts.{nextCut, spans, cutAll}
 use Rattle.ranges.specs.Missing.{covered, missing, Free, Within, Apart, Holes, Sorted, gap, scan}
-use Rattle.ranges.proofs.Cuts.{next-gt, next-le, next-cuts, next-is, inside, Even, cut-even, cut-one, cut-end, cut-step, spans-even}
+use Rattle.ranges.proofs.Cuts.{next-gt, next-cuts, next-is, Uncut, cut-spans, cut-one, spans-uncut}
 
-pub span-eq : (s t : Span) → s .low ≡ t .low → s .high ≡ t .high → s ≡ t
+span-eq : (s t : Span) → s .low ≡ t .low → s .high ≡ t .high → s ≡ t
 span-eq s t p q = λ i. record { low = p i; high = q i }
 
 -- spans that ascend apart, none empty
@@ -25,20 +25,20 @@ record Separate (hs : List Span) : Type 0 where
   ascends : Ascending Apart hs
   full : (s : Span) → s ∈ hs → s .low ≤ s .high
 
-rest-apart : {s : Span} {hs : List Span} → Ascending Apart (s ∷ hs) → Ascending Apart hs
-rest-apart (Ascending.more g a) = a
+ascending-rest : {X : Type 0} {R : X → X → Type 0} {x : X} {l : List X} → Ascending R (x ∷ l) → Ascending R l
+ascending-rest (Ascending.more g a) = a
 
-first-apart : {s : Span} {hs : List Span} → Ascending Apart (s ∷ hs) → (t : Span) → t ∈ hs → Apart s t
-first-apart (Ascending.more g a) = g
+pub ascending-first : {X : Type 0} {R : X → X → Type 0} {x : X} {l : List X} → Ascending R (x ∷ l) → (y : X) → y ∈ l → R x y
+ascending-first (Ascending.more g a) = g
 
 rest-separate : {s : Span} {hs : List Span} → Separate (s ∷ hs) → Separate hs
-rest-separate p = record { ascends = rest-apart (p .ascends); full = λ t m. p .full t (List·Memᴰ·tail m) }
+rest-separate p = record { ascends = ascending-rest (p .ascends); full = λ t m. p .full t (List·Memᴰ·tail m) }
 
 split : {x : ℕ} (s : Span) (hs : List Span) → Within x (s ∷ hs) → Inside x s ⊎ Within x hs
 split {x} s hs (t, m, i) = ⊎-elim (λ (q : t ≡ s). inl (rw q at i)) (λ k. inr (t, k, i)) (List·Memᴰ·cases-cons m)
 
 here : {x : ℕ} (s : Span) (hs : List Span) → s .low ≤ x → x ≤ s .high → Within x (s ∷ hs)
-here s hs l u = (s, List·Memᴰ·head refl, record { from = l; to = u })
+here s hs l u = (s, List·Memᴰ·head refl, record { above = l; below = u })
 
 there : {x : ℕ} (s : Span) {hs : List Span} → Within x hs → Within x (s ∷ hs)
 there s (t, m, i) = (t, List·Memᴰ·tail m, i)
@@ -52,10 +52,10 @@ module _ (s : Span) (hs : List Span) (p : Separate (s ∷ hs)) where
   low-within = here s hs (omega arith) full-first
 
   beyond : (x : ℕ) → Within x hs → suc (s .high) < x
-  beyond x (t, m, i) = let a = first-apart (p .ascends) t m in omega (arith, i .from)
+  beyond x (t, m, i) = let a = ascending-first (p .ascends) t m in omega (arith, i .above)
 
   low-least : (x : ℕ) → Within x (s ∷ hs) → s .low ≤ x
-  low-least x w = ⊎-elim (λ (i : Inside x s). i .from) (λ (v : Within x hs). omega (arith, beyond x v, full-first)) (split s hs w)
+  low-least x w = ⊎-elim (λ (i : Inside x s). i .above) (λ (v : Within x hs). omega (arith, beyond x v, full-first)) (split s hs w)
 
 module _ (s t : Span) (hs ks : List Span) (p : Separate (s ∷ hs)) (q : Separate (t ∷ ks)) where
   -- a span with all the symbols of another list's first ends no earlier
@@ -66,13 +66,13 @@ module _ (s t : Span) (hs ks : List Span) (p : Separate (s ∷ hs)) (q : Separat
       let l : s .high < t .high = leb-false _ _ c in
       let f = full-first s hs p in
       let x = suc (s .high) in
-      ⊎-elim (λ (i : Inside x s). absurd (omega (arith, i .to))) (λ (v : Within x hs). absurd (omega (arith, beyond s hs p x v)))
+      ⊎-elim (λ (i : Inside x s). absurd (omega (arith, i .below))) (λ (v : Within x hs). absurd (omega (arith, beyond s hs p x v)))
       (split s hs (h x (here t ks (omega arith) (omega arith)))))
       (test (leb (t .high) (s .high)))
 
   rest-within : s .high ≡ t .high → ((x : ℕ) → Within x (s ∷ hs) → Within x (t ∷ ks)) → (x : ℕ) → Within x hs → Within x ks
   rest-within e h x v =
-      ⊎-elim (λ (i : Inside x t). absurd (omega (arith, i .to, beyond s hs p x v))) (λ w. w) (split t ks (h x (there s v)))
+      ⊎-elim (λ (i : Inside x t). absurd (omega (arith, i .below, beyond s hs p x v))) (λ w. w) (split t ks (h x (there s v)))
 
 -- separate spans with the same symbols are the same spans
 same-symbols : (hs ks : List Span) → Separate hs → Separate ks → ((x : ℕ) → Within x hs → Within x ks) → ((x : ℕ) → Within x ks → Within x hs) → hs ≡ ks
@@ -110,14 +110,8 @@ past x e f l = ⊎-elim (λ c. absurd (false≢true (sym f ∙ held x e l (leb-t
 free-cons : (x : ℕ) (e : Transition) (es : List Transition) → holds x e ≡ false → Free x es → Free x (e ∷ es)
 free-cons x e es h f d m = ⊎-elim (λ (q : d ≡ e). rw q h) (λ k. f d k) (List·Memᴰ·cases-cons m)
 
-pub rest-rises : {e : Transition} {es : List Transition} → Ascending (λ d e. d .first ≤ e .first) (e ∷ es) → Ascending (λ d e. d .first ≤ e .first) es
-rest-rises (Ascending.more g a) = a
-
-pub first-least : {e : Transition} {es : List Transition} → Ascending (λ d e. d .first ≤ e .first) (e ∷ es) → (d : Transition) → d ∈ es → e .first ≤ d .first
-first-least (Ascending.more g a) = g
-
 pub rest-sorted : {e : Transition} {es : List Transition} → Sorted (e ∷ es) → Sorted es
-rest-sorted p = record { rises = rest-rises (p .rises); full = λ d m. p .full d (List·Memᴰ·tail m) }
+rest-sorted p = record { rises = ascending-rest (p .rises); full = λ d m. p .full d (List·Memᴰ·tail m) }
 
 -- a gap is one span or none
 pub gap-some : (a b : ℕ) → a < b → gap a b ≡ record { low = a; high = b - 1 } ∷ []
@@ -142,11 +136,13 @@ module _ (hi : ℕ) where
           (record {
             ascends = Ascending.more (λ y m. absurd (List·Memᴰ·not-nil m)) Ascending.none;
             full = λ s m. ⊎-elim (λ (q : s ≡ sp). rw q (omega arith)) (λ m. absurd (List·Memᴰ·not-nil m)) (List·Memᴰ·cases-cons m);
-            exact = λ x.
-                (λ w.
-                ⊎-elim (λ (i : Inside x sp). (i .from, omega (arith, i .to), λ e m. absurd (List·Memᴰ·not-nil m))) (λ (v : Within x []). absurd (List·Memᴰ·not-nil (v .1)))
-                (split sp [] w),
-                λ f. here sp [] (f .0) (omega (arith, f .1))) })
+            exact = λ x. (
+              λ w.
+                  ⊎-elim (λ (i : Inside x sp). (i .above, omega (arith, i .below), λ e m. absurd (List·Memᴰ·not-nil m))) (λ (v : Within x []). absurd (List·Memᴰ·not-nil (v .1)))
+                  (split sp [] w),
+              λ f. here sp [] (f .0) (omega (arith, f .1)),
+            );
+          })
 
       nothing : hi < c → Holes c hi [] (gap c (suc hi))
       nothing h =
@@ -154,7 +150,8 @@ module _ (hi : ℕ) where
           (record {
             ascends = Ascending.none;
             full = λ s m. absurd (List·Memᴰ·not-nil m);
-            exact = λ x. (λ w. absurd (List·Memᴰ·not-nil (w .1)), λ f. absurd (omega (arith, f .0, f .1))) })
+            exact = λ x. (λ w. absurd (List·Memᴰ·not-nil (w .1)), λ f. absurd (omega (arith, f .0, f .1)));
+          })
 
   -- one range more, at or before the others
   module _ (c : ℕ) (e : Transition) (es : List Transition) (p : Sorted (e ∷ es)) (hs : List Span) (r : Holes (max c (suc (e .last))) hi es hs) where
@@ -181,10 +178,10 @@ module _ (hi : ℕ) where
         sp = record { low = c; high = b - 1 }
 
         free-before : (x : ℕ) → x < e .first → Free x (e ∷ es)
-        free-before x h = free-cons x e es (not-held x e (λ i. omega (arith, i .0))) (λ d m. let y = first-least (p .rises) d m in not-held x d (λ i. omega (arith, i .0)))
+        free-before x h = free-cons x e es (not-held x e (λ i. omega (arith, i .0))) (λ d m. let y = ascending-first (p .rises) d m in not-held x d (λ i. omega (arith, i .0)))
 
         low : (s : Span) → s ∈ hs → max c (suc (e .last)) ≤ s .low
-        low s m = r .exact (s .low) .0 (s, m, record { from = omega arith; to = r .full s m }) .0
+        low s m = r .exact (s .low) .0 (s, m, record { above = omega arith; below = r .full s m }) .0
 
         some : c < b → Holes c hi (e ∷ es) (gap c b ++ hs)
         some h =
@@ -192,13 +189,15 @@ module _ (hi : ℕ) where
             (record {
               ascends = Ascending.more {x = sp} (λ s m. let y = low s m in omega (arith, full-range)) (r .ascends);
               full = λ s m. ⊎-elim (λ (q : s ≡ sp). rw q (omega arith)) (λ m. r .full s m) (List·Memᴰ·cases-cons m);
-              exact = λ x.
-                  (λ w.
-                  ⊎-elim (λ (i : Inside x sp). (i .from, omega (arith, i .to), free-before x (omega (arith, i .to)))) (λ v. sound x v) (split sp hs w),
-                  λ f.
-                  ⊎-elim (λ (k : ltb x (e .first) ≡ true). let y = ltb-true x (e .first) k in here sp hs (f .0) (omega (arith, f .1)))
-                  (λ (k : ltb x (e .first) ≡ false). there sp (behind x (f .0) (f .1) (f .2) (ltb-false x (e .first) k)))
-                  (test (ltb x (e .first)))) })
+              exact = λ x. (
+                λ w.
+                    ⊎-elim (λ (i : Inside x sp). (i .above, omega (arith, i .below), free-before x (omega (arith, i .below)))) (λ v. sound x v) (split sp hs w),
+                λ f.
+                    ⊎-elim (λ (k : ltb x (e .first) ≡ true). let y = ltb-true x (e .first) k in here sp hs (f .0) (omega (arith, f .1)))
+                    (λ (k : ltb x (e .first) ≡ false). there sp (behind x (f .0) (f .1) (f .2) (ltb-false x (e .first) k)))
+                    (test (ltb x (e .first))),
+              );
+            })
 
         nothing : b ≤ c → Holes c hi (e ∷ es) (gap c b ++ hs)
         nothing h =
@@ -215,16 +214,16 @@ any-none f l h x m = ⊎-elim (λ (t : f x ≡ true). absurd (false≢true (sym 
 
 module _ (es : List Transition) where
   -- no range holds the span's first symbol
-  unfoldable open-span : Span → Bool
-  open-span s = not (covered es s)
+  unfoldable unheld : Span → Bool
+  unheld s = not (covered es s)
 
-  open-free : (s : Span) → open-span s ≡ true → Free (s .low) es
-  unfolding open-span covered
-  open-free s h = any-none (holds (s .low)) es (not-true _ h)
+  unheld-free : (s : Span) → unheld s ≡ true → Free (s .low) es
+  unfolding unheld covered
+  unheld-free s h = any-none (holds (s .low)) es (not-true _ h)
 
-  free-open : (s : Span) → Free (s .low) es → open-span s ≡ true
-  unfolding open-span covered
-  free-open s g =
+  free-unheld : (s : Span) → Free (s .low) es → unheld s ≡ true
+  unfolding unheld covered
+  free-unheld s g =
       ⊎-elim (λ (t : any (holds (s .low)) es ≡ true). let r = any-out (holds (s .low)) es t in absurd (false≢true (sym (g (r .0) (r .1)) ∙ r .2)))
       (λ (t : any (holds (s .low)) es ≡ false). rw t)
       (test (any (holds (s .low)) es))
@@ -245,10 +244,10 @@ module _ (top : ℕ) (es : List Transition) (full : (e : Transition) → e ∈ e
       (r .2))
       (next-is a top es)
 
-  open-apart : (n a : ℕ) → Ascending Apart (keep (open-span es) (spans n a top es))
+  unheld-apart : (n a : ℕ) → Ascending Apart (keep (unheld es) (spans n a top es))
   unfolding spans keep
-  open-apart zero a = Ascending.none
-  open-apart (suc n) a =
+  unheld-apart zero a = Ascending.none
+  unheld-apart (suc n) a =
       ⊎-elim
       (λ (t : ltb a top ≡ true).
       let h : a < top = ltb-true a top t in
@@ -256,46 +255,48 @@ module _ (top : ℕ) (es : List Transition) (full : (e : Transition) → e ∈ e
       let sp : Span = record { low = a; high = b - 1 } in
       let l : a < b = next-gt a top es h in
       ⊎-elim
-      (λ (c : open-span es sp ≡ true).
-      let g : (s : Span) → s ∈ keep (open-span es) (spans n b top es) → Apart sp s =
-              λ s m.
-              let k = keep-out (open-span es) s (spans n b top es) m in
-              let v = spans-even top es n b s (k .0) in
-              let z = v .full in
-              let x = v .below in
-              ⊎-elim (λ (q : b ≡ s .low). absurd (next-held a h (open-free es sp c) (omega arith) (rw q (open-free es s (k .1)))))
-              (λ (q : b < s .low). omega arith)
-              (eq-or-lt-of-le (v .above)) in
-      rw (t, c) (Ascending.more g (open-apart n b)))
-      (λ (c : open-span es sp ≡ false). rw (t, c) (open-apart n b))
-      (test (open-span es sp)))
+      (λ (c : unheld es sp ≡ true).
+      let g : (s : Span) → s ∈ keep (unheld es) (spans n b top es) → Apart sp s =
+      λ s m.
+      let k = keep-out (unheld es) s (spans n b top es) m in
+      let v = spans-uncut top es n b s (k .0) in
+      let z = v .full in
+      let x = v .below in
+      ⊎-elim (λ (q : b ≡ s .low). absurd (next-held a h (unheld-free es sp c) (omega arith) (rw q (unheld-free es s (k .1)))))
+      (λ (q : b < s .low). omega arith)
+      (eq-or-lt-of-le (v .above)) in
+      rw (t, c) (Ascending.more g (unheld-apart n b)))
+      (λ (c : unheld es sp ≡ false). rw (t, c) (unheld-apart n b))
+      (test (unheld es sp)))
       (λ (t : ltb a top ≡ false). rw t Ascending.none)
       (test (ltb a top))
 
 -- the spans between cuts that no range holds are the holes
 pub missing-holes : (lo hi : ℕ) (es : List Transition) → ((e : Transition) → e ∈ es → e .first ≤ e .last) → Holes lo hi es (missing lo hi es)
-unfolding missing open-span inside
+unfolding missing unheld inside
 missing-holes lo hi es full =
     let all = cutAll lo hi es in
-    let out : (s : Span) → s ∈ keep (open-span es) all → Even (suc hi) es lo s × Free (s .low) es =
-            λ s m. let k = keep-out (open-span es) s all m in (cut-even hi es lo s (k .0), open-free es s (k .1)) in
+    let out : (s : Span) → s ∈ keep (unheld es) all → Uncut (suc hi) es lo s × Free (s .low) es =
+    λ s m. let k = keep-out (unheld es) s all m in (cut-spans hi es lo s (k .0), unheld-free es s (k .1)) in
     record {
-      ascends = unfold cutAll in open-apart (suc hi) es full (suc hi - lo) lo;
+      ascends = unfold cutAll in unheld-apart (suc hi) es full (suc hi - lo) lo;
       full = λ s m. out s m .0 .full;
-      exact = λ x.
-          (λ (s, m, i).
-          let r = out s m in
-          let v = r .0 in
-          (omega (arith, v .above, i .from), omega (arith, v .below, i .to), λ e k. v .alike x (i .from) (i .to) e k ∙ r .1 e k),
-          λ (l, u, g).
-          let o = cut-one hi es lo x l u in
-          let s = o .0 in
-          let k = keep-out (inside x) s all (rw (o .1) (List·Memᴰ·head refl)) in
-          let i = and-parts (leb (s .low) x) _ (k .1) in
-          let a = leb-true (s .low) x (i .0) in
-          let b = leb-true x (s .high) (i .1) in
-          let v = cut-even hi es lo s (k .0) in
-          (s, keep-in (open-span es) (k .0) (free-open es s (λ e m. sym (v .alike x a b e m) ∙ g e m)), record { from = a; to = b })) }
+      exact = λ x. (
+        λ (s, m, i).
+            let r = out s m in
+            let v = r .0 in
+            (omega (arith, v .above, i .above), omega (arith, v .below, i .below), λ e k. v .alike x (i .above) (i .below) e k ∙ r .1 e k),
+        λ (l, u, g).
+            let o = cut-one hi es lo x l u in
+            let s = o .0 in
+            let k = keep-out (inside x) s all (rw (o .1) (List·Memᴰ·head refl)) in
+            let i = and-parts (leb (s .low) x) _ (k .1) in
+            let a = leb-true (s .low) x (i .0) in
+            let b = leb-true x (s .high) (i .1) in
+            let v = cut-spans hi es lo s (k .0) in
+            (s, keep-in (unheld es) (k .0) (free-unheld es s (λ e m. sym (v .alike x a b e m) ∙ g e m)), record { above = a; below = b }),
+      );
+    }
 
 -- on sorted ranges one pass gives the holes
 pub missing-scan : (lo hi : ℕ) (es : List Transition) → Sorted es → missing lo hi es ≡ scan lo hi es

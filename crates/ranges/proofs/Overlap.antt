@@ -1,6 +1,6 @@
 -- What two ranges share, when ranges overlap, and when every symbol has exactly one transition.
 use Prim.Native.Nat.{ℕ, suc, _≤_, _<_, min, max}
-use mathlib.Core.Bool.{Bool, true, false, cond, _||_, false≢true}
+use mathlib.Core.Bool.{Bool, true, false, cond, false≢true}
 use mathlib.Core.List.{List, [], _∷_, List·Memᴰ·head, List·Memᴰ·tail, List·Memᴰ·not-nil}
 use mathlib.Core.Logic.{_⊎_, inl, inr, ⊎-elim, _↔_}
 use mathlib.Core.Option.{none, some}
@@ -10,12 +10,12 @@ use borrow.Author.Tests.{le-leb, leb-true, leb-false}
 use lib.Dec.{leb}
 use lib.ListN.{length}
 use Rattle.lists.specs.Lists.{_∈_, any, keep}
-use Rattle.lists.proofs.Tests.{test, or-cases, or-left, or-right}
+use Rattle.lists.proofs.Tests.{test, or-right}
 use Rattle.lists.proofs.Lists.{keep-in, keep-none}
 use Rattle.automata.specs.Automaton.{Transition, holds}
 use Rattle.ranges.specs.Span.{Span, Inside, InsideAny, intersectRanges, startsBelow, overlapping, Shared}
-use Rattle.ranges.specs.Missing.{missing, Free, Within, Holes, Sorted}
-use Rattle.ranges.proofs.Missing.{held, holds-ends, first-least, rest-sorted, any-none, missing-holes}
+use Rattle.ranges.specs.Missing.{missing, Holes, Sorted}
+use Rattle.ranges.proofs.Missing.{held, holds-ends, ascending-first, rest-sorted, any-none, missing-holes}
 
 -- a symbol lies in both ranges exactly when it lies in what they share
 pub intersect-exact : (s t : Span) (x : ℕ) → (Inside x s × Inside x t) ↔ InsideAny x (intersectRanges s t)
@@ -29,10 +29,11 @@ intersect-exact s t x = go (leb low high) refl
     high = min (s .high) (t .high)
 
     go : (b : Bool) → leb low high ≡ b → (Inside x s × Inside x t) ↔ InsideAny x (cond b (some (record { low = low; high = high })) none)
-    go true e =
-        (λ (i, j). record { from = omega (arith, i .from, j .from); to = omega (arith, i .to, j .to) },
-        λ i. (record { from = omega (arith, i .from); to = omega (arith, i .to) }, record { from = omega (arith, i .from); to = omega (arith, i .to) }))
-    go false e = (λ (i, j). omega (arith, leb-false low high e, i .from, j .from, i .to, j .to), λ i. absurd i)
+    go true e = (
+      λ (i, j). record { above = omega (arith, i .above, j .above); below = omega (arith, i .below, j .below) },
+      λ i. (record { above = omega (arith, i .above); below = omega (arith, i .below) }, record { above = omega (arith, i .above); below = omega (arith, i .below) }),
+    )
+    go false e = (λ (i, j). omega (arith, leb-false low high e, i .above, j .above, i .below, j .below), λ i. absurd i)
 
 -- an entry that starts at or below `end` is found
 below-found : (end : ℕ) {e : Transition} {es : List Transition} → e ∈ es → e .first ≤ end → startsBelow end es ≡ true
@@ -49,7 +50,7 @@ below-shared end {es = d ∷ es} (Shared.later s) = or-right (leb (d .first) end
 -- in a sorted list an entry that starts at or below the end of an earlier one shares its first symbol
 first-shared : (d e : Transition) (es : List Transition) → Sorted (d ∷ es) → e ∈ es → e .first ≤ d .last → Shared (d ∷ es)
 first-shared d e es p m h =
-    Shared.first e (e .first) m (held (e .first) d (first-least (p .rises) e m) h) (held (e .first) e (omega arith) (p .full e (List·Memᴰ·tail m)))
+    Shared.first e (e .first) m (held (e .first) d (ascending-first (p .rises) e m) h) (held (e .first) e (omega arith) (p .full e (List·Memᴰ·tail m)))
 
 found-below : (end : ℕ) (es : List Transition) → Sorted es → startsBelow end es ≡ true → ((e : Transition) × e ∈ es × (e .first ≤ end)) ⊎ Shared es
 unfolding startsBelow
@@ -138,6 +139,6 @@ module _ (lo hi : ℕ) (es : List Transition) (p : Sorted es) (within : (e : Tra
       no-hole : ((x : ℕ) → lo ≤ x → x ≤ hi → (d : Transition) × (keep (holds x) es ≡ d ∷ [])) → (hs : List Span) → Holes lo hi es hs → hs ≡ []
       no-hole f [] q = refl
       no-hole f (s ∷ hs) q =
-          let (l, u, free) = q .exact (s .low) .0 (s, List·Memᴰ·head refl, record { from = omega arith; to = q .full s (List·Memᴰ·head refl) }) in
+          let (l, u, free) = q .exact (s .low) .0 (s, List·Memᴰ·head refl, record { above = omega arith; below = q .full s (List·Memᴰ·head refl) }) in
           let one = ap length (sym (keep-none (holds (s .low)) es free) ∙ f (s .low) l u .1) in
           absurd (omega arith)

@@ -1,12 +1,12 @@
 -- The samples of document 01 on ranges.
 use Prim.Native.Nat.{ℕ, _≤_}
 use mathlib.Core.Bool.{true, false}
-use mathlib.Core.List.{List, [], _∷_, List·Memᴰ·not-nil, List·Memᴰ·cases-cons}
+use mathlib.Core.List.{[], _∷_, List·Memᴰ·not-nil, List·Memᴰ·cases-cons}
 use mathlib.Core.Logic.{⊎-elim}
 use mathlib.Core.Option.{some}
 use mathlib.Core.Path.{_≡_, refl, _∙_}
 use lib.Dec.{lit≤}
-use Rattle.lists.specs.Lists.{_∈_, Ascending}
+use Rattle.lists.specs.Lists.{Ascending}
 use Rattle.automata.specs.Automaton.{Transition}
 use Rattle.automata.specs.WellFormed.{lastSymbol}
 use Rattle.ranges.specs.Span.{Span, intersectRanges, startsBelow, overlapping}
@@ -26,7 +26,8 @@ one-sorted : (d : Transition) → d .first ≤ d .last → Sorted (d ∷ [])
 one-sorted d h =
     record {
       rises = Ascending.more (λ e m. absurd (List·Memᴰ·not-nil m)) Ascending.none;
-      full = λ e m. ⊎-elim (λ (q : e ≡ d). rw q h) (λ m. absurd (List·Memᴰ·not-nil m)) (List·Memᴰ·cases-cons m) }
+      full = λ e m. ⊎-elim (λ (q : e ≡ d). rw q h) (λ m. absurd (List·Memᴰ·not-nil m)) (List·Memᴰ·cases-cons m);
+    }
 
 pub samples :
     (missing 0 lastSymbol [] ≡ span 0 4294967295 ∷ [])

@@ -1,6 +1,6 @@
 -- The transitions of one state, in the order of a sheet, have sorted ranges.
-use Prim.Native.Nat.{ℕ, _≤_, _<_}
-use mathlib.Core.Bool.{Bool, true, false}
+use Prim.Native.Nat.{ℕ, _≤_}
+use mathlib.Core.Bool.{true, false}
 use mathlib.Core.List.{List, [], _∷_, List·Memᴰ·head, List·Memᴰ·tail}
 use mathlib.Core.Logic.{⊎-elim}
 use mathlib.Core.Path.{_≡_, refl, sym, _∙_}
@@ -42,4 +42,5 @@ pub sorted-ranges : (q : ℕ) (es : List Transition) → Ascending Before es →
 sorted-ranges q es a f s =
     record {
       rises = ranges-rise q es a f;
-      full = unfold rangesOf in λ e m. s e (keep-out (λ e. eqb (e .kind) 1) e es m .0) .full }
+      full = unfold rangesOf in λ e m. s e (keep-out (λ e. eqb (e .kind) 1) e es m .0) .full;
+    }

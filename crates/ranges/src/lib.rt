@@ -120,7 +120,11 @@ pub fn next_cut(run: &[u32], above: u64, top: u64) -> u64
 fn past(cursor: u64, last: u32) -> u64
     ensures { λ r. ⌜ r ≡ max cursor (last + 1) ⌝ }
 {
-    if cursor <= (last as u64) { last as u64 + 1 } else { cursor }
+    if cursor <= (last as u64) {
+        last as u64 + 1
+    } else {
+        cursor
+    }
 }
 
 // Writes the span from `from` up to and without `to` behind n spans, if it has a symbol; answers how many spans there are then.
@@ -141,7 +145,11 @@ fn add_gap(holes: &mut [u32], n: usize, from: u64, to: u64) -> usize
 fn until(first: u32, top: u64) -> u64
     ensures { λ r. ⌜ r ≡ min first top ⌝ }
 {
-    if (first as u64) < top { first as u64 } else { top }
+    if (first as u64) < top {
+        first as u64
+    } else {
+        top
+    }
 }
 
 // Writes low and high of each hole that the run's ranges leave from lower to upper at the front of holes; answers how many holes there are.

@@ -32,6 +32,6 @@ ruleset laws = (one-more, none-more, written, kept, needs)
 pub add-gap-spec : {M : Type 1} → statement M
 add-gap-spec =
     tie.close
-    (tie.spec (λ c. search laws) (λ c. search laws) (λ c. search laws) (λ c. search laws) (λ c. search laws) (λ c. search laws)
-    (λ c. search laws) (λ c. search laws) (λ c. search laws) (λ c. simp length-set (omega arith)) (λ c. search laws)
-    (λ c. search laws) (λ c. search laws) (λ c. search laws))
+    (tie.spec (λ c. search laws) (λ c. search laws) (λ c. search laws) (λ c. search laws) (λ c. search laws)
+    (λ c. search laws) (λ c. search laws) (λ c. search laws) (λ c. search laws) (λ c. simp length-set (omega arith))
+    (λ c. search laws) (λ c. search laws) (λ c. search laws) (λ c. search laws))

@@ -1,9 +1,10 @@
 -- `has_overlapping_ranges` meets its contract: up to `at` there is no range, and the first one leaves the rest to `starts_below`.
 use Prim.Native.Nat.{_≤_, _-_}
 use mathlib.Core.Path.{_≡_}
+use borrow.Author.Needs.{needs}
 use lib.ListN.{length, drop}
 use Rattle.ranges.specs.Span.{overlapping}
-use Rattle.ranges.proofs.Runs.{rangesIn, overlapLaws}
+use Rattle.ranges.proofs.Runs.{rangesIn, overlap-ended, overlap-skip, overlap-first}
 use Rattle.ranges.proofs.has_overlapping_ranges.Statement.{statement}
 use Rattle.ranges.proofs.has_overlapping_ranges.Tie as tie
 
@@ -16,4 +17,7 @@ abbrev μ-loop : tie.MeasureT-loop
 pub has-overlapping-ranges-spec : {M : Type 1} → statement M
 has-overlapping-ranges-spec =
     tie.close
-    (tie.spec Inv-loop μ-loop (λ c. search overlapLaws) (λ c. search overlapLaws) (λ c. search overlapLaws) (λ c. search overlapLaws) (λ c. search overlapLaws) (λ c. search overlapLaws) (λ c. search overlapLaws) (λ c. search overlapLaws) (λ c. search overlapLaws) (λ c. search overlapLaws) (λ c. search overlapLaws) (λ c. search overlapLaws) (λ c. search overlapLaws) (λ c κs. search overlapLaws) (λ c. search overlapLaws) (λ c. search overlapLaws) (λ c. search overlapLaws) (λ c. search overlapLaws))
+    (tie.spec Inv-loop μ-loop (λ c. search needs) (λ c. search needs) (λ c. search needs) (λ c. search needs)
+    (λ c. search needs) (λ c. search needs) (λ c. search needs) (λ c. search needs) (λ c. search needs) (λ c. search needs)
+    (λ c. search needs) (λ c. search needs) (λ c. search needs) (λ c κs. search needs) (λ c. search overlap-first)
+    (λ c. search needs) (λ c. (search needs, search overlap-skip)) (λ c. search overlap-ended))
