@@ -1,7 +1,7 @@
 // Ranges of symbols: what two ranges share, whether the ranges of a run of records overlap, the symbols that none of them holds,
 // and the next cut among them. Each function on a run reads each of its records once.
 ghost use mathlib.Core.Path.{_≡_};
-ghost use Prim.Native.Nat.{_+_, _*_, _≤_, _<_, min, max};
+ghost use Prim.Native.Nat.{_+_, _*_, _≤_, min, max};
 ghost use lib.ListN.{length};
 ghost use lib.Seq.{sets};
 ghost use Rattle.automata.specs.Automaton.{rangesOf};
