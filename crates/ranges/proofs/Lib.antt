@@ -1,0 +1,8 @@
+-- The laws of ranges, cuts and holes.
+pub mod Cuts
+pub mod Missing
+pub mod Overlap
+pub mod Sorting
+pub mod Samples
+pub mod Runs
+pub mod Writing

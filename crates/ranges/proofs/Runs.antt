@@ -1,0 +1,82 @@
+-- The laws by which the functions on a run of records are proved: each says what one more record does.
+use Prim.Native.Nat.{ℕ, _+_, _-_, _≤_, _<_, max}
+use mathlib.Core.Bool.{Bool, true, false}
+use mathlib.Core.List.{List, [], _∷_}
+use mathlib.Core.Path.{_≡_, sym, _∙_, ap}
+use native.Mathlib.Numerals.{add-one}
+use borrow.Author.Tests.{le-leb, lt-leb, eq-eqb, ne-eqb}
+use lib.ListN.{length, getD, take, drop}
+use Rattle.lists.specs.Lists.{keep}
+use Rattle.lists.proofs.Parts.{part-all}
+use Rattle.automata.specs.Automaton.{Transition, rangesOf}
+use Rattle.automata.specs.Records.{readRecords, recordAt}
+use Rattle.automata.proofs.Records.{records-at, records-end}
+use Rattle.ranges.specs.Span.{startsBelow, overlapping}
+use Rattle.ranges.specs.Cuts.{nearer, nextCut}
+
+-- the ranges among the records of a run
+abbrev pub rangesIn : List ℕ → List Transition
+rangesIn s = rangesOf (readRecords s)
+
+module _ (s : List ℕ) (at : ℕ) where
+  pub ranges-end : length s - at < 5 → rangesIn (drop at s) ≡ []
+  unfolding rangesOf keep
+  ranges-end h = rw (records-end s at h)
+
+  module _ (h : 5 ≤ length s - at) where
+    pub ranges-at : getD s (at + 1) 0 ≡ 1 → rangesIn (drop at s) ≡ recordAt s at ∷ rangesIn (drop (at + 5) s)
+    unfolding rangesOf keep
+    ranges-at k = rw (records-at s at h, eq-eqb _ _ k)
+
+    pub ranges-skip : (getD s (at + 1) 0 ≡ 1 → ⊥) → rangesIn (drop at s) ≡ rangesIn (drop (at + 5) s)
+    unfolding rangesOf keep
+    ranges-skip k = rw (records-at s at h, ne-eqb _ _ k)
+
+-- whether a range starts below: those from `at` on decide
+module _ (s : List ℕ) (end largest at : ℕ) (e : startsBelow end (rangesIn s) ≡ startsBelow largest (rangesIn (drop at s))) where
+  pub below-ended : length s - at < 5 → false ≡ startsBelow end (rangesIn s)
+  unfolding startsBelow
+  below-ended h = sym (e ∙ rw (ranges-end s at h))
+
+  module _ (h : 5 ≤ length s - at) where
+    pub below-skip : (getD s (at + 1) 0 ≡ 1 → ⊥) → startsBelow end (rangesIn s) ≡ startsBelow largest (rangesIn (drop (at + 5) s))
+    below-skip k = e ∙ ap (startsBelow largest) (ranges-skip s at h k)
+
+    pub below-stopped : getD s (at + 1) 0 ≡ 1 → getD s (at + 2) 0 ≤ largest → true ≡ startsBelow end (rangesIn s)
+    unfolding startsBelow
+    below-stopped k p = sym (e ∙ rw (ranges-at s at h k, le-leb _ _ p))
+
+    pub below-next : getD s (at + 1) 0 ≡ 1 → largest < getD s (at + 2) 0 → (r : ℕ) → r ≡ max largest (getD s (at + 3) 0)
+        → startsBelow end (rangesIn s) ≡ startsBelow r (rangesIn (drop (at + 5) s))
+    unfolding startsBelow
+    below-next k p r q = e ∙ rw (ranges-at s at h k, lt-leb _ _ p, q)
+
+-- whether ranges overlap: up to `at` there is none
+module _ (s : List ℕ) (at : ℕ) (e : overlapping (rangesIn s) ≡ overlapping (rangesIn (drop at s))) where
+  pub overlap-ended : length s - at < 5 → false ≡ overlapping (rangesIn s)
+  unfolding overlapping
+  overlap-ended h = sym (e ∙ rw (ranges-end s at h))
+
+  module _ (h : 5 ≤ length s - at) where
+    pub overlap-skip : (getD s (at + 1) 0 ≡ 1 → ⊥) → overlapping (rangesIn s) ≡ overlapping (rangesIn (drop (at + 5) s))
+    overlap-skip k = e ∙ ap overlapping (ranges-skip s at h k)
+
+    pub overlap-first : getD s (at + 1) 0 ≡ 1 → (r : Bool)
+        → r ≡ startsBelow (getD s (at + 3) 0) (rangesIn (take (length s - (at + 5)) (drop (at + 5) s))) → r ≡ overlapping (rangesIn s)
+    unfolding overlapping
+    overlap-first k r q = q ∙ rw (part-all (at + 5) s) (sym (e ∙ rw (ranges-at s at h k)))
+
+-- the next cut: what is found among the ranges before `at`, and the ranges from there on
+module _ (s : List ℕ) (a top found at : ℕ) (e : nextCut a top (rangesIn s) ≡ nextCut a found (rangesIn (drop at s))) where
+  pub cut-ended : length s - at < 5 → found ≡ nextCut a top (rangesIn s)
+  unfolding nextCut
+  cut-ended h = sym (e ∙ rw (ranges-end s at h))
+
+  module _ (h : 5 ≤ length s - at) where
+    pub cut-skip : (getD s (at + 1) 0 ≡ 1 → ⊥) → nextCut a top (rangesIn s) ≡ nextCut a found (rangesIn (drop (at + 5) s))
+    cut-skip k = e ∙ ap (nextCut a found) (ranges-skip s at h k)
+
+    pub cut-next : getD s (at + 1) 0 ≡ 1 → (r : ℕ) → r ≡ nearer a (getD s (at + 2) 0) (nearer a (getD s (at + 3) 0 + 1) found)
+        → nextCut a top (rangesIn s) ≡ nextCut a r (rangesIn (drop (at + 5) s))
+    unfolding nextCut
+    cut-next k r q = e ∙ rw (ranges-at s at h k, q, add-one (getD s (at + 3) 0))

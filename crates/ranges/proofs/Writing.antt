@@ -1,0 +1,94 @@
+-- The laws by which `missing_ranges` is proved: holes as words at the front of a list, written one after the other.
+use Prim.Native.Nat.{ℕ, _+_, _-_, _*_, _≤_, _<_, min, max}
+use mathlib.Core.Bool.{Bool, true, false, cond}
+use mathlib.Core.List.{List, [], _∷_, _++_}
+use mathlib.Core.Path.{_≡_, refl, _∙_, ap}
+use native.Mathlib.Numerals.{add-one}
+use native.Mathlib.Omega.{arith}
+use lib.Dec.{ltb}
+use lib.ListN.{length, getD, drop, length-append}
+use lib.Seq.{sets, length-sets}
+use Rattle.lists.proofs.Parts.{sets-append}
+use Rattle.ranges.specs.Span.{Span}
+use Rattle.ranges.specs.Missing.{missing, Sorted, gap, scan, spanWords}
+use Rattle.ranges.proofs.Missing.{missing-scan}
+use Rattle.ranges.proofs.Runs.{rangesIn, ranges-at, ranges-skip, ranges-end}
+
+words-append : (gs hs : List Span) → spanWords (gs ++ hs) ≡ spanWords gs ++ spanWords hs
+unfolding spanWords
+words-append [] hs = refl
+words-append (s ∷ gs) hs = ap (λ l. s .low ∷ s .high ∷ l) (words-append gs hs)
+
+pub words-length : (hs : List Span) → length (spanWords hs) ≡ 2 * length hs
+unfolding spanWords
+words-length [] = refl
+words-length (s ∷ hs) = let h = words-length hs in omega arith
+
+gap-short : (a b : ℕ) → length (gap a b) ≤ 1
+unfolding gap
+gap-short a b = go (ltb a b)
+  where
+    go : (t : Bool) → length {A = Span} (cond t (record { low = a; high = b - 1 } ∷ []) []) ≤ 1
+    go true = omega arith
+    go false = omega arith
+
+-- n spans stand at the front of h; with those that are left to write, `all` stand at the front of h₀
+pub record Left (h₀ : List ℕ) (all : List Span) (h : List ℕ) (n : ℕ) (left : List Span) : Type 0 where
+  pub count : n + length left ≡ length all
+  pub words : sets h (2 * n) (spanWords left) ≡ sets h₀ 0 (spanWords all)
+
+left-start : (h : List ℕ) (all : List Span) → Left h all h 0 all
+left-start h all = record { count = omega arith; words = refl }
+
+-- the spans gs are written
+left-more : {h₀ h : List ℕ} {all : List Span} {n : ℕ} (gs hs : List Span) → Left h₀ all h n (gs ++ hs) → (h′ : List ℕ) (n′ : ℕ)
+    → n′ ≡ n + length gs → h′ ≡ sets h (2 * n) (spanWords gs)
+    → Left h₀ all h′ n′ hs
+left-more {h₀} {h} {all} {n} gs hs l h′ n′ p q =
+    record {
+      count = omega (arith, l .count, length-append gs hs);
+      words = rw (q, place, sets-append, ← words-append gs hs) (l .words);
+    }
+  where
+    place : 2 * n′ ≡ 2 * n + length (spanWords gs)
+    place = omega (arith, words-length gs)
+
+-- a gap more takes at most two words
+pub holes-room : (s h h′ : List ℕ) (n n′ a b at : ℕ) → 5 ≤ length s - at → n′ ≡ n + length (gap a b) → h′ ≡ sets h (2 * n) (spanWords (gap a b))
+    → 10 * n + 2 * (length s - at) + 10 ≤ 5 * length h → 10 * n′ + 2 * (length s - (at + 5)) + 10 ≤ 5 * length h′
+holes-room s h h′ n n′ a b at p r w m = omega (arith, gap-short a b, ap length w ∙ length-sets h (2 * n) (spanWords (gap a b)))
+
+-- the holes: those from `cursor` on in the ranges from `at` on are left
+module _ (s h₀ : List ℕ) (lo hi : ℕ) where
+  abbrev pub HolesLeft : List ℕ → ℕ → ℕ → ℕ → Type 0
+  HolesLeft h cursor n at = Left h₀ (scan lo hi (rangesIn s)) h n (scan cursor hi (rangesIn (drop at s)))
+
+  pub holes-start : HolesLeft h₀ lo 0 0
+  holes-start = left-start h₀ (scan lo hi (rangesIn s))
+
+  module _ (h : List ℕ) (cursor n at : ℕ) (l : HolesLeft h cursor n at) where
+    pub holes-skip : 5 ≤ length s - at → (getD s (at + 1) 0 ≡ 1 → ⊥) → HolesLeft h cursor n (at + 5)
+    holes-skip p k = rw (ranges-skip s at p k) at l
+
+    module _ (b n′ : ℕ) (h′ : List ℕ) (r : n′ ≡ n + length (gap cursor b)) (w : h′ ≡ sets h (2 * n) (spanWords (gap cursor b))) where
+      pub holes-next : 5 ≤ length s - at → getD s (at + 1) 0 ≡ 1 → b ≡ min (getD s (at + 2) 0) (hi + 1) → (cursor′ : ℕ) → cursor′ ≡ max cursor (getD s (at + 3) 0 + 1)
+          → HolesLeft h′ cursor′ n′ (at + 5)
+      unfolding scan
+      holes-next p k e cursor′ f = left-more (gap cursor b) (scan cursor′ hi (rangesIn (drop (at + 5) s))) (rw step at l) h′ n′ r w
+        where
+          step : scan cursor hi (rangesIn (drop at s)) ≡ gap cursor b ++ scan cursor′ hi (rangesIn (drop (at + 5) s))
+          step = rw (ranges-at s at p k, e, f, add-one hi, add-one (getD s (at + 3) 0))
+
+      pub holes-length : length h′ ≡ length h₀
+      holes-length = simp length-sets at (ap length w) ∙ (simp length-sets at (ap length (l .words)))
+
+      module _ (p : length s - at < 5) (e : b ≡ hi + 1) (d : Sorted (rangesIn s)) where
+        last-left : Left h₀ (missing lo hi (rangesIn s)) h n (gap cursor b)
+        unfolding scan
+        last-left = rw (missing-scan lo hi (rangesIn s) d, e, add-one hi) (rw (ranges-end s at p) at l)
+
+        pub holes-count : n′ ≡ length (missing lo hi (rangesIn s))
+        holes-count = r ∙ last-left .count
+
+        pub holes-words : h′ ≡ sets h₀ 0 (spanWords (missing lo hi (rangesIn s)))
+        holes-words = w ∙ last-left .words

@@ -1,0 +1,56 @@
+-- The symbols from lo to hi that no range holds (document 01, "Ranges"), as spans: by cuts, by their properties, and by one pass over sorted ranges.
+use Prim.Native.Nat.{ℕ, suc, _-_, _≤_, _<_, min, max}
+use mathlib.Core.Bool.{Bool, false, cond, not}
+use mathlib.Core.List.{List, [], _∷_, _++_}
+use mathlib.Core.Logic.{_↔_}
+use mathlib.Core.Path.{_≡_}
+use lib.Dec.{ltb}
+use Rattle.lists.specs.Lists.{_∈_, any, keep, Ascending}
+use Rattle.automata.specs.Automaton.{Transition, holds}
+use Rattle.ranges.specs.Span.{Span, Inside}
+use Rattle.ranges.specs.Cuts.{cutAll}
+
+-- some range holds the span's first symbol; between cuts it then holds all of them
+unfoldable pub covered : List Transition → Span → Bool
+covered es s = any (holds (s .low)) es
+
+-- the spans between cuts that no range holds
+unfoldable pub missing : ℕ → ℕ → List Transition → List Span
+missing lo hi es = keep (λ s. not (covered es s)) (cutAll lo hi es)
+
+-- no range holds the symbol x
+abbrev pub Free : ℕ → List Transition → Type 0
+Free x es = (e : Transition) → e ∈ es → holds x e ≡ false
+
+-- the symbol x lies in one of the spans
+abbrev pub Within : ℕ → List Span → Type 0
+Within x hs = (s : Span) × s ∈ hs × Inside x s
+
+-- a symbol stands between s and t
+abbrev pub Apart : Span → Span → Type 0
+Apart s t = suc (s .high) < t .low
+
+-- the maximal runs of symbols that no range holds, ascending: since the spans are apart and hold every such symbol, none can be longer
+pub record Holes (lo hi : ℕ) (es : List Transition) (hs : List Span) : Type 0 where
+  pub ascends : Ascending Apart hs
+  pub full : (s : Span) → s ∈ hs → s .low ≤ s .high
+  pub exact : (x : ℕ) → Within x hs ↔ ((lo ≤ x) × (x ≤ hi) × Free x es)
+
+-- sorted by first, and none empty
+pub record Sorted (es : List Transition) : Type 0 where
+  pub rises : Ascending (λ d e. d .first ≤ e .first) es
+  pub full : (e : Transition) → e ∈ es → e .first ≤ e .last
+
+-- the span from a up to and without b, if it has a symbol
+unfoldable pub gap : ℕ → ℕ → List Span
+gap a b = cond (ltb a b) (record { low = a; high = b - 1 } ∷ []) []
+
+-- one pass over sorted ranges: c is the first symbol that is not settled
+unfoldable pub scan : ℕ → ℕ → List Transition → List Span
+scan c hi [] = gap c (suc hi)
+scan c hi (e ∷ es) = gap c (min (e .first) (suc hi)) ++ scan (max c (suc (e .last))) hi es
+
+-- low and high of each span, in order
+unfoldable pub spanWords : List Span → List ℕ
+spanWords [] = []
+spanWords (s ∷ hs) = s .low ∷ s .high ∷ spanWords hs
