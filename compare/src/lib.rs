@@ -1,0 +1,19 @@
+//! The original Rust behind a plain interface, and what it takes to compare the port with it.
+
+pub mod ast;
+pub mod bounded;
+pub mod checker;
+pub mod equality;
+pub mod expect;
+pub mod generate;
+pub mod grammar;
+pub mod oracle;
+pub mod paper;
+pub mod sheet;
+
+/// The original, compiled from its own files.
+pub mod automata {
+    include!(concat!(env!("OUT_DIR"), "/automata/mod.rs"));
+
+    pub mod access;
+}
