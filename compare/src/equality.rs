@@ -6,37 +6,38 @@ use std::collections::{HashSet, VecDeque};
 
 use crate::sheet::{Record, Sheet};
 
-/// The pairs of targets of two states, one for each symbol range that both runs share.
+/// The pairs of targets of two states, one for each range of symbols that both runs share, with the
+/// first symbol of that range.
 ///
 /// Both runs are those of determinizations: ascending, and each symbol held by exactly one record.
-fn successors(p: &[Record], q: &[Record]) -> Vec<(usize, usize)> {
+fn successors(p: &[Record], q: &[Record]) -> Vec<(u32, usize, usize)> {
     let mut pairs = Vec::new();
     let (mut i, mut j) = (0, 0);
     while i < p.len() && j < q.len() {
-        pairs.push((p[i][4] as usize, q[j][4] as usize));
-        let (p_last, q_last) = (p[i][3], q[j][3]);
-        i += (p_last <= q_last) as usize;
-        j += (q_last <= p_last) as usize;
+        let (r, s) = (p[i], q[j]);
+        pairs.push((r[2].max(s[2]), r[4] as usize, s[4] as usize));
+        i += (r[3] <= s[3]) as usize;
+        j += (s[3] <= r[3]) as usize;
     }
     pairs
 }
 
-/// Whether some word leads two determinizations to states that differ in acceptance.
-pub fn differ(d: &Sheet, e: &Sheet) -> bool {
+/// A shortest word that leads two determinizations to states that differ in acceptance.
+pub fn difference(d: &Sheet, e: &Sheet) -> Option<Vec<u32>> {
     let start = (d.start as usize, e.start as usize);
     let mut seen = HashSet::from([start]);
-    let mut open = VecDeque::from([start]);
-    while let Some((p, q)) = open.pop_front() {
+    let mut open = VecDeque::from([(start, Vec::new())]);
+    while let Some(((p, q), word)) = open.pop_front() {
         if d.accept[p] != e.accept[q] {
-            return true;
+            return Some(word);
         }
-        for pair in successors(d.run(p), e.run(q)) {
-            if seen.insert(pair) {
-                open.push_back(pair);
+        for (symbol, p, q) in successors(d.run(p), e.run(q)) {
+            if seen.insert((p, q)) {
+                open.push_back(((p, q), [&word[..], &[symbol]].concat()));
             }
         }
     }
-    false
+    None
 }
 
 /// The number of classes of the smallest equivalence on the states of both that joins the starts
@@ -63,7 +64,7 @@ pub fn classes(d: &Sheet, e: &Sheet) -> usize {
     loop {
         let mut grew = false;
         for state in 0..total {
-            for (p, q) in successors(&runs[class[state]], &runs[state]) {
+            for (_, p, q) in successors(&runs[class[state]], &runs[state]) {
                 grew |= join(&mut class, p, q);
             }
         }

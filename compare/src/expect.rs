@@ -27,14 +27,15 @@ pub struct Parsed {
     pub built: Built,
 }
 
-/// What exact equality answers; the difference word is free.
+/// What exact equality answers.
 #[derive(Clone, Debug, PartialEq, Eq)]
 pub enum Verdict {
     Same {
         joins: u64,
     },
-    /// The most symbols that a difference word may have.
+    /// Any word that exactly one automaton accepts will do, if it has at most `longest` symbols.
     Different {
+        word: Vec<u32>,
         longest: u64,
     },
 }
@@ -210,13 +211,13 @@ pub fn equality(a: &[u32], b: &[u32]) -> Outcome<Verdict> {
     let (a, b) = (accepted(a)?, accepted(b)?);
     let (d, e) = (fitting(&a)?, fitting(&b)?);
     let states = d.states() + e.states();
-    Ok(if equality::differ(&d, &e) {
-        Verdict::Different {
+    Ok(match equality::difference(&d, &e) {
+        Some(word) => Verdict::Different {
+            word,
             longest: states as u64 - 2,
-        }
-    } else {
-        Verdict::Same {
+        },
+        None => Verdict::Same {
             joins: (states - equality::classes(&d, &e)) as u64,
-        }
+        },
     })
 }

@@ -4,6 +4,7 @@ pub mod labels;
 pub mod pairs;
 pub mod patterns;
 pub mod sheets;
+pub mod tiny;
 pub mod words;
 
 /// A generator of numbers (splitmix64): the same seed gives the same numbers.

@@ -2,13 +2,17 @@
 
 pub mod ast;
 pub mod bounded;
+pub mod calls;
 pub mod checker;
+pub mod emit;
 pub mod equality;
 pub mod expect;
 pub mod generate;
 pub mod grammar;
+pub mod lent;
 pub mod oracle;
 pub mod paper;
+pub mod port;
 pub mod sheet;
 
 /// The original, compiled from its own files.

@@ -1,6 +1,6 @@
 //! Pairs of sheets: variants of one another, families at the limits of products, and any two.
 
-use super::{Rng, labels, sheets};
+use super::{Rng, labels, sheets, tiny};
 use crate::sheet::{EPSILON, MAX_STATES, RANGE, Sheet, write_labels};
 use crate::{bounded, oracle};
 
@@ -172,8 +172,8 @@ pub fn any(rng: &mut Rng) -> (&'static str, Vec<u32>, Vec<u32>) {
     match rng.below(100) {
         0..20 => {
             let (a, b) = (
-                sheets::tiny(rng.below(sheets::TINY)),
-                sheets::tiny(rng.below(sheets::TINY)),
+                tiny::sheet(rng.below(tiny::ALL)),
+                tiny::sheet(rng.below(tiny::ALL)),
             );
             ("tiny", a.words(), b.words())
         }

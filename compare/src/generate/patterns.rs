@@ -79,12 +79,13 @@ fn transition(rng: &mut Rng, text: &mut String, from: &str, to: &str) {
     *text += "];";
 }
 
-/// A text by the grammar, apart from a name, a number or a range that may break it.
-fn pattern(rng: &mut Rng) -> String {
+/// A text of up to `most` transitions by the grammar, apart from a name, a number or a range that
+/// may break it.
+fn pattern(rng: &mut Rng, most: usize) -> String {
     let names: Vec<String> = (0..rng.within(1, 6)).map(|_| name(rng)).collect();
     let mut text = format!("automaton{}{}{}{{", needed(rng), name(rng), space(rng));
     text += &format!("{}init{}{};", space(rng), needed(rng), rng.pick(&names));
-    for _ in 0..rng.below(8) {
+    for _ in 0..rng.within(0, most) {
         text += space(rng);
         let (from, to) = (rng.pick(&names).clone(), rng.pick(&names).clone());
         transition(rng, &mut text, &from, &to);
@@ -132,20 +133,34 @@ fn rest(rng: &mut Rng) -> Vec<u8> {
     }
 }
 
-/// A text, with the name of its sort.
-pub fn any(rng: &mut Rng) -> (&'static str, Vec<u8>) {
-    let byte = |rng: &mut Rng| match rng.below(4) {
+/// A byte to damage a text with.
+fn byte(rng: &mut Rng) -> u8 {
+    match rng.below(4) {
         0 => rng.next() as u8,
         _ => *rng.pick(b" \t\n;,[]{}->a0_9p"),
-    };
+    }
+}
+
+/// A text of up to two transitions, one in three damaged.
+pub fn short(rng: &mut Rng) -> Vec<u8> {
+    let text = pattern(rng, 2).into_bytes();
+    if rng.one_in(3) {
+        damaged(rng, &text, byte)
+    } else {
+        text
+    }
+}
+
+/// A text, with the name of its sort.
+pub fn any(rng: &mut Rng) -> (&'static str, Vec<u8>) {
     match rng.below(100) {
         0..55 => {
-            let mut text = pattern(rng).into_bytes();
+            let mut text = pattern(rng, 7).into_bytes();
             text.extend(rest(rng));
             ("pattern", text)
         }
         55..95 => {
-            let text = pattern(rng);
+            let text = pattern(rng, 7);
             ("damaged", damaged(rng, text.as_bytes(), byte))
         }
         95..97 => ("limit", limit(rng).into_bytes()),

@@ -1,4 +1,4 @@
-//! Sheets: every tiny one, random ones of every size, ones at the limits, and damaged copies.
+//! Sheets: random ones of every size, ones at the limits, and damaged copies.
 
 use super::{Rng, damaged};
 use crate::sheet::{EPSILON, MAX_RECORDS, MAX_STATES, RANGE, Record, Sheet};
@@ -30,57 +30,6 @@ pub const EDGES: [u32; 24] = [
     u32::MAX - 1,
     u32::MAX,
 ];
-
-/// The triggers of the tiny sheets of one state.
-const ONE_STATE: [(u32, u32, u32); 4] = [
-    (EPSILON, 0, 0),
-    (RANGE, 0, 5),
-    (RANGE, 3, 9),
-    (RANGE, 6, u32::MAX),
-];
-
-/// The triggers of the tiny sheets of two states.
-const TWO_STATES: [(u32, u32, u32); 3] = [(EPSILON, 0, 0), (RANGE, 0, 5), (RANGE, 3, u32::MAX)];
-
-/// The number of tiny sheets of one state: each set of its records, accepting or not.
-pub const TINY_ONE: usize = 1 << (4 + 1);
-
-/// The number of all tiny sheets. Of two states: each set of 12 records, both accept words, the start.
-pub const TINY: usize = TINY_ONE + (1 << (12 + 2 + 1));
-
-/// The tiny sheet of a number below `TINY`.
-pub fn tiny(number: usize) -> Sheet {
-    let bit = |number: usize, at: usize| (number >> at & 1) as u32;
-    if number < TINY_ONE {
-        let records = ONE_STATE
-            .iter()
-            .enumerate()
-            .filter(|(i, _)| bit(number, *i) == 1);
-        return Sheet {
-            start: 0,
-            accept: vec![bit(number, 4)],
-            records: records
-                .map(|(_, &(kind, first, last))| [0, kind, first, last, 0])
-                .collect(),
-        };
-    }
-    let number = number - TINY_ONE;
-    let mut records = Vec::new();
-    for from in 0..2 {
-        for (i, &(kind, first, last)) in TWO_STATES.iter().enumerate() {
-            for to in 0..2 {
-                if bit(number, from * 6 + i * 2 + to) == 1 {
-                    records.push([from as u32, kind, first, last, to as u32]);
-                }
-            }
-        }
-    }
-    Sheet {
-        start: bit(number, 12),
-        accept: vec![bit(number, 13), bit(number, 14)],
-        records,
-    }
-}
 
 /// Where the ends of a sheet's ranges come from.
 #[derive(Clone, Copy)]
@@ -212,6 +161,16 @@ pub fn from_the_end(k: usize) -> Sheet {
     }
 }
 
+/// The same, with loops at the start that cut each set's symbols into `cuts` + 1 parts and a hole.
+pub fn from_the_end_cut(k: usize, cuts: usize) -> Sheet {
+    let mut sheet = from_the_end(k);
+    sheet
+        .records
+        .extend((2..=cuts as u32).map(|last| [0, RANGE, 0, last, 0]));
+    sheet.sort();
+    sheet
+}
+
 /// One state that loops on `points` single symbols with holes between them, from `first` on.
 pub fn comb(first: u32, points: usize) -> Sheet {
     let records = (0..points as u32).map(|i| [0, RANGE, first + 2 * i, first + 2 * i, 0]);
@@ -275,7 +234,7 @@ pub fn complete(states: usize, ranges: usize) -> Sheet {
 /// A sheet at or near one of the limits.
 pub fn limit(rng: &mut Rng) -> Sheet {
     let near = |rng: &mut Rng, number: usize| number + rng.below(3) - 1;
-    match rng.below(10) {
+    match rng.below(11) {
         0 => chain(rng.within(MAX_STATES - 3, MAX_STATES), rng.one_in(2)),
         1 => from_the_end(rng.within(6, 9)),
         2 => comb(rng.below(2) as u32, near(rng, 1023)),
@@ -291,6 +250,7 @@ pub fn limit(rng: &mut Rng) -> Sheet {
             let states = rng.within(MAX_STATES - 2, MAX_STATES);
             total(rng, states, 3)
         }
+        9 => from_the_end_cut(7, rng.within(12, 15)),
         _ => random(rng, 1, MAX_RECORDS, 0),
     }
 }
@@ -345,13 +305,6 @@ mod tests {
     use super::*;
     use crate::paper::sheet_fault;
     use std::collections::HashSet;
-
-    #[test]
-    fn tiny_sheets_are_accepted_and_different() {
-        let sheets: HashSet<Vec<u32>> = (0..TINY).map(|number| tiny(number).words()).collect();
-        assert_eq!(sheets.len(), TINY);
-        assert!(sheets.iter().all(|sheet| sheet_fault(sheet) == 0));
-    }
 
     #[test]
     fn sheets_are_accepted() {
