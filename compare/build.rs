@@ -37,15 +37,8 @@ fn main() {
     if parser {
         println!("cargo::rustc-cfg=parser");
     }
-    link_original(
-        &named("RINGMATCH_RUST", top.join("../shared/docs/src")),
-        &out,
-        parser,
-    );
-    link_port(
-        &named("RINGMATCH_LIB", top.join("target/staticlib/libringmatch.a")),
-        &out,
-    );
+    link_original(&named("RINGMATCH_RUST", top.join("../shared/docs/src")), &out, parser);
+    link_port(&named("RINGMATCH_LIB", top.join("target/staticlib/libringmatch.a")), &out);
 }
 
 /// The path that an environment variable names, or else `default`.
@@ -60,10 +53,7 @@ fn named(variable: &str, default: PathBuf) -> PathBuf {
 fn link_original(source: &Path, out: &Path, parser: bool) {
     let source = source.join("src/automata");
     let source = source.canonicalize().unwrap_or_else(|_| {
-        panic!(
-            "the original is not at {}: name its folder in RINGMATCH_RUST",
-            source.display()
-        )
+        panic!("the original is not at {}: name its folder in RINGMATCH_RUST", source.display())
     });
     let folder = out.join("automata");
     fs::create_dir_all(&folder).expect("OUT_DIR can be written");

@@ -131,11 +131,7 @@ pub fn product(a: &Sheet, b: &Sheet) -> Product {
             return Product::TooManyPairs;
         }
     }
-    if epsilon {
-        Product::Epsilon
-    } else {
-        Product::Clear
-    }
+    if epsilon { Product::Epsilon } else { Product::Clear }
 }
 
 /// Whether two records are ranges with a common symbol.

@@ -50,10 +50,7 @@ pub struct Tally {
 
 impl Tally {
     pub fn new(call: &'static str) -> Tally {
-        Tally {
-            call,
-            ..Tally::default()
-        }
+        Tally { call, ..Tally::default() }
     }
 
     /// Counts one input, and keeps it where there is a fault and it is the shortest so far.
@@ -73,11 +70,7 @@ impl Tally {
         for (name, value) in input {
             shown += &format!("\n    {name}: {}", value.shown());
         }
-        if self
-            .shortest
-            .as_ref()
-            .is_none_or(|shortest| shown.len() < shortest.len())
-        {
+        if self.shortest.as_ref().is_none_or(|shortest| shown.len() < shortest.len()) {
             self.shortest = Some(shown);
         }
     }

@@ -50,10 +50,8 @@ pub fn classes(d: &Sheet, e: &Sheet) -> usize {
         .map(|state| match state.checked_sub(offset) {
             None => d.run(state).to_vec(),
             Some(state) => {
-                let shifted = e
-                    .run(state)
-                    .iter()
-                    .map(|r| [r[0], r[1], r[2], r[3], r[4] + offset as u32]);
+                let shifted =
+                    e.run(state).iter().map(|r| [r[0], r[1], r[2], r[3], r[4] + offset as u32]);
                 shifted.collect()
             }
         })

@@ -42,11 +42,7 @@ pub enum Verdict {
 
 /// 20, where an output sheet or output labels are lent too little memory.
 pub fn outputs(words: usize, bytes: usize) -> Outcome<()> {
-    if words < OUT_WORDS || bytes < OUT_BYTES {
-        Err(20)
-    } else {
-        Ok(())
-    }
+    if words < OUT_WORDS || bytes < OUT_BYTES { Err(20) } else { Ok(()) }
 }
 
 /// An accepted sheet, or the number of its first fault.
@@ -74,10 +70,7 @@ fn built(a: &Automaton) -> Outcome<Built> {
     if sheet.records.len() > MAX_RECORDS {
         return Err(22);
     }
-    Ok(Built {
-        sheet: sheet.words(),
-        labels: write_labels(&oracle::labels(a)),
-    })
+    Ok(Built { sheet: sheet.words(), labels: write_labels(&oracle::labels(a)) })
 }
 
 pub fn accepts_words(sheet: &[u32], word: &[u32]) -> Outcome<u32> {
@@ -156,10 +149,7 @@ pub fn is_subautomaton(a: &[u32], a_labels: &[u8], b: &[u32], b_labels: &[u8]) -
     let (a, b) = (accepted(a)?, accepted(b)?);
     let a_labels = accepted_labels(&a, a_labels)?;
     let b_labels = accepted_labels(&b, b_labels)?;
-    let (a, b) = (
-        oracle::labelled(&a, &a_labels),
-        oracle::labelled(&b, &b_labels),
-    );
+    let (a, b) = (oracle::labelled(&a, &a_labels), oracle::labelled(&b, &b_labels));
     Ok(oracle::is_subautomaton(a, b) as u32)
 }
 
@@ -173,10 +163,7 @@ pub fn parse_automaton(text: &[u8]) -> Outcome<Parsed> {
     if long_name(&text[..read]) {
         return Err(8);
     }
-    built(&a).map(|built| Parsed {
-        read: read as u64,
-        built,
-    })
+    built(&a).map(|built| Parsed { read: read as u64, built })
 }
 
 /// The answer by document 01's grammar alone.
@@ -194,10 +181,7 @@ fn long_name(text: &[u8]) -> bool {
 pub fn parse_by_grammar(text: &[u8]) -> Outcome<Parsed> {
     let (pattern, read) = crate::grammar::read(text).ok_or(8u32)?;
     let (sheet, labels) = crate::grammar::automaton(&pattern);
-    built(&oracle::labelled(&sheet, &labels)).map(|built| Parsed {
-        read: read as u64,
-        built,
-    })
+    built(&oracle::labelled(&sheet, &labels)).map(|built| Parsed { read: read as u64, built })
 }
 
 /// The determinization that exact equality walks, or its 21 or 22.
@@ -212,12 +196,7 @@ pub fn equality(a: &[u32], b: &[u32]) -> Outcome<Verdict> {
     let (d, e) = (fitting(&a)?, fitting(&b)?);
     let states = d.states() + e.states();
     Ok(match equality::difference(&d, &e) {
-        Some(word) => Verdict::Different {
-            word,
-            longest: states as u64 - 2,
-        },
-        None => Verdict::Same {
-            joins: (states - equality::classes(&d, &e)) as u64,
-        },
+        Some(word) => Verdict::Different { word, longest: states as u64 - 2 },
+        None => Verdict::Same { joins: (states - equality::classes(&d, &e)) as u64 },
     })
 }

@@ -20,12 +20,12 @@ impl Rng {
     pub fn named(seed: u64, name: &str) -> Rng {
         let mut rng = Rng(seed);
         for byte in name.bytes() {
-            rng.0 = rng.next() ^ byte as u64;
+            rng.0 = rng.draw() ^ byte as u64;
         }
         rng
     }
 
-    pub fn next(&mut self) -> u64 {
+    pub fn draw(&mut self) -> u64 {
         self.0 = self.0.wrapping_add(0x9e37_79b9_7f4a_7c15);
         let mut z = self.0;
         z = (z ^ (z >> 30)).wrapping_mul(0xbf58_476d_1ce4_e5b9);
@@ -35,7 +35,7 @@ impl Rng {
 
     /// A number below `n`, which is not 0.
     pub fn below(&mut self, n: usize) -> usize {
-        (self.next() % n as u64) as usize
+        (self.draw() % n as u64) as usize
     }
 
     /// A number from `low` to `high`.
@@ -45,7 +45,7 @@ impl Rng {
 
     /// A symbol from `first` to `last`.
     pub fn symbol(&mut self, first: u32, last: u32) -> u32 {
-        first + (self.next() % (last as u64 - first as u64 + 1)) as u32
+        first + (self.draw() % (last as u64 - first as u64 + 1)) as u32
     }
 
     /// True once in `n` times.

@@ -33,18 +33,13 @@ impl<'a> Cursor<'a> {
     /// The bytes from here on that `keep` holds of.
     fn while_(&mut self, keep: impl Fn(u8) -> bool) -> &'a [u8] {
         let rest = &self.text[self.at..];
-        let length = rest
-            .iter()
-            .position(|&byte| !keep(byte))
-            .unwrap_or(rest.len());
+        let length = rest.iter().position(|&byte| !keep(byte)).unwrap_or(rest.len());
         self.at += length;
         &rest[..length]
     }
 
     fn token(&mut self, token: &str) -> Option<()> {
-        self.text[self.at..]
-            .starts_with(token.as_bytes())
-            .then(|| self.at += token.len())
+        self.text[self.at..].starts_with(token.as_bytes()).then(|| self.at += token.len())
     }
 
     /// Blank, tab, CR, LF, any number.
@@ -61,9 +56,7 @@ impl<'a> Cursor<'a> {
 
     /// An ASCII letter, then letters, digits, `_`; at most 64 bytes.
     fn name(&mut self) -> Option<&'a [u8]> {
-        self.text
-            .get(self.at)
-            .filter(|byte| byte.is_ascii_alphabetic())?;
+        self.text.get(self.at).filter(|byte| byte.is_ascii_alphabetic())?;
         let name = self.while_(|byte| byte.is_ascii_alphanumeric() || byte == b'_');
         (name.len() <= MAX_NAME).then_some(name)
     }
@@ -88,12 +81,7 @@ impl<'a> Cursor<'a> {
         let last = self.space().number()?;
         self.token("]")?;
         self.token(";")?;
-        (first <= last).then_some(Transition {
-            from,
-            to,
-            first,
-            last,
-        })
+        (first <= last).then_some(Transition { from, to, first, last })
     }
 
     /// `accepting` space names by commas `;`
@@ -140,12 +128,7 @@ impl<'a> Cursor<'a> {
         };
         self.space().token("}")?;
         self.token(";")?;
-        Some(Pattern {
-            name,
-            initial,
-            transitions,
-            accepting,
-        })
+        Some(Pattern { name, initial, transitions, accepting })
     }
 }
 
@@ -172,15 +155,9 @@ pub fn automaton(pattern: &Pattern) -> (Sheet, Vec<Vec<u8>>) {
         [from, RANGE, t.first, t.last, number(t.to)]
     });
     let records = records.collect();
-    let accept = labels
-        .iter()
-        .map(|label| pattern.accepting.contains(&label.as_slice()) as u32)
-        .collect();
-    let mut sheet = Sheet {
-        start,
-        accept,
-        records,
-    };
+    let accept =
+        labels.iter().map(|label| pattern.accepting.contains(&label.as_slice()) as u32).collect();
+    let mut sheet = Sheet { start, accept, records };
     sheet.sort();
     (sheet, labels)
 }

@@ -70,9 +70,7 @@ impl<T: Pattern> Lent<T> {
         let place = (0..self.memory.len()).find(|&place| self.memory[place] != expected(place))?;
         let at = place as isize - GUARD as isize;
         let (found, expected) = (self.memory[place], expected(place));
-        Some(format!(
-            "{name} has {found:?} at {at} in place of {expected:?}"
-        ))
+        Some(format!("{name} has {found:?} at {at} in place of {expected:?}"))
     }
 }
 

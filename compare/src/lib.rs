@@ -15,7 +15,9 @@ pub mod paper;
 pub mod port;
 pub mod sheet;
 
-/// The original, compiled from its own files.
+/// The original, compiled from its own files and with its own style.
+#[allow(clippy::all)]
+#[cfg_attr(not(parser), allow(dead_code))]
 pub mod automata {
     include!(concat!(env!("OUT_DIR"), "/automata/mod.rs"));
 

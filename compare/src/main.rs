@@ -25,10 +25,7 @@ struct Options {
 /// Reads the command line; a wrong one gives nothing.
 fn options(mut arguments: impl Iterator<Item = String>) -> Option<Options> {
     let mut options = Options {
-        plan: Plan {
-            seed: 1,
-            rounds: 10_000,
-        },
+        plan: Plan { seed: 1, rounds: 10_000 },
         only: None,
         emit: None,
         count: 200,
@@ -58,6 +55,11 @@ fn main() -> ExitCode {
         eprintln!("{USAGE}");
         return ExitCode::from(2);
     };
+    if !cfg!(parser) {
+        eprintln!(
+            "nom was not found: patterns are read by document 01's grammar, not the original"
+        );
+    }
     if let Some(kind) = &options.emit {
         return emit(kind, &options);
     }

@@ -37,10 +37,8 @@ pub fn automaton(sheet: &Sheet) -> Automaton {
 
 /// The automaton of a sheet and its labels.
 pub fn labelled(sheet: &Sheet, labels: &[Vec<u8>]) -> Automaton {
-    let states = labels
-        .iter()
-        .zip(&sheet.accept)
-        .map(|(label, &accept)| (text_of(label), accept == 1));
+    let states =
+        labels.iter().zip(&sheet.accept).map(|(label, &accept)| (text_of(label), accept == 1));
     let transitions = sheet.records.iter().map(|&[from, kind, first, last, to]| {
         let trigger = match kind {
             EPSILON => Trigger::Epsilon,
@@ -66,9 +64,7 @@ pub fn sheet(a: &Automaton) -> Sheet {
 
 /// The labels of an automaton's states.
 pub fn labels(a: &Automaton) -> Vec<Vec<u8>> {
-    access::states(a)
-        .map(|(id, _)| id.chars().map(|c| c as u8).collect())
-        .collect()
+    access::states(a).map(|(id, _)| id.chars().map(|c| c as u8).collect()).collect()
 }
 
 /// Bytes as the string whose characters have their numbers.

@@ -149,14 +149,7 @@ mod tests {
     fn records_one_by_one() {
         let sheet = |records: Vec<Record>| {
             let accept = vec![0, 1];
-            sheet_fault(
-                &Sheet {
-                    start: 0,
-                    accept,
-                    records,
-                }
-                .words(),
-            )
+            sheet_fault(&Sheet { start: 0, accept, records }.words())
         };
         let (low, high, bad) = ([0, 1, 0, 4, 1], [0, 1, 5, 9, 1], [0, 2, 0, 0, 1]);
         assert_eq!(sheet(vec![low, high]), 0);
@@ -170,11 +163,8 @@ mod tests {
 
     #[test]
     fn limits() {
-        let chain = |states: usize| Sheet {
-            start: 0,
-            accept: vec![0; states],
-            records: Vec::new(),
-        };
+        let chain =
+            |states: usize| Sheet { start: 0, accept: vec![0; states], records: Vec::new() };
         assert_eq!(sheet_fault(&chain(256).words()), 0);
         assert_eq!(sheet_fault(&chain(257).words()), 3);
         let comb = |records: u32| Sheet {

@@ -8,10 +8,7 @@ use compare::calls::{self, Plan, Tally};
 use compare::expect::{self, Built, Outcome, Verdict};
 use compare::sheet::{DIFFERENCE_WORDS, plain_labels, write_labels};
 
-const PLAN: Plan = Plan {
-    seed: 1,
-    rounds: 1500,
-};
+const PLAN: Plan = Plan { seed: 1, rounds: 500 };
 
 /// What is lent for an output, as the C signatures pass it.
 struct Out(*mut u32, usize, *mut u8, usize, *mut u64, *mut u64);
@@ -49,21 +46,11 @@ type Words = *const u32;
 type Bytes = *const u8;
 
 unsafe extern "C" fn accepts_words(s: Words, sn: usize, w: Words, wn: usize, a: *mut u32) -> u32 {
-    unsafe {
-        answer(
-            expect::accepts_words(from_raw_parts(s, sn), from_raw_parts(w, wn)),
-            a,
-        )
-    }
+    unsafe { answer(expect::accepts_words(from_raw_parts(s, sn), from_raw_parts(w, wn)), a) }
 }
 
 unsafe extern "C" fn accepts_text(s: Words, sn: usize, t: Bytes, tn: usize, a: *mut u32) -> u32 {
-    unsafe {
-        answer(
-            expect::accepts_text(from_raw_parts(s, sn), from_raw_parts(t, tn)),
-            a,
-        )
-    }
+    unsafe { answer(expect::accepts_text(from_raw_parts(s, sn), from_raw_parts(t, tn)), a) }
 }
 
 unsafe extern "C" fn is_nfa(s: Words, sn: usize, a: *mut u32) -> u32 {
@@ -71,21 +58,11 @@ unsafe extern "C" fn is_nfa(s: Words, sn: usize, a: *mut u32) -> u32 {
 }
 
 unsafe extern "C" fn is_equivalent(s: Words, sn: usize, t: Words, tn: usize, a: *mut u32) -> u32 {
-    unsafe {
-        answer(
-            expect::is_equivalent(from_raw_parts(s, sn), from_raw_parts(t, tn)),
-            a,
-        )
-    }
+    unsafe { answer(expect::is_equivalent(from_raw_parts(s, sn), from_raw_parts(t, tn)), a) }
 }
 
 unsafe extern "C" fn has_reachable_accepting_state(s: Words, sn: usize, a: *mut u32) -> u32 {
-    unsafe {
-        answer(
-            expect::has_reachable_accepting_state(from_raw_parts(s, sn)),
-            a,
-        )
-    }
+    unsafe { answer(expect::has_reachable_accepting_state(from_raw_parts(s, sn)), a) }
 }
 
 #[rustfmt::skip]
@@ -119,7 +96,7 @@ unsafe extern "C" fn parse_automaton(
 
 /// A call with an output sheet, whose outcome is `$outcome` of its inputs.
 macro_rules! output_call {
-    ($name:ident($($list:ident $len:ident: $type:ty),+) $outcome:expr) => {
+    ($name:ident($($list:ident $len:ident: $type:ty),+), $outcome:expr) => {
         #[allow(clippy::too_many_arguments)]
         unsafe extern "C" fn $name(
             $($list: *const $type, $len: usize,)+
@@ -132,25 +109,25 @@ macro_rules! output_call {
     };
 }
 
-output_call!(determinize(s sn: u32) expect::determinize);
-output_call!(intersection(a an: u32, b bn: u32) expect::intersection);
-output_call!(totalize(s sn: u32, l ln: u8) expect::totalize);
-output_call!(complement(s sn: u32, l ln: u8) expect::complement);
-output_call!(epsilon_eliminate(s sn: u32, l ln: u8) expect::epsilon_eliminate);
+output_call!(determinize(s sn: u32), expect::determinize);
+output_call!(intersection(a an: u32, b bn: u32), expect::intersection);
+output_call!(totalize(s sn: u32, l ln: u8), expect::totalize);
+output_call!(complement(s sn: u32, l ln: u8), expect::complement);
+output_call!(epsilon_eliminate(s sn: u32, l ln: u8), expect::epsilon_eliminate);
 
 // Sham builds that document 01 names, and some that suggest themselves.
-output_call!(hands_back(s sn: u32) |s: &[u32]| {
+output_call!(hands_back(s sn: u32), |s: &[u32]| {
     let sheet = expect::accepted(s)?;
     let labels = write_labels(&plain_labels(sheet.states()));
     Ok(Built { sheet: s.to_vec(), labels })
 });
-output_call!(early_21(s sn: u32) |s| expect::accepted(s).and(Err(21)));
-output_call!(refuses_all(a an: u32, b bn: u32) |a, b| {
+output_call!(early_21(s sn: u32), |s| expect::accepted(s).and(Err(21)));
+output_call!(refuses_all(a an: u32, b bn: u32), |a, b| {
     expect::accepted(a)?;
     expect::accepted(b)?;
     Err(7)
 });
-output_call!(late_epsilon(a an: u32, b bn: u32) |a, b| {
+output_call!(late_epsilon(a an: u32, b bn: u32), |a, b| {
     // 7 wherever both sheets have records and one an epsilon, reached or not.
     let (s, t) = (expect::accepted(a)?, expect::accepted(b)?);
     let epsilon = s.records.iter().chain(&t.records).any(|record| record[1] == 0);
@@ -159,7 +136,7 @@ output_call!(late_epsilon(a an: u32, b bn: u32) |a, b| {
     }
     expect::intersection(a, b)
 });
-output_call!(totalizes_always(s sn: u32, l ln: u8) |s, l| {
+output_call!(totalizes_always(s sn: u32, l ln: u8), |s, l| {
     let total = expect::totalize(s, l)?;
     let mut flipped = total.clone();
     let states = flipped.sheet[2] as usize;
@@ -171,7 +148,7 @@ output_call!(totalizes_always(s sn: u32, l ln: u8) |s, l| {
 
 /// Exact equality by `$verdict`, which is given the expected verdict.
 macro_rules! equality_call {
-    ($name:ident $verdict:expr) => {
+    ($name:ident, $verdict:expr) => {
         #[allow(clippy::too_many_arguments)]
         unsafe extern "C" fn $name(
             a: Words,
@@ -204,42 +181,23 @@ macro_rules! equality_call {
     };
 }
 
-equality_call!(equality | verdict | verdict);
-equality_call!(
-    always_same
-        | verdict
-        | match verdict {
-            Verdict::Different { .. } => Verdict::Same { joins: 1 },
-            same => same,
-        }
-);
-equality_call!(
-    always_different
-        | _
-        | Verdict::Different {
-            word: vec![0],
-            longest: 0
-        }
-);
-equality_call!(
-    one_join_more
-        | verdict
-        | match verdict {
-            Verdict::Same { joins } => Verdict::Same { joins: joins + 1 },
-            different => different,
-        }
-);
-equality_call!(
-    wrong_word
-        | verdict
-        | match verdict {
-            Verdict::Different { mut word, longest } => {
-                word.push(7);
-                Verdict::Different { word, longest }
-            }
-            same => same,
-        }
-);
+equality_call!(equality, |verdict| verdict);
+equality_call!(always_same, |verdict| match verdict {
+    Verdict::Different { .. } => Verdict::Same { joins: 1 },
+    same => same,
+});
+equality_call!(always_different, |_| Verdict::Different { word: vec![0], longest: 0 });
+equality_call!(one_join_more, |verdict| match verdict {
+    Verdict::Same { joins } => Verdict::Same { joins: joins + 1 },
+    different => different,
+});
+equality_call!(wrong_word, |verdict| match verdict {
+    Verdict::Different { mut word, longest } => {
+        word.push(7);
+        Verdict::Different { word, longest }
+    }
+    same => same,
+});
 
 /// The number of disagreements that a comparison finds.
 fn disagreements(compare: impl FnOnce(&Plan, &mut Tally)) -> u64 {
@@ -252,60 +210,24 @@ fn disagreements(compare: impl FnOnce(&Plan, &mut Tally)) -> u64 {
 #[test]
 fn expected_answers_agree() {
     use calls::*;
-    assert_eq!(
-        disagreements(|p, t| accepts_words::compare(crate::accepts_words, p, t)),
-        0
-    );
-    assert_eq!(
-        disagreements(|p, t| accepts_text::compare(crate::accepts_text, p, t)),
-        0
-    );
-    assert_eq!(
-        disagreements(|p, t| is_nfa::compare(crate::is_nfa, p, t)),
-        0
-    );
+    assert_eq!(disagreements(|p, t| accepts_words::compare(crate::accepts_words, p, t)), 0);
+    assert_eq!(disagreements(|p, t| accepts_text::compare(crate::accepts_text, p, t)), 0);
+    assert_eq!(disagreements(|p, t| is_nfa::compare(crate::is_nfa, p, t)), 0);
     assert_eq!(
         disagreements(|p, t| {
             has_reachable_accepting_state::compare(crate::has_reachable_accepting_state, p, t)
         }),
         0
     );
-    assert_eq!(
-        disagreements(|p, t| is_equivalent::compare(crate::is_equivalent, p, t)),
-        0
-    );
-    assert_eq!(
-        disagreements(|p, t| is_subautomaton::compare(crate::is_subautomaton, p, t)),
-        0
-    );
-    assert_eq!(
-        disagreements(|p, t| parse_automaton::compare(crate::parse_automaton, p, t)),
-        0
-    );
-    assert_eq!(
-        disagreements(|p, t| determinize::compare(crate::determinize, p, t)),
-        0
-    );
-    assert_eq!(
-        disagreements(|p, t| intersection::compare(crate::intersection, p, t)),
-        0
-    );
-    assert_eq!(
-        disagreements(|p, t| totalize::compare(crate::totalize, p, t)),
-        0
-    );
-    assert_eq!(
-        disagreements(|p, t| complement::compare(crate::complement, p, t)),
-        0
-    );
-    assert_eq!(
-        disagreements(|p, t| epsilon_eliminate::compare(crate::epsilon_eliminate, p, t)),
-        0
-    );
-    assert_eq!(
-        disagreements(|p, t| equality::compare(crate::equality, p, t)),
-        0
-    );
+    assert_eq!(disagreements(|p, t| is_equivalent::compare(crate::is_equivalent, p, t)), 0);
+    assert_eq!(disagreements(|p, t| is_subautomaton::compare(crate::is_subautomaton, p, t)), 0);
+    assert_eq!(disagreements(|p, t| parse_automaton::compare(crate::parse_automaton, p, t)), 0);
+    assert_eq!(disagreements(|p, t| determinize::compare(crate::determinize, p, t)), 0);
+    assert_eq!(disagreements(|p, t| intersection::compare(crate::intersection, p, t)), 0);
+    assert_eq!(disagreements(|p, t| totalize::compare(crate::totalize, p, t)), 0);
+    assert_eq!(disagreements(|p, t| complement::compare(crate::complement, p, t)), 0);
+    assert_eq!(disagreements(|p, t| epsilon_eliminate::compare(crate::epsilon_eliminate, p, t)), 0);
+    assert_eq!(disagreements(|p, t| equality::compare(crate::equality, p, t)), 0);
 }
 
 #[test]

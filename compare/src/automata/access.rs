@@ -11,20 +11,12 @@ pub fn build(
     states: impl IntoIterator<Item = (String, bool)>,
     transitions: impl IntoIterator<Item = (StateId, Trigger, StateId)>,
 ) -> Automaton {
-    let mut all_states: Vec<State> = states
-        .into_iter()
-        .map(|(id, accept)| State::new(&id, accept))
-        .collect();
+    let mut all_states: Vec<State> =
+        states.into_iter().map(|(id, accept)| State::new(&id, accept)).collect();
     for (from, trigger, to) in transitions {
-        all_states[from]
-            .transitions
-            .insert(Transition::new(to, trigger));
+        all_states[from].transitions.insert(Transition::new(to, trigger));
     }
-    Automaton {
-        name: "automaton".to_owned(),
-        all_states,
-        initial_state: start,
-    }
+    Automaton { name: "automaton".to_owned(), all_states, initial_state: start }
 }
 
 pub fn name(a: &Automaton) -> &str {
@@ -37,19 +29,15 @@ pub fn start(a: &Automaton) -> StateId {
 
 /// The states: name, accepting.
 pub fn states(a: &Automaton) -> impl ExactSizeIterator<Item = (&str, bool)> {
-    a.all_states
-        .iter()
-        .map(|state| (state.id.as_str(), state.accept))
+    a.all_states.iter().map(|state| (state.id.as_str(), state.accept))
 }
 
 /// The transitions state by state, each state's in the order of the set that holds them.
 pub fn transitions(a: &Automaton) -> impl Iterator<Item = (StateId, &Trigger, StateId)> {
-    a.all_states.iter().enumerate().flat_map(|(from, state)| {
-        state
-            .transitions
-            .iter()
-            .map(move |t| (from, &t.trigger, t.to))
-    })
+    a.all_states
+        .iter()
+        .enumerate()
+        .flat_map(|(from, state)| state.transitions.iter().map(move |t| (from, &t.trigger, t.to)))
 }
 
 pub fn state_closures(a: &Automaton) -> Vec<Vec<StateId>> {
@@ -74,8 +62,5 @@ pub fn partition_ranges(edges: &Vec<(u32, u32, StateId)>) -> Parts {
 
 /// The automaton with its states totalized; the original does this on bare lists of states.
 pub fn totalize(a: Automaton) -> Automaton {
-    Automaton {
-        all_states: utils::totalize(a.all_states),
-        ..a
-    }
+    Automaton { all_states: utils::totalize(a.all_states), ..a }
 }

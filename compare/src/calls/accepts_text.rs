@@ -11,10 +11,7 @@ fn high_characters() -> Sheet {
     Sheet {
         start: 0,
         accept: vec![0, 1],
-        records: vec![
-            [0, RANGE, 0x41, 0xd7ff, 1],
-            [0, RANGE, 0xe000, 0x10_fffe, 1],
-        ],
+        records: vec![[0, RANGE, 0x41, 0xd7ff, 1], [0, RANGE, 0xe000, 0x10_fffe, 1]],
     }
 }
 
@@ -23,13 +20,7 @@ pub fn compare(call: port::AcceptsText, plan: &Plan, tally: &mut Tally) {
         let expected = expect::accepts_text(sheet, &text);
         let mut answer = Lent::new(1);
         let result = unsafe {
-            call(
-                sheet.as_ptr(),
-                sheet.len(),
-                text.as_ptr(),
-                text.len(),
-                answer.as_mut_ptr(),
-            )
+            call(sheet.as_ptr(), sheet.len(), text.as_ptr(), text.len(), answer.as_mut_ptr())
         };
         let fault = answer_fault(result, &answer, &expected);
         tally.note(sort, &expected, fault, &[("sheet", sheet), ("text", &text)]);

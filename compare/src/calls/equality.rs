@@ -64,11 +64,8 @@ pub fn compare(call: port::Equality, plan: &Plan, tally: &mut Tally) {
             same: Lent::new(1),
             number: Lent::new(1),
         };
-        let expected = if lent.word.len() < DIFFERENCE_WORDS {
-            Err(20)
-        } else {
-            expect::equality(&a, &b)
-        };
+        let expected =
+            if lent.word.len() < DIFFERENCE_WORDS { Err(20) } else { expect::equality(&a, &b) };
         let result = unsafe {
             call(
                 a.as_ptr(),

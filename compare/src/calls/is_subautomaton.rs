@@ -8,13 +8,7 @@ use crate::{expect, port};
 pub fn compare(call: port::IsSubautomaton, plan: &Plan, tally: &mut Tally) {
     let mut rng = plan.rng("is_subautomaton");
     for _ in 0..plan.rounds {
-        let pairs::Labelled {
-            sort,
-            a,
-            a_labels,
-            b,
-            b_labels,
-        } = pairs::labelled(&mut rng);
+        let pairs::Labelled { sort, a, a_labels, b, b_labels } = pairs::labelled(&mut rng);
         let expected = expect::is_subautomaton(&a, &a_labels, &b, &b_labels);
         let mut answer = Lent::new(1);
         let result = unsafe {
@@ -35,12 +29,7 @@ pub fn compare(call: port::IsSubautomaton, plan: &Plan, tally: &mut Tally) {
             sort,
             &expected,
             fault,
-            &[
-                ("a", &a),
-                ("a_labels", &a_labels),
-                ("b", &b),
-                ("b_labels", &b_labels),
-            ],
+            &[("a", &a), ("a_labels", &a_labels), ("b", &b), ("b_labels", &b_labels)],
         );
     }
 }

@@ -16,9 +16,7 @@ pub fn compare(
     tally: &mut Tally,
 ) {
     let mut check = |rng: &mut Rng, sort, sheet: Vec<u32>| {
-        let states = sheet
-            .get(2)
-            .map_or(1, |&n| (n as usize).min(MAX_STATES + 1));
+        let states = sheet.get(2).map_or(1, |&n| (n as usize).min(MAX_STATES + 1));
         let labels = labels::list(rng, states);
         let mut out = Output::new(rng);
         let expected = out.outcome().and_then(|()| expect(&sheet, &labels));

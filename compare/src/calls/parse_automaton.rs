@@ -25,18 +25,13 @@ pub fn compare(call: port::ParseAutomaton, plan: &Plan, tally: &mut Tally) {
         };
         let bytes_read = expected.clone().map(|parsed| parsed.read);
         let built = expected.clone().map(|parsed| parsed.built);
-        let fault = out
-            .fault(result, &built)
-            .or_else(|| read.fault("read", bytes_read.ok().as_slice()));
+        let fault =
+            out.fault(result, &built).or_else(|| read.fault("read", bytes_read.ok().as_slice()));
         tally.note(
             sort,
             &expected,
             fault,
-            &[
-                ("text", &text),
-                ("words lent", &out.sheet.len()),
-                ("bytes lent", &out.labels.len()),
-            ],
+            &[("text", &text), ("words lent", &out.sheet.len()), ("bytes lent", &out.labels.len())],
         );
     };
     let mut rng = plan.rng("parse_automaton");

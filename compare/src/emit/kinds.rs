@@ -7,8 +7,11 @@ use crate::oracle::{self, DSU};
 use crate::paper;
 use crate::sheet::{Sheet, write_labels};
 
+/// Draws one case.
+type Draw = fn(&mut Rng) -> Case;
+
 /// The kinds by name; `compare/README.md` has their formats.
-pub const KINDS: [(&str, fn(&mut Rng) -> Case); 20] = [
+pub const KINDS: [(&str, Draw); 20] = [
     ("sheets", sheets),
     ("labels", labels),
     ("accepts", accepts),
@@ -21,13 +24,9 @@ pub const KINDS: [(&str, fn(&mut Rng) -> Case); 20] = [
     ("product", product),
     ("totalize", |rng| operation(rng, expect::totalize)),
     ("complement", |rng| operation(rng, expect::complement)),
-    ("epsilon_eliminate", |rng| {
-        operation(rng, expect::epsilon_eliminate)
-    }),
+    ("epsilon_eliminate", |rng| operation(rng, expect::epsilon_eliminate)),
     ("is_nfa", |rng| question(rng, expect::is_nfa)),
-    ("nonempty", |rng| {
-        question(rng, expect::has_reachable_accepting_state)
-    }),
+    ("nonempty", |rng| question(rng, expect::has_reachable_accepting_state)),
     ("is_equivalent", is_equivalent),
     ("is_subautomaton", is_subautomaton),
     ("parse", parse),
@@ -51,11 +50,7 @@ fn few(rng: &mut Rng) -> Sheet {
 /// Two accepted sheets of few words, often alike.
 fn two(rng: &mut Rng) -> (Sheet, Sheet) {
     let first = few(rng);
-    let second = if rng.one_in(3) {
-        few(rng)
-    } else {
-        pairs::variant(rng, &first)
-    };
+    let second = if rng.one_in(3) { few(rng) } else { pairs::variant(rng, &first) };
     (first, second)
 }
 
@@ -65,24 +60,15 @@ fn answered(outcome: expect::Outcome<u32>) -> u32 {
 }
 
 fn sheets(rng: &mut Rng) -> Case {
-    let words = if rng.one_in(4) {
-        few(rng).words()
-    } else {
-        sheets::faulty(rng)
-    };
-    Case::default()
-        .list(&words)
-        .number(paper::sheet_fault(&words))
+    let words = if rng.one_in(4) { few(rng).words() } else { sheets::faulty(rng) };
+    Case::default().list(&words).number(paper::sheet_fault(&words))
 }
 
 fn labels(rng: &mut Rng) -> Case {
     let states = rng.within(1, 4);
     let bytes = labels::list(rng, states);
     let fault = paper::labels_fault(states, &bytes);
-    Case::default()
-        .number(states as u64)
-        .list(&bytes)
-        .number(fault)
+    Case::default().number(states as u64).list(&bytes).number(fault)
 }
 
 fn accepts(rng: &mut Rng) -> Case {
@@ -117,11 +103,8 @@ fn utf8(rng: &mut Rng) -> Case {
 /// The ranges of a state as a sheet has them: ascending, equal ones with different targets.
 fn some_ranges(rng: &mut Rng) -> Vec<(u32, u32)> {
     let count = rng.below(6);
-    let sheet = if rng.one_in(4) {
-        sheets::total(rng, 1, 4)
-    } else {
-        sheets::random(rng, 1, count, 0)
-    };
+    let sheet =
+        if rng.one_in(4) { sheets::total(rng, 1, 4) } else { sheets::random(rng, 1, count, 0) };
     let mut ranges: Vec<(u32, u32)> = sheet.records.iter().map(|r| (r[2], r[3])).collect();
     if !ranges.is_empty() && rng.one_in(6) {
         let at = rng.below(ranges.len());
@@ -131,26 +114,16 @@ fn some_ranges(rng: &mut Rng) -> Vec<(u32, u32)> {
 }
 
 fn flat(ranges: &[(u32, u32)]) -> Vec<u32> {
-    ranges
-        .iter()
-        .flat_map(|&(first, last)| [first, last])
-        .collect()
+    ranges.iter().flat_map(|&(first, last)| [first, last]).collect()
 }
 
 fn ranges(rng: &mut Rng) -> Case {
     if rng.one_in(3) {
         let pair = sheets::random(rng, 1, 8, 0).records;
         let range = |i: usize| pair.get(i).map_or((0, u32::MAX), |r| (r[2], r[3]));
-        let (a, b) = if rng.one_in(2) {
-            (range(0), range(1))
-        } else {
-            (range(1), range(0))
-        };
+        let (a, b) = if rng.one_in(2) { (range(0), range(1)) } else { (range(1), range(0)) };
         let common: Vec<(u32, u32)> = oracle::intersect_ranges(a, b).into_iter().collect();
-        return Case::default()
-            .number(1u32)
-            .numbers(&flat(&[a, b]))
-            .list(&flat(&common));
+        return Case::default().number(1u32).numbers(&flat(&[a, b])).list(&flat(&common));
     }
     let ranges = some_ranges(rng);
     Case::default()
@@ -177,9 +150,7 @@ fn parts(rng: &mut Rng) -> Case {
     let edges: Vec<[u32; 3]> = sheet.records.iter().map(|r| [r[2], r[3], r[4]]).collect();
     let asked = edges.iter().map(|e| (e[0], e[1], e[2] as usize)).collect();
     let parts = oracle::partition_ranges(&asked);
-    let case = Case::default()
-        .list(&edges.concat())
-        .number(parts.len() as u64);
+    let case = Case::default().list(&edges.concat()).number(parts.len() as u64);
     parts.iter().fold(case, |case, ((first, last), targets)| {
         let targets: Vec<u64> = targets.iter().map(|&state| state as u64).collect();
         case.number(*first).number(*last).list(&targets)
@@ -188,11 +159,7 @@ fn parts(rng: &mut Rng) -> Case {
 
 /// The words of a sheet of few words, one in fifteen of them faulty.
 fn few_words(rng: &mut Rng) -> Vec<u32> {
-    if rng.one_in(15) {
-        sheets::faulty(rng)
-    } else {
-        few(rng).words()
-    }
+    if rng.one_in(15) { sheets::faulty(rng) } else { few(rng).words() }
 }
 
 fn determinize(rng: &mut Rng) -> Case {
@@ -202,9 +169,7 @@ fn determinize(rng: &mut Rng) -> Case {
         1 => sheets::from_the_end_cut(7, 14).words(),
         _ => few_words(rng),
     };
-    Case::default()
-        .list(&sheet)
-        .outcome(expect::determinize(&sheet))
+    Case::default().list(&sheet).outcome(expect::determinize(&sheet))
 }
 
 /// A run of join sets: finds with their answers and unions, at last the find of each element.
@@ -222,28 +187,20 @@ fn dsu(rng: &mut Rng) -> Case {
         }
     }
     steps.extend((0..elements).map(|x| [0, x as u64, sets.find(x) as u64]));
-    Case::default()
-        .number(elements as u64)
-        .list(&steps.concat())
+    Case::default().number(elements as u64).list(&steps.concat())
 }
 
 fn product(rng: &mut Rng) -> Case {
     let (a, b) = match rng.below(30) {
         // 272 pairs.
-        0 => (
-            sheets::chain(16, true).words(),
-            sheets::chain(17, true).words(),
-        ),
+        0 => (sheets::chain(16, true).words(), sheets::chain(17, true).words()),
         1 => (few_words(rng), few_words(rng)),
         _ => {
             let (a, b) = two(rng);
             (a.words(), b.words())
         }
     };
-    Case::default()
-        .list(&a)
-        .list(&b)
-        .outcome(expect::intersection(&a, &b))
+    Case::default().list(&a).list(&b).outcome(expect::intersection(&a, &b))
 }
 
 fn operation(rng: &mut Rng, expect: fn(&[u32], &[u8]) -> expect::Outcome<expect::Built>) -> Case {
@@ -252,20 +209,12 @@ fn operation(rng: &mut Rng, expect: fn(&[u32], &[u8]) -> expect::Outcome<expect:
         labels::list(rng, sheet.states())
     } else {
         // Short names leave room for more records.
-        let names: Vec<Vec<u8>> = (0..sheet.states())
-            .map(|_| vec![b'a' + rng.below(26) as u8])
-            .collect();
+        let names: Vec<Vec<u8>> =
+            (0..sheet.states()).map(|_| vec![b'a' + rng.below(26) as u8]).collect();
         write_labels(&names)
     };
-    let sheet = if rng.one_in(15) {
-        few_words(rng)
-    } else {
-        sheet.words()
-    };
-    Case::default()
-        .list(&sheet)
-        .list(&labels)
-        .outcome(expect(&sheet, &labels))
+    let sheet = if rng.one_in(15) { few_words(rng) } else { sheet.words() };
+    Case::default().list(&sheet).list(&labels).outcome(expect(&sheet, &labels))
 }
 
 fn question(rng: &mut Rng, expect: fn(&[u32]) -> expect::Outcome<u32>) -> Case {
@@ -289,13 +238,7 @@ fn is_equivalent(rng: &mut Rng) -> Case {
 }
 
 fn is_subautomaton(rng: &mut Rng) -> Case {
-    let pairs::Labelled {
-        a,
-        a_labels,
-        b,
-        b_labels,
-        ..
-    } = pairs::labelled(rng);
+    let pairs::Labelled { a, a_labels, b, b_labels, .. } = pairs::labelled(rng);
     match expect::is_subautomaton(&a, &a_labels, &b, &b_labels) {
         Ok(answer) => {
             let case = Case::default().list(&a).list(&a_labels);

@@ -13,11 +13,7 @@ fn renumbered(sheet: &Sheet, new: &[u32]) -> Sheet {
     let records = sheet.records.iter().map(|&[from, kind, first, last, to]| {
         [new[from as usize], kind, first, last, new[to as usize]]
     });
-    let mut result = Sheet {
-        start: new[sheet.start as usize],
-        accept,
-        records: records.collect(),
-    };
+    let mut result = Sheet { start: new[sheet.start as usize], accept, records: records.collect() };
     result.sort();
     result
 }
@@ -36,12 +32,7 @@ fn doubled(rng: &mut Rng, sheet: &Sheet) -> Sheet {
     let mut result = sheet.clone();
     let (state, copy) = (rng.below(sheet.states()), sheet.states() as u32);
     result.accept.push(sheet.accept[state]);
-    result.records.extend(
-        sheet
-            .run(state)
-            .iter()
-            .map(|r| [copy, r[1], r[2], r[3], r[4]]),
-    );
+    result.records.extend(sheet.run(state).iter().map(|r| [copy, r[1], r[2], r[3], r[4]]));
     for record in result.records.iter_mut().filter(|r| r[4] == state as u32) {
         if rng.one_in(2) {
             record[4] = copy;
@@ -54,9 +45,8 @@ fn doubled(rng: &mut Rng, sheet: &Sheet) -> Sheet {
 /// The sheet with one range cut in two.
 fn split(rng: &mut Rng, sheet: &Sheet) -> Sheet {
     let mut result = sheet.clone();
-    let wide: Vec<usize> = (0..sheet.records.len())
-        .filter(|&i| sheet.records[i][2] < sheet.records[i][3])
-        .collect();
+    let wide: Vec<usize> =
+        (0..sheet.records.len()).filter(|&i| sheet.records[i][2] < sheet.records[i][3]).collect();
     if !wide.is_empty() {
         let record = &mut result.records[*rng.pick(&wide)];
         let cut = rng.symbol(record[2] + 1, record[3]);
@@ -82,13 +72,9 @@ fn changed(rng: &mut Rng, sheet: &Sheet) -> Sheet {
         0 => drop(result.records.remove(at)),
         1 => result.records[at][4] = rng.below(states) as u32,
         2 => result.start = rng.below(states) as u32,
-        3 => result.records.push([
-            rng.below(states) as u32,
-            EPSILON,
-            0,
-            0,
-            rng.below(states) as u32,
-        ]),
+        3 => {
+            result.records.push([rng.below(states) as u32, EPSILON, 0, 0, rng.below(states) as u32])
+        }
         _ => {
             let [_, kind, first, last, _] = &mut result.records[at];
             if *kind == RANGE && *last < u32::MAX && rng.one_in(2) {
@@ -125,15 +111,8 @@ fn limits(rng: &mut Rng) -> (Sheet, Sheet) {
     match rng.below(6) {
         // As many pairs as the least common multiple of the lengths.
         0 => {
-            let (p, q) = *rng.pick(&[
-                (255, 1),
-                (256, 1),
-                (1, 256),
-                (16, 17),
-                (3, 85),
-                (8, 9),
-                (2, 129),
-            ]);
+            let (p, q) =
+                *rng.pick(&[(255, 1), (256, 1), (1, 256), (16, 17), (3, 85), (8, 9), (2, 129)]);
             (sheets::chain(p, true), sheets::chain(q, true))
         }
         // As many pairs as states of the one times states of the other.
@@ -148,10 +127,7 @@ fn limits(rng: &mut Rng) -> (Sheet, Sheet) {
         }
         3 => {
             let (p, q) = (rng.within(250, 256), rng.within(250, 256));
-            (
-                sheets::chain(p, rng.one_in(2)),
-                sheets::chain(q, rng.one_in(2)),
-            )
+            (sheets::chain(p, rng.one_in(2)), sheets::chain(q, rng.one_in(2)))
         }
         4 => {
             let k = rng.within(5, 8);
@@ -171,17 +147,10 @@ fn limits(rng: &mut Rng) -> (Sheet, Sheet) {
 pub fn any(rng: &mut Rng) -> (&'static str, Vec<u32>, Vec<u32>) {
     match rng.below(100) {
         0..20 => {
-            let (a, b) = (
-                tiny::sheet(rng.below(tiny::ALL)),
-                tiny::sheet(rng.below(tiny::ALL)),
-            );
+            let (a, b) = (tiny::sheet(rng.below(tiny::ALL)), tiny::sheet(rng.below(tiny::ALL)));
             ("tiny", a.words(), b.words())
         }
-        20..35 => (
-            "small",
-            sheets::small(rng).words(),
-            sheets::small(rng).words(),
-        ),
+        20..35 => ("small", sheets::small(rng).words(), sheets::small(rng).words()),
         35..60 => {
             let sheet = sheets::small(rng);
             ("variant", sheet.words(), variant(rng, &sheet).words())
@@ -213,32 +182,16 @@ pub struct Labelled {
 pub fn labelled(rng: &mut Rng) -> Labelled {
     if rng.one_in(3) {
         let (sort, a, b) = any(rng);
-        let states = |sheet: &[u32]| {
-            sheet
-                .get(2)
-                .map_or(1, |&n| (n as usize).min(MAX_STATES + 1))
-        };
+        let states = |sheet: &[u32]| sheet.get(2).map_or(1, |&n| (n as usize).min(MAX_STATES + 1));
         let a_labels = labels::list(rng, states(&a));
         let b_labels = labels::list(rng, states(&b));
-        return Labelled {
-            sort,
-            a,
-            a_labels,
-            b,
-            b_labels,
-        };
+        return Labelled { sort, a, a_labels, b, b_labels };
     }
     let b = sheets::small(rng);
     let b_labels = labels::some(rng, b.states());
     let (a, a_labels) = part(rng, &b, &b_labels);
     let (b, b_labels) = (b.words(), write_labels(&b_labels));
-    Labelled {
-        sort: "part",
-        a: a.words(),
-        a_labels: write_labels(&a_labels),
-        b,
-        b_labels,
-    }
+    Labelled { sort: "part", a: a.words(), a_labels: write_labels(&a_labels), b, b_labels }
 }
 
 /// A part of a sheet under the same labels: its states reordered, some records dropped or narrowed,
@@ -298,10 +251,7 @@ mod tests {
             }
         }
         for counts in [same, equivalent, within] {
-            assert!(
-                counts.iter().all(|&count| count > 200),
-                "{same:?} {equivalent:?} {within:?}"
-            );
+            assert!(counts.iter().all(|&count| count > 200), "{same:?} {equivalent:?} {within:?}");
         }
     }
 }

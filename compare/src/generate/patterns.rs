@@ -32,12 +32,12 @@ fn name(rng: &mut Rng) -> String {
 
 /// Optional space.
 fn space(rng: &mut Rng) -> &'static str {
-    *rng.pick::<&str>(&["", "", "", " ", " ", "\n", "\t", "\r\n", " \n\t "])
+    rng.pick::<&str>(&["", "", "", " ", " ", "\n", "\t", "\r\n", " \n\t "])
 }
 
 /// Space that must stand.
 fn needed(rng: &mut Rng) -> &'static str {
-    *rng.pick::<&str>(&[" ", " ", "\n", "\t", "\r\n  "])
+    rng.pick::<&str>(&[" ", " ", "\n", "\t", "\r\n  "])
 }
 
 fn number(rng: &mut Rng, value: u32) -> String {
@@ -55,20 +55,8 @@ fn transition(rng: &mut Rng, text: &mut String, from: &str, to: &str) {
         _ => rng.below(10) as u32,
     };
     let (a, b) = (value(rng), value(rng));
-    let (first, last) = if rng.one_in(40) {
-        (a, b)
-    } else {
-        (a.min(b), a.max(b))
-    };
-    for token in [
-        from,
-        "->",
-        to,
-        "[",
-        &number(rng, first),
-        ",",
-        &number(rng, last),
-    ] {
+    let (first, last) = if rng.one_in(40) { (a, b) } else { (a.min(b), a.max(b)) };
+    for token in [from, "->", to, "[", &number(rng, first), ",", &number(rng, last)] {
         *text += token;
         // No space before `]`, nor between a name that was just written and nothing.
         *text += space(rng);
@@ -95,11 +83,7 @@ fn pattern(rng: &mut Rng, most: usize) -> String {
         if i > 0 {
             text += &format!("{},{}", space(rng), space(rng));
         }
-        text += &if rng.one_in(4) {
-            name(rng)
-        } else {
-            rng.pick(&names).clone()
-        };
+        text += &if rng.one_in(4) { name(rng) } else { rng.pick(&names).clone() };
     }
     text + ";" + space(rng) + "};"
 }
@@ -126,7 +110,7 @@ fn limit(rng: &mut Rng) -> String {
 fn rest(rng: &mut Rng) -> Vec<u8> {
     match rng.below(5) {
         0 => b" automaton B { init p; accepting p; };".to_vec(),
-        1 => vec![rng.next() as u8; rng.below(4)],
+        1 => vec![rng.draw() as u8; rng.below(4)],
         2 => b"\xff\xc0".to_vec(),
         3 => "ring ∅ 木".into(),
         _ => Vec::new(),
@@ -136,7 +120,7 @@ fn rest(rng: &mut Rng) -> Vec<u8> {
 /// A byte to damage a text with.
 fn byte(rng: &mut Rng) -> u8 {
     match rng.below(4) {
-        0 => rng.next() as u8,
+        0 => rng.draw() as u8,
         _ => *rng.pick(b" \t\n;,[]{}->a0_9p"),
     }
 }
@@ -144,11 +128,7 @@ fn byte(rng: &mut Rng) -> u8 {
 /// A text of up to two transitions, one in three damaged.
 pub fn short(rng: &mut Rng) -> Vec<u8> {
     let text = pattern(rng, 2).into_bytes();
-    if rng.one_in(3) {
-        damaged(rng, &text, byte)
-    } else {
-        text
-    }
+    if rng.one_in(3) { damaged(rng, &text, byte) } else { text }
 }
 
 /// A text, with the name of its sort.

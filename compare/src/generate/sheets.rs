@@ -52,30 +52,19 @@ impl Ends {
             Ends::Low => rng.below(10) as u32,
             Ends::High => u32::MAX - rng.below(10) as u32,
             Ends::Edges => *rng.pick(&EDGES),
-            Ends::Any => rng.next() as u32,
+            Ends::Any => rng.draw() as u32,
             Ends::Letters => rng.symbol('a' as u32, 'f' as u32),
         }
     }
 
     fn range(self, rng: &mut Rng) -> (u32, u32) {
         let (a, b) = (self.draw(rng), self.draw(rng));
-        if rng.one_in(3) {
-            (a, a)
-        } else {
-            (a.min(b), a.max(b))
-        }
+        if rng.one_in(3) { (a, a) } else { (a.min(b), a.max(b)) }
     }
 }
 
 fn ends(rng: &mut Rng) -> Ends {
-    *rng.pick(&[
-        Ends::Low,
-        Ends::Low,
-        Ends::High,
-        Ends::Edges,
-        Ends::Any,
-        Ends::Letters,
-    ])
+    *rng.pick(&[Ends::Low, Ends::Low, Ends::High, Ends::Edges, Ends::Any, Ends::Letters])
 }
 
 /// A sheet of `states` states and about `records` records, fewer where too many are alike.
@@ -123,9 +112,7 @@ pub fn total(rng: &mut Rng, states: usize, parts: usize) -> Sheet {
         cuts.dedup();
         for (i, &first) in cuts.iter().enumerate() {
             let last = cuts.get(i + 1).map_or(u32::MAX, |next| next - 1);
-            sheet
-                .records
-                .push([from, RANGE, first, last, rng.below(states) as u32]);
+            sheet.records.push([from, RANGE, first, last, rng.below(states) as u32]);
         }
     }
     sheet
@@ -133,19 +120,13 @@ pub fn total(rng: &mut Rng, states: usize, parts: usize) -> Sheet {
 
 /// A chain: each state leads to the next by (0, 0), the last one accepts; closed, it is a ring.
 pub fn chain(states: usize, closed: bool) -> Sheet {
-    let mut records: Vec<Record> = (1..states as u32)
-        .map(|to| [to - 1, RANGE, 0, 0, to])
-        .collect();
+    let mut records: Vec<Record> = (1..states as u32).map(|to| [to - 1, RANGE, 0, 0, to]).collect();
     if closed {
         records.push([states as u32 - 1, RANGE, 0, 0, 0]);
     }
     let mut accept = vec![0; states];
     accept[states - 1] = 1;
-    Sheet {
-        start: 0,
-        accept,
-        records,
-    }
+    Sheet { start: 0, accept, records }
 }
 
 /// Accepts where the symbol `k` from the end is 1: `k` + 1 states, 2 to the `k` sets.
@@ -154,19 +135,13 @@ pub fn from_the_end(k: usize) -> Sheet {
     records.extend((1..k as u32).map(|from| [from, RANGE, 0, 1, from + 1]));
     let mut accept = vec![0; k + 1];
     accept[k] = 1;
-    Sheet {
-        start: 0,
-        accept,
-        records,
-    }
+    Sheet { start: 0, accept, records }
 }
 
 /// The same, with loops at the start that cut each set's symbols into `cuts` + 1 parts and a hole.
 pub fn from_the_end_cut(k: usize, cuts: usize) -> Sheet {
     let mut sheet = from_the_end(k);
-    sheet
-        .records
-        .extend((2..=cuts as u32).map(|last| [0, RANGE, 0, last, 0]));
+    sheet.records.extend((2..=cuts as u32).map(|last| [0, RANGE, 0, last, 0]));
     sheet.sort();
     sheet
 }
@@ -174,31 +149,17 @@ pub fn from_the_end_cut(k: usize, cuts: usize) -> Sheet {
 /// One state that loops on `points` single symbols with holes between them, from `first` on.
 pub fn comb(first: u32, points: usize) -> Sheet {
     let records = (0..points as u32).map(|i| [0, RANGE, first + 2 * i, first + 2 * i, 0]);
-    Sheet {
-        start: 0,
-        accept: vec![1],
-        records: records.collect(),
-    }
+    Sheet { start: 0, accept: vec![1], records: records.collect() }
 }
 
 /// One state that loops on nested ranges, all from 0 or all to 4294967295. The product of `k` of
 /// the one sort and `l` of the other has `k` times `l` transitions.
 pub fn nested(ranges: usize, from_zero: bool) -> Sheet {
     let range = |i: u32| {
-        if from_zero {
-            (0, u32::MAX - i)
-        } else {
-            (i, u32::MAX)
-        }
+        if from_zero { (0, u32::MAX - i) } else { (i, u32::MAX) }
     };
-    let records = (0..ranges as u32)
-        .map(range)
-        .map(|(first, last)| [0, RANGE, first, last, 0]);
-    let mut sheet = Sheet {
-        start: 0,
-        accept: vec![1],
-        records: records.collect(),
-    };
+    let records = (0..ranges as u32).map(range).map(|(first, last)| [0, RANGE, first, last, 0]);
+    let mut sheet = Sheet { start: 0, accept: vec![1], records: records.collect() };
     sheet.sort();
     sheet
 }
@@ -209,11 +170,16 @@ pub fn fan(states: usize, points: usize) -> Sheet {
     let last = states as u32 - 1;
     let mut records: Vec<Record> = (0..last).map(|from| [from, EPSILON, 0, 0, last]).collect();
     records.extend((0..points as u32).map(|i| [last, RANGE, i, i, last]));
-    Sheet {
-        start: 0,
-        accept: vec![1; states],
-        records,
-    }
+    Sheet { start: 0, accept: vec![1; states], records }
+}
+
+/// A ring of epsilons, so that every state is in each closure; every state reads one symbol.
+pub fn epsilon_ring(states: usize) -> Sheet {
+    let next = |state: u32| (state + 1) % states as u32;
+    let pair = |from: u32| [[from, EPSILON, 0, 0, next(from)], [from, RANGE, from, from, from]];
+    let mut accept = vec![0; states];
+    accept[states - 1] = 1;
+    Sheet { start: 0, accept, records: (0..states as u32).flat_map(pair).collect() }
 }
 
 /// Every state leads to every state by each of some ranges.
@@ -224,17 +190,13 @@ pub fn complete(states: usize, ranges: usize) -> Sheet {
             records.extend((0..states as u32).map(|to| [from, RANGE, i, i + 1, to]));
         }
     }
-    Sheet {
-        start: 0,
-        accept: vec![1; states],
-        records,
-    }
+    Sheet { start: 0, accept: vec![1; states], records }
 }
 
 /// A sheet at or near one of the limits.
 pub fn limit(rng: &mut Rng) -> Sheet {
     let near = |rng: &mut Rng, number: usize| number + rng.below(3) - 1;
-    match rng.below(11) {
+    match rng.below(12) {
         0 => chain(rng.within(MAX_STATES - 3, MAX_STATES), rng.one_in(2)),
         1 => from_the_end(rng.within(6, 9)),
         2 => comb(rng.below(2) as u32, near(rng, 1023)),
@@ -250,7 +212,8 @@ pub fn limit(rng: &mut Rng) -> Sheet {
             let states = rng.within(MAX_STATES - 2, MAX_STATES);
             total(rng, states, 3)
         }
-        9 => from_the_end_cut(7, rng.within(12, 15)),
+        9 => epsilon_ring(rng.within(MAX_STATES - 2, MAX_STATES)),
+        10 => from_the_end_cut(7, rng.within(12, 15)),
         _ => random(rng, 1, MAX_RECORDS, 0),
     }
 }
@@ -258,7 +221,7 @@ pub fn limit(rng: &mut Rng) -> Sheet {
 /// Words that are no sheet, or seldom: a damaged sheet, one over a limit, or any words.
 pub fn faulty(rng: &mut Rng) -> Vec<u32> {
     let word = |rng: &mut Rng| match rng.below(4) {
-        0 => rng.next() as u32,
+        0 => rng.draw() as u32,
         1 => *rng.pick(&EDGES),
         _ => rng.below(4) as u32,
     };
@@ -311,19 +274,14 @@ mod tests {
         let mut rng = Rng::new(3);
         for _ in 0..3000 {
             let (sort, sheet) = any(&mut rng);
-            assert!(
-                sort == "faulty" || sheet_fault(&sheet) == 0,
-                "{sort} {sheet:?}"
-            );
+            assert!(sort == "faulty" || sheet_fault(&sheet) == 0, "{sort} {sheet:?}");
         }
     }
 
     #[test]
     fn faulty_sheets_have_every_fault() {
         let mut rng = Rng::new(4);
-        let faults: HashSet<u32> = (0..20_000)
-            .map(|_| sheet_fault(&faulty(&mut rng)))
-            .collect();
+        let faults: HashSet<u32> = (0..20_000).map(|_| sheet_fault(&faulty(&mut rng))).collect();
         assert_eq!(faults, HashSet::from_iter(0..=6));
     }
 }

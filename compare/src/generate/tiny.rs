@@ -5,12 +5,8 @@ use crate::sheet::{EPSILON, RANGE, Sheet};
 /// Kind, first and last of a record.
 type Trigger = (u32, u32, u32);
 
-const ONE_STATE: [Trigger; 4] = [
-    (EPSILON, 0, 0),
-    (RANGE, 0, 5),
-    (RANGE, 3, 9),
-    (RANGE, 6, u32::MAX),
-];
+const ONE_STATE: [Trigger; 4] =
+    [(EPSILON, 0, 0), (RANGE, 0, 5), (RANGE, 3, 9), (RANGE, 6, u32::MAX)];
 
 /// The ranges of the one family overlap, those of the other meet without a gap.
 const TWO_STATES: [[Trigger; 3]; 2] = [
@@ -43,9 +39,7 @@ fn one_state(number: usize) -> Sheet {
     Sheet {
         start: 0,
         accept: vec![bit(number, 4)],
-        records: chosen
-            .map(|(_, &(kind, first, last))| [0, kind, first, last, 0])
-            .collect(),
+        records: chosen.map(|(_, &(kind, first, last))| [0, kind, first, last, 0]).collect(),
     }
 }
 
@@ -61,11 +55,7 @@ fn two_states(number: usize) -> Sheet {
             }
         }
     }
-    Sheet {
-        start: bit(number, 12),
-        accept: vec![bit(number, 13), bit(number, 14)],
-        records,
-    }
+    Sheet { start: bit(number, 12), accept: vec![bit(number, 13), bit(number, 14)], records }
 }
 
 #[cfg(test)]

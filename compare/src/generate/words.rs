@@ -26,11 +26,7 @@ pub fn word(rng: &mut Rng, sheet: &Sheet, longest: usize) -> Vec<u32> {
         }
         let run = sheet.run(state);
         if run.is_empty() || rng.one_in(20) {
-            word.push(if rng.one_in(2) {
-                *rng.pick(&EDGES)
-            } else {
-                rng.below(10) as u32
-            });
+            word.push(if rng.one_in(2) { *rng.pick(&EDGES) } else { rng.below(10) as u32 });
             continue;
         }
         let record = rng.pick(run);
@@ -51,11 +47,7 @@ pub fn word_for(rng: &mut Rng, words: &[u32], longest: usize) -> Vec<u32> {
 fn sheet_of(words: &[u32]) -> Sheet {
     match crate::paper::sheet_fault(words) {
         0 => Sheet::read(words),
-        _ => Sheet {
-            start: 0,
-            accept: vec![0],
-            records: Vec::new(),
-        },
+        _ => Sheet { start: 0, accept: vec![0], records: Vec::new() },
     }
 }
 
@@ -65,9 +57,7 @@ pub fn text(rng: &mut Rng, words: &[u32], longest: usize) -> String {
     let sheet = sheet_of(words);
     let symbols = word(rng, &sheet, longest);
     let character = |symbol: u32| {
-        char::from_u32(symbol)
-            .or(char::from_u32(symbol % 0x11_0000))
-            .unwrap_or('\u{d7ff}')
+        char::from_u32(symbol).or(char::from_u32(symbol % 0x11_0000)).unwrap_or('\u{d7ff}')
     };
     symbols.into_iter().map(character).collect()
 }
@@ -123,16 +113,8 @@ pub fn bytes(rng: &mut Rng, words: &[u32], longest: usize) -> (&'static str, Vec
             bytes.splice(at..at, rng.pick(&MALFORMED).iter().copied());
             ("malformed", bytes)
         }
-        1 => (
-            "damaged",
-            damaged(rng, text.as_bytes(), |rng| rng.next() as u8),
-        ),
-        2 => (
-            "any bytes",
-            (0..rng.below(longest + 1))
-                .map(|_| rng.next() as u8)
-                .collect(),
-        ),
+        1 => ("damaged", damaged(rng, text.as_bytes(), |rng| rng.draw() as u8)),
+        2 => ("any bytes", (0..rng.below(longest + 1)).map(|_| rng.draw() as u8).collect()),
         3 => {
             text.push(*rng.pick(&BOUNDARIES));
             text.push('\u{10ffff}');
