@@ -1,0 +1,97 @@
+//! Comparison of exact equality.
+//!
+//! The original has no such call. The verdict is compared with a plain search on its
+//! determinizations, and a difference word with what its closures and steps accept.
+
+use super::{Plan, Tally};
+use crate::expect::{Outcome, Verdict};
+use crate::generate::{Rng, pairs, tiny};
+use crate::lent::{Lent, near, result_fault};
+use crate::sheet::{DIFFERENCE_WORDS, Sheet};
+use crate::{expect, oracle, port};
+
+/// What was lent to the call.
+struct Lending {
+    word: Lent<u32>,
+    same: Lent<u32>,
+    number: Lent<u64>,
+}
+
+impl Lending {
+    /// What is wrong with the call's result and what it wrote.
+    fn fault(
+        &self,
+        result: u32,
+        expected: &Outcome<Verdict>,
+        a: &[u32],
+        b: &[u32],
+    ) -> Option<String> {
+        let written = |same: &[u32], number: &[u64], word: &[u32]| {
+            self.same
+                .fault("same", same)
+                .or_else(|| self.number.fault("number", number))
+                .or_else(|| self.word.fault("word_out", word))
+        };
+        result_fault(result, expected).or_else(|| match expected {
+            Err(_) => written(&[], &[], &[]),
+            Ok(Verdict::Same { joins }) => written(&[1], &[*joins], &[]),
+            Ok(Verdict::Different { longest, .. }) => {
+                let length = self.number.get()[0];
+                let word = self.word.get().get(..length as usize).unwrap_or_default();
+                if self.same.get()[0] == 0 && length > *longest {
+                    return Some(format!("{length} symbols, over {longest}"));
+                }
+                written(&[0], &[length], word).or_else(|| difference_fault(a, b, word))
+            }
+        })
+    }
+}
+
+/// What is wrong with a difference word of two accepted sheets.
+fn difference_fault(a: &[u32], b: &[u32], word: &[u32]) -> Option<String> {
+    let accepts = |sheet: &[u32]| {
+        let a = oracle::automaton(&Sheet::read(sheet));
+        oracle::accepts_word(&a, word)
+    };
+    let (first, second) = (accepts(a), accepts(b));
+    (first == second).then(|| format!("difference word {word:?} accepted by both: {first}"))
+}
+
+pub fn compare(call: port::Equality, plan: &Plan, tally: &mut Tally) {
+    let mut check = |rng: &mut Rng, sort, a: Vec<u32>, b: Vec<u32>| {
+        let mut lent = Lending {
+            word: Lent::new(near(rng, DIFFERENCE_WORDS)),
+            same: Lent::new(1),
+            number: Lent::new(1),
+        };
+        let expected =
+            if lent.word.len() < DIFFERENCE_WORDS { Err(20) } else { expect::equality(&a, &b) };
+        let result = unsafe {
+            call(
+                a.as_ptr(),
+                a.len(),
+                b.as_ptr(),
+                b.len(),
+                lent.word.as_mut_ptr(),
+                lent.word.len(),
+                lent.same.as_mut_ptr(),
+                lent.number.as_mut_ptr(),
+            )
+        };
+        let fault = lent.fault(result, &expected, &a, &b);
+        let input: [(&str, &dyn super::Shown); 3] =
+            [("a", &a), ("b", &b), ("words lent", &lent.word.len())];
+        tally.note(sort, &expected, fault, &input);
+    };
+    let mut rng = plan.rng("equality");
+    for first in 0..tiny::ONE {
+        for second in 0..tiny::ONE {
+            let (a, b) = (tiny::sheet(first), tiny::sheet(second));
+            check(&mut rng, "tiny", a.words(), b.words());
+        }
+    }
+    for _ in 0..plan.rounds {
+        let (sort, a, b) = pairs::any(&mut rng);
+        check(&mut rng, sort, a, b);
+    }
+}
