@@ -1,2 +1,3 @@
--- The numbers of the refusals.
+-- The numbers of the refusals, and the answers that bear them.
 pub mod Number
+pub mod Answer

@@ -17,10 +17,11 @@ use Rattle.automata.specs.Records.{wordsOf, readRecords, recordAt}
 use Rattle.automata.proofs.Records.{records-at, records-end, part-record}
 use Rattle.refusal.specs.declared.InputRefusal.{InputRefusal}
 use Rattle.refusal.specs.declared.InputRefusal.the-variants.{SheetLength, Start, Counts, AcceptWord, Record, RecordOrder, Epsilon, Grammar, Utf8, Labels}
+use Rattle.refusal.specs.Answer.{Answer, refused}
 use Rattle.refusal.specs.Number.{inputNumber}
 use Rattle.sheets.specs.declared.Checked.{Checked}
 use Rattle.sheets.specs.declared.Checked.the-variants.{Accepted, Refused}
-use Rattle.sheets.specs.Checked.{checkedNumber}
+use Rattle.sheets.specs.Checked.{checkedNumber, sheetFirst}
 use Rattle.sheets.specs.Fault.{acceptWords, less, isBad, recordFault, recordsFault, orElse, transitionsFault, statesFault, fault}
 
 -- the accept words from i on decide
@@ -167,3 +168,15 @@ start-at (a ∷ []) h = absurd (omega arith)
 start-at (a ∷ b ∷ s) h = rw (part-all 2 (a ∷ b ∷ s))
 
 pub ruleset sections = (transitions-none, transitions-at, states-none, states-at, start-short, start-at, tests)
+
+-- what the check's answer says of an answer that the sheet's fault precedes
+module _ {X : Type 0} (s : List ℕ) (a : Answer X) (r : Checked) (e : checkedNumber r ≡ fault s) where
+  pub sheet-passed : r ≡ Accepted → sheetFirst s a ≡ a
+  unfolding sheetFirst
+  sheet-passed h = rw (eq-eqb (fault s) 0 (sym e ∙ ap checkedNumber h))
+
+  pub sheet-refused : (i : InputRefusal) → r ≡ Refused i → sheetFirst s a ≡ refused (inputNumber i)
+  unfolding sheetFirst
+  sheet-refused i h =
+      let n : fault s ≡ inputNumber i = sym e ∙ ap checkedNumber h in
+      rw (ne-eqb (fault s) 0 (λ z. refused-some i (sym n ∙ z))) (ap refused n)

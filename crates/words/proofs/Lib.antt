@@ -7,3 +7,4 @@ pub mod Gather
 pub mod Epsilons
 pub mod Stepping
 pub mod Reading
+pub mod Answers

@@ -41,7 +41,7 @@ step-nothing A a =
     and-false true = refl
     and-false false = refl
 
-simulate-nothing : (A : Automaton) (w : List ℕ) → simulate A [] w ≡ []
+pub simulate-nothing : (A : Automaton) (w : List ℕ) → simulate A [] w ≡ []
 unfolding simulate
 simulate-nothing A [] = refl
 simulate-nothing A (a ∷ w) = ap (λ S. simulate A S w) (step-nothing A a) ∙ simulate-nothing A w
