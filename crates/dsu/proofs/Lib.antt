@@ -3,3 +3,9 @@ pub mod Ways
 pub mod Finding
 pub mod Joining
 pub mod Fresh
+pub mod Count
+pub mod Leads
+pub mod Keep
+pub mod Merge
+pub mod Classes
+pub mod Laws

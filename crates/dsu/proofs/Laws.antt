@@ -1,0 +1,181 @@
+-- The laws of join sets: those who build on them cite these, with a function's contract as the premise. Assumes nothing.
+use Prim.Native.Nat.{ℕ, zero, suc, _+_, _≤_, _<_}
+use mathlib.Core.Path.{_≡_, refl, sym, ap, subst, _∙_}
+use mathlib.Core.Bool.{Bool, true, false, cond}
+use mathlib.Core.Logic.{_⊎_, inl, inr}
+use mathlib.Core.List.{List, [], _∷_, _++_}
+use native.Mathlib.Omega.{arith}
+use lib.Dec.{ltb}
+use lib.ListN.{length, getD, replicate, length-append, length-replicate, getD-replicate, List·getD-append}
+use lib.Seq.{getD-at}
+use borrow.Author.Tests.{lt-leb, le-ltb, ltb-true, ltb-false, eq-eqb, ne-eqb, lt-ltb}
+use Rattle.dsu.specs.declared.DSU.{DSU}
+use Rattle.dsu.specs.declared.FindAnswer.{FindAnswer}
+use Rattle.dsu.specs.declared.Outcome.the-variants.{Done}
+use Rattle.dsu.specs.declared.Answer.{Answer}
+use Rattle.dsu.specs.Sets.{Way, reached, way, changed, findOf, under, join, joinSecond, joinFirst, unionOf, upTo, fresh, newOf}
+use Rattle.dsu.specs.Steps.{Met}
+use Rattle.dsu.specs.Classes.{Classes, Joined, before}
+use Rattle.dsu.specs.Laws.{classOf, Same, Valid, NewLaw, FindLaw, UnionLaw}
+use Rattle.dsu.proofs.Count.{same?, count-one, Merged}
+use Rattle.dsu.proofs.Classes.{classes-moved, classes-alone, Joins, turned, merged-joins, classes-fewer}
+use Rattle.dsu.proofs.Leads.{sets, Leads, here, after, leads-end, leads-way, leads-find, leads-class}
+use Rattle.dsu.proofs.Keep.{leads-to-class, Kept, leads-kept}
+use Rattle.dsu.proofs.Merge.{Apart, two-fit, merged-class, merged-valid}
+
+-- new
+
+upTo-long : (k : ℕ) → length (upTo k) ≡ k
+unfolding upTo
+upTo-long zero = refl
+upTo-long (suc k) = length-append (upTo k) (k ∷ []) ∙ omega (arith, upTo-long k)
+
+upTo-at : (k i : ℕ) → i < k → getD (upTo k) i 0 ≡ i
+unfolding upTo
+upTo-at zero i h = absurd (omega arith)
+upTo-at (suc k) i h = by-place (λ c. upTo-at k i c) (same? i k)
+  where
+    by-place : (i < k → getD (upTo k) i 0 ≡ i) → (i ≡ k) ⊎ (i ≡ k → ⊥) → getD (upTo k ++ k ∷ []) i 0 ≡ i
+    by-place ih (inl e) = getD-at (upTo k) k [] 0 i (upTo-long k ∙ sym e) ∙ sym e
+    by-place ih (inr e) = List·getD-append (upTo k) (k ∷ []) 0 i (omega (arith, upTo-long k)) ∙ ih (omega arith)
+
+module _ (k n : ℕ) (few : n ≤ 512) (in-k : n ≤ k) where
+  abbrev begun : DSU
+  begun = sets (upTo k) (replicate k 1) n
+
+  ones : (x : ℕ) → x < n → _≡_ {A = ℕ} (getD (replicate k 1) x 0) 1
+  ones x h = getD-replicate k x 1 0 (omega arith)
+
+  own-class : (x : ℕ) → x < n → classOf begun x ≡ x
+  own-class x h = leads-class (here (record { few = few; inside = h; some = omega (arith, ones x h); fits = omega (arith, ones x h) }) (upTo-at k x (omega arith)))
+
+  begun-valid : Valid begun
+  begun-valid = record {
+    few = few;
+    long-repr = omega (arith, upTo-long k);
+    long-size = omega (arith, length-replicate {A = ℕ} k 1);
+    inside = λ x h. omega (arith, upTo-at k x (omega arith));
+    grows = λ x h r. absurd (r (upTo-at k x (omega arith)));
+    some = λ x h. omega (arith, ones x h);
+    fits = λ x h. omega (arith, ones x h);
+    counted = λ x h r. ones x h ∙ sym (count-one (classOf begun) x n own-class h);
+  }
+
+  begun-alone : (x y : ℕ) → x < n → y < n → Same begun x y → x ≡ y
+  begun-alone x y hx hy e = sym (own-class x hx) ∙ e ∙ own-class y hy
+
+pub new-law : (n : ℕ) (r : Answer) → r ≡ newOf n → n ≤ 512 → NewLaw n r
+unfolding newOf fresh
+new-law n r e h = subst (NewLaw n) (sym (e ∙ rw (le-ltb 512 n h))) (record {
+  done = refl;
+  is-n = refl;
+  valid = begun-valid 512 n h h;
+  alone = begun-alone 512 n h h;
+  classes = classes-alone (classOf (begun 512 n h h)) n (begun-alone 512 n h h);
+})
+
+-- find
+
+kept-class : (l z : List ℕ) (n : ℕ) (v : Valid (sets l z n)) (m : List ℕ) → Kept l z n m → (y : ℕ) → y < n → classOf (sets m z n) y ≡ classOf (sets l z n) y
+kept-class l z n v m k y h = leads-class (k .ways y (classOf (sets l z n) y) (leads-to-class l z n v y h))
+
+pub find-law : (d : DSU) (x : ℕ) (r : FindAnswer) → r ≡ findOf d x → Valid d → x < d .n → FindLaw d x r
+find-law d x r e v h =
+    let t = leads-to-class (d .repr) (d .size) (d .n) v x h in
+    let end = leads-end t in
+    let k = leads-kept v t in
+    subst (FindLaw d x) (sym (e ∙ leads-find t)) (record {
+      found = refl;
+      inside = end .0 .inside;
+      member = sym (leads-class (here (end .0) (end .1)));
+      is-n = refl;
+      valid = k .valid;
+      kept = kept-class (d .repr) (d .size) (d .n) v (after t) k;
+    })
+
+-- union
+
+module _ (d : DSU) (x y : ℕ) (x-in : x < d .n) (y-in : y < d .n) where
+  -- by the way in which the classes change
+  apart-law : (s : DSU) → s .n ≡ d .n → Valid s → Joins (d .n) (classOf d) (classOf s) x y → UnionLaw d x y (record { outcome = Done; sets = s })
+  apart-law s is-n v j = record {
+    done = refl;
+    is-n = is-n;
+    valid = v;
+    joined = j .joined;
+    kept = j .kept;
+    only = j .only;
+    fewer = λ h k w. classes-fewer x-in y-in j w;
+    as-many = λ h k w. absurd (j .apart h);
+  }
+
+  same-law : (s : DSU) → s .n ≡ d .n → Valid s → Same d x y → ((w : ℕ) → w < d .n → classOf s w ≡ classOf d w) → UnionLaw d x y (record { outcome = Done; sets = s })
+  same-law s is-n v e same = record {
+    done = refl;
+    is-n = is-n;
+    valid = v;
+    joined = same x x-in ∙ e ∙ sym (same y y-in);
+    kept = keep;
+    only = λ p q a b g. before (drop-back p q a b g);
+    fewer = λ h k w. absurd (h e);
+    as-many = λ h k w. classes-moved keep drop-back w;
+  }
+    where
+      keep : (p q : ℕ) → p < d .n → q < d .n → Same d p q → Same s p q
+      keep p q a b f = same p a ∙ f ∙ sym (same q b)
+
+      drop-back : (p q : ℕ) → p < d .n → q < d .n → Same s p q → Same d p q
+      drop-back p q a b g = sym (same p a) ∙ g ∙ same q b
+
+-- m has the parents after both finds
+module _ (d : DSU) (m : List ℕ) (v : Valid (sets m (d .size) (d .n))) (same : (w : ℕ) → w < d .n → classOf (sets m (d .size) (d .n)) w ≡ classOf d w) where
+  -- y's root put under x's
+  under-joins : (x y : ℕ) → x < d .n → y < d .n → (r : Apart m (d .n) (classOf d x) (classOf d y)) → Joins (d .n) (classOf d) (classOf (under d m (classOf d x) (classOf d y) .sets)) x y
+  under-joins x y x-in y-in r =
+      let c = merged-class m (d .size) (d .n) v (classOf d x) (classOf d y) r in
+      merged-joins x-in y-in (r .apart) (record {
+        moved = λ w h e. c .moved w h (same w h ∙ e);
+        left = λ w h e. c .left w h (λ q. e (sym (same w h) ∙ q)) ∙ same w h;
+      })
+
+  module _ (x y : ℕ) (x-in : x < d .n) (y-in : y < d .n) where
+    abbrev a : ℕ
+    a = classOf d x
+
+    abbrev b : ℕ
+    b = classOf d y
+
+    first-law : Apart m (d .n) a b → UnionLaw d x y (under d m a b)
+    first-law r = apart-law d x y x-in y-in (under d m a b .sets) refl (merged-valid m (d .size) (d .n) v a b r) (under-joins x y x-in y-in r)
+
+    second-law : Apart m (d .n) b a → UnionLaw d x y (under d m b a)
+    second-law r = apart-law d x y x-in y-in (under d m b a .sets) refl (merged-valid m (d .size) (d .n) v b a r) (turned (under-joins y x y-in x-in r))
+
+    join-law : Met (d .size) (d .n) a × (getD m a 0 ≡ a) → Met (d .size) (d .n) b × (getD m b 0 ≡ b) → UnionLaw d x y (join d m a b)
+    unfolding join
+    join-law ra rb = by-same (same? a b)
+      where
+        by-size : Apart m (d .n) a b → (t : Bool) → ltb (getD (d .size) a 0) (getD (d .size) b 0) ≡ t → UnionLaw d x y (cond t (under d m b a) (under d m a b))
+        by-size r true e = second-law (record { a-in = r .b-in; b-in = r .a-in; a-root = r .b-root; b-root = r .a-root; apart = λ q. r .apart (sym q) })
+        by-size r false e = first-law r
+
+        by-same : (a ≡ b) ⊎ (a ≡ b → ⊥) → UnionLaw d x y (join d m a b)
+        by-same (inl e) = rw (eq-eqb a b e) (same-law d x y x-in y-in (sets m (d .size) (d .n)) refl v e same)
+        by-same (inr h) =
+            let r : Apart m (d .n) a b = record { a-in = ra .0 .inside; b-in = rb .0 .inside; a-root = ra .1; b-root = rb .1; apart = h } in
+            rw (ne-eqb a b h, le-ltb (d .n) (getD (d .size) a 0 + getD (d .size) b 0) (two-fit m (d .size) (d .n) v a b r)) (by-size r (ltb (getD (d .size) a 0) (getD (d .size) b 0)) refl)
+
+pub union-law : (d : DSU) (x y : ℕ) (r : Answer) → r ≡ unionOf d x y → Valid d → x < d .n → y < d .n → UnionLaw d x y r
+unfolding unionOf
+union-law d x y r e v x-in y-in =
+    let z = d .size in
+    let n = d .n in
+    let s = leads-to-class (d .repr) z n v x x-in in
+    let k = leads-kept v s in
+    let same₁ = kept-class (d .repr) z n v (after s) k in
+    let t = subst (λ (b : ℕ). Leads (after s) z n y b) (same₁ y y-in) (leads-to-class (after s) z n (k .valid) y y-in) in
+    let k′ = leads-kept (k .valid) t in
+    let same₂ = kept-class (after s) z n (k .valid) (after t) k′ in
+    let way-end : (w : ℕ) → w < n → Met z n (classOf d w) × (getD (after t) (classOf d w) 0 ≡ classOf d w) = λ w h. leads-end (k′ .ways w (classOf d w) (k .ways w (classOf d w) (leads-to-class (d .repr) z n v w h))) in
+    let is : r ≡ join d (after t) (classOf d x) (classOf d y) = e ∙ rw (lt-leb n x x-in, lt-leb n y y-in, leads-way s, leads-way t) in
+    subst (UnionLaw d x y) (sym is) (join-law d (after t) (k′ .valid) (λ w h. same₂ w h ∙ same₁ w h) x y x-in y-in (way-end x x-in) (way-end y y-in))
