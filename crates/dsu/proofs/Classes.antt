@@ -3,9 +3,10 @@
 use Prim.Native.Nat.{ℕ, zero, suc, _+_, _≤_, _<_}
 use mathlib.Core.Path.{_≡_, refl, sym, ap, _∙_}
 use mathlib.Core.Logic.{_⊎_, inl, inr}
+use native.Mathlib.Decide.{ℕ-discrete}
 use native.Mathlib.Omega.{arith}
 use Rattle.dsu.specs.Classes.{Classes, none, old, new, Joined, before, across, back}
-use Rattle.dsu.proofs.Count.{same?, Merged}
+use Rattle.dsu.proofs.Count.{Merged}
 
 pub classes-unique : {R : ℕ → ℕ → Type 0} {n j k : ℕ} → Classes R n j → Classes R n k → j ≡ k
 classes-unique none none = refl
@@ -40,20 +41,20 @@ module _ {f : ℕ → ℕ} {c k : ℕ} where
   more-seen s = (s .0, omega (arith, s .1), s .2)
 
   more-unseen : Unseen f c k → (f k ≡ c → ⊥) → Unseen f c (suc k)
-  more-unseen u e i h a = by-place (same? i k)
+  more-unseen u e i h a = by-place (ℕ-discrete i k)
     where
-      by-place : (i ≡ k) ⊎ (i ≡ k → ⊥) → ⊥
-      by-place (inl q) = e (sym (ap f q) ∙ a)
-      by-place (inr q) = u i (omega arith) a
+      by-place : Dec (i ≡ k) → ⊥
+      by-place (yes q) = e (sym (ap f q) ∙ a)
+      by-place (no q) = u i (omega arith) a
 
 seen? : (f : ℕ → ℕ) (c k : ℕ) → Seen f c k ⊎ Unseen f c k
 seen? f c zero = inr (λ i h e. omega arith)
-seen? f c (suc k) = by-last (seen? f c k) (same? (f k) c)
+seen? f c (suc k) = by-last (seen? f c k) (ℕ-discrete (f k) c)
   where
-    by-last : Seen f c k ⊎ Unseen f c k → (f k ≡ c) ⊎ (f k ≡ c → ⊥) → Seen f c (suc k) ⊎ Unseen f c (suc k)
+    by-last : Seen f c k ⊎ Unseen f c k → Dec (f k ≡ c) → Seen f c (suc k) ⊎ Unseen f c (suc k)
     by-last (inl s) b = inl (more-seen s)
-    by-last (inr u) (inl e) = inl (k, omega arith, e)
-    by-last (inr u) (inr e) = inr (more-unseen u e)
+    by-last (inr u) (yes e) = inl (k, omega arith, e)
+    by-last (inr u) (no e) = inr (more-unseen u e)
 
 pub classes-some : (f : ℕ → ℕ) (n : ℕ) → (k : ℕ) × Classes (Ker f) n k
 classes-some f zero = (0, none)
@@ -88,19 +89,19 @@ pub merged-joins : {n : ℕ} {f g : ℕ → ℕ} {x y : ℕ} → x < n → y < n
 merged-joins {n} {f} {g} {x} {y} x-in y-in apart m = record {
   apart = apart;
   joined = m .left x x-in apart ∙ sym (m .moved y y-in refl);
-  kept = λ p q a b e. keep p q a b e (same? (f p) (f y));
-  only = λ p q a b e. why p q a b e (same? (f p) (f y)) (same? (f q) (f y));
+  kept = λ p q a b e. keep p q a b e (ℕ-discrete (f p) (f y));
+  only = λ p q a b e. why p q a b e (ℕ-discrete (f p) (f y)) (ℕ-discrete (f q) (f y));
 }
   where
-    keep : (p q : ℕ) → p < n → q < n → f p ≡ f q → (f p ≡ f y) ⊎ (f p ≡ f y → ⊥) → g p ≡ g q
-    keep p q a b e (inl h) = m .moved p a h ∙ sym (m .moved q b (sym e ∙ h))
-    keep p q a b e (inr h) = m .left p a h ∙ e ∙ sym (m .left q b (λ k. h (e ∙ k)))
+    keep : (p q : ℕ) → p < n → q < n → f p ≡ f q → Dec (f p ≡ f y) → g p ≡ g q
+    keep p q a b e (yes h) = m .moved p a h ∙ sym (m .moved q b (sym e ∙ h))
+    keep p q a b e (no h) = m .left p a h ∙ e ∙ sym (m .left q b (λ k. h (e ∙ k)))
 
-    why : (p q : ℕ) → p < n → q < n → g p ≡ g q → (f p ≡ f y) ⊎ (f p ≡ f y → ⊥) → (f q ≡ f y) ⊎ (f q ≡ f y → ⊥) → Joined (Ker f) x y p q
-    why p q a b e (inl h) (inl k) = before (h ∙ sym k)
-    why p q a b e (inl h) (inr k) = back h (sym (m .left q b k) ∙ sym e ∙ m .moved p a h)
-    why p q a b e (inr h) (inl k) = across (sym (m .left p a h) ∙ e ∙ m .moved q b k) k
-    why p q a b e (inr h) (inr k) = before (sym (m .left p a h) ∙ e ∙ m .left q b k)
+    why : (p q : ℕ) → p < n → q < n → g p ≡ g q → Dec (f p ≡ f y) → Dec (f q ≡ f y) → Joined (Ker f) x y p q
+    why p q a b e (yes h) (yes k) = before (h ∙ sym k)
+    why p q a b e (yes h) (no k) = back h (sym (m .left q b k) ∙ sym e ∙ m .moved p a h)
+    why p q a b e (no h) (yes k) = across (sym (m .left p a h) ∙ e ∙ m .moved q b k) k
+    why p q a b e (no h) (no k) = before (sym (m .left p a h) ∙ e ∙ m .left q b k)
 
 -- after k numbers: both classes were met, and g has one fewer; or one was not, and g has as many
 data State (f g : ℕ → ℕ) (x y k c : ℕ) : Type 0 where
@@ -153,12 +154,12 @@ module _ {n : ℕ} {f g : ℕ → ℕ} {x y : ℕ} (x-in : x < n) (y-in : y < n)
 
 module _ {n : ℕ} {f g : ℕ → ℕ} {x y : ℕ} (x-in : x < n) (y-in : y < n) (j : Joins n f g x y) where
   state-new : {k c : ℕ} → k < n → Unseen f (f k) k → State f g x y k c → State f g x y (suc k) (suc c)
-  state-new {k} {c} b o s = by-class (same? (f k) (f x)) (same? (f k) (f y))
+  state-new {k} {c} b o s = by-class (ℕ-discrete (f k) (f x)) (ℕ-discrete (f k) (f y))
     where
-      by-class : (f k ≡ f x) ⊎ (f k ≡ f x → ⊥) → (f k ≡ f y) ⊎ (f k ≡ f y → ⊥) → State f g x y (suc k) (suc c)
-      by-class (inl e) q = state-x x-in y-in j b o e s
-      by-class (inr e) (inl q) = state-turned (state-x y-in x-in (turned j) b o q (state-turned s))
-      by-class (inr e) (inr q) = state-other x-in y-in j b o e q s
+      by-class : Dec (f k ≡ f x) → Dec (f k ≡ f y) → State f g x y (suc k) (suc c)
+      by-class (yes e) q = state-x x-in y-in j b o e s
+      by-class (no e) (yes q) = state-turned (state-x y-in x-in (turned j) b o q (state-turned s))
+      by-class (no e) (no q) = state-other x-in y-in j b o e q s
 
   state : {k c : ℕ} → k ≤ n → Classes (Ker f) k c → State f g x y k c
   state h none = lacks (inl (λ i b e. omega arith)) none

@@ -1,20 +1,10 @@
--- Laws of `count`, and that two numbers are equal or not. Assumes nothing.
+-- Laws of `count`. Assumes nothing.
 use Prim.Native.Nat.{ℕ, zero, suc, _+_, _≤_, _<_}
 use mathlib.Core.Path.{_≡_, refl, sym, _∙_}
-use mathlib.Core.Bool.{Bool, true, false}
-use mathlib.Core.Logic.{_⊎_, inl, inr}
+use native.Mathlib.Decide.{ℕ-discrete}
 use native.Mathlib.Omega.{arith}
-use lib.Dec.{eqb}
-use borrow.Author.Tests.{eq-eqb, ne-eqb, eqb-true, eqb-false}
+use borrow.Author.Tests.{eq-eqb, ne-eqb}
 use Rattle.dsu.specs.Laws.{count}
-
--- two numbers are equal or not
-pub same? : (a b : ℕ) → (a ≡ b) ⊎ (a ≡ b → ⊥)
-same? a b = by-test (eqb a b) refl
-  where
-    by-test : (t : Bool) → eqb a b ≡ t → (a ≡ b) ⊎ (a ≡ b → ⊥)
-    by-test true e = inl (eqb-true a b e)
-    by-test false e = inr (eqb-false a b e)
 
 -- one more number, which f takes to a, or does not
 module _ (f : ℕ → ℕ) (a m : ℕ) where
@@ -38,13 +28,13 @@ count-cong f g a (suc m) h = rw (h m (omega arith), count-cong f g a m (λ x b. 
 -- no more than m of the numbers below m go to a or to b
 pub count-two : (f : ℕ → ℕ) (a b m : ℕ) → (a ≡ b → ⊥) → count f a m + count f b m ≤ m
 count-two f a b zero h = omega (arith, none f a, none f b)
-count-two f a b (suc m) h = by-last (count-two f a b m h) (same? (f m) a) (same? (f m) b)
+count-two f a b (suc m) h = by-last (count-two f a b m h) (ℕ-discrete (f m) a) (ℕ-discrete (f m) b)
   where
-    by-last : count f a m + count f b m ≤ m → (f m ≡ a) ⊎ (f m ≡ a → ⊥) → (f m ≡ b) ⊎ (f m ≡ b → ⊥) → count f a (suc m) + count f b (suc m) ≤ suc m
-    by-last ih (inl p) (inl q) = absurd (h (sym p ∙ q))
-    by-last ih (inl p) (inr q) = omega (arith, hit f a m p, miss f b m q)
-    by-last ih (inr p) (inl q) = omega (arith, miss f a m p, hit f b m q)
-    by-last ih (inr p) (inr q) = omega (arith, miss f a m p, miss f b m q)
+    by-last : count f a m + count f b m ≤ m → Dec (f m ≡ a) → Dec (f m ≡ b) → count f a (suc m) + count f b (suc m) ≤ suc m
+    by-last ih (yes p) (yes q) = absurd (h (sym p ∙ q))
+    by-last ih (yes p) (no q) = omega (arith, hit f a m p, miss f b m q)
+    by-last ih (no p) (yes q) = omega (arith, miss f a m p, hit f b m q)
+    by-last ih (no p) (no q) = omega (arith, miss f a m p, miss f b m q)
 
 -- where f leaves every number alone, each is counted once
 count-none : (f : ℕ → ℕ) (a m : ℕ) → ((x : ℕ) → x < m → f x ≡ x) → m ≤ a → count f a m ≡ 0
@@ -53,11 +43,11 @@ count-none f a (suc m) h b = miss f a m (λ e. omega (arith, h m (omega arith)))
 
 pub count-one : (f : ℕ → ℕ) (a m : ℕ) → ((x : ℕ) → x < m → f x ≡ x) → a < m → count f a m ≡ 1
 count-one f a zero h b = absurd (omega arith)
-count-one f a (suc m) h b = by-last (λ c. count-one f a m (λ x d. h x (omega arith)) c) (same? m a)
+count-one f a (suc m) h b = by-last (λ c. count-one f a m (λ x d. h x (omega arith)) c) (ℕ-discrete m a)
   where
-    by-last : (a < m → count f a m ≡ 1) → (m ≡ a) ⊎ (m ≡ a → ⊥) → count f a (suc m) ≡ 1
-    by-last ih (inl e) = omega (arith, hit f a m (h m (omega arith) ∙ e), count-none f a m (λ x d. h x (omega arith)) (omega arith))
-    by-last ih (inr e) = omega (arith, miss f a m (λ q. e (sym (h m (omega arith)) ∙ q)), ih (omega arith))
+    by-last : (a < m → count f a m ≡ 1) → Dec (m ≡ a) → count f a (suc m) ≡ 1
+    by-last ih (yes e) = omega (arith, hit f a m (h m (omega arith) ∙ e), count-none f a m (λ x d. h x (omega arith)) (omega arith))
+    by-last ih (no e) = omega (arith, miss f a m (λ q. e (sym (h m (omega arith)) ∙ q)), ih (omega arith))
 
 -- g takes to win what f takes to lose, and else what f takes there
 pub record Merged (f g : ℕ → ℕ) (win lose m : ℕ) : Type 0 where
@@ -70,20 +60,20 @@ module _ (f g : ℕ → ℕ) (win lose : ℕ) (apart : win ≡ lose → ⊥) whe
 
   pub count-win : (m : ℕ) → Merged f g win lose m → count g win m ≡ count f win m + count f lose m
   count-win zero h = omega (arith, none f win, none f lose, none g win)
-  count-win (suc m) h = by-last (count-win m (less m h)) (same? (f m) lose) (same? (f m) win)
+  count-win (suc m) h = by-last (count-win m (less m h)) (ℕ-discrete (f m) lose) (ℕ-discrete (f m) win)
     where
-      by-last : count g win m ≡ count f win m + count f lose m → (f m ≡ lose) ⊎ (f m ≡ lose → ⊥) → (f m ≡ win) ⊎ (f m ≡ win → ⊥) → count g win (suc m) ≡ count f win (suc m) + count f lose (suc m)
-      by-last ih (inl p) (inl q) = absurd (apart (sym q ∙ p))
-      by-last ih (inl p) (inr q) = omega (arith, hit g win m (h .moved m (omega arith) p), hit f lose m p, miss f win m q)
-      by-last ih (inr p) (inl q) = omega (arith, hit g win m (h .left m (omega arith) p ∙ q), miss f lose m p, hit f win m q)
-      by-last ih (inr p) (inr q) = omega (arith, miss g win m (λ e. q (sym (h .left m (omega arith) p) ∙ e)), miss f lose m p, miss f win m q)
+      by-last : count g win m ≡ count f win m + count f lose m → Dec (f m ≡ lose) → Dec (f m ≡ win) → count g win (suc m) ≡ count f win (suc m) + count f lose (suc m)
+      by-last ih (yes p) (yes q) = absurd (apart (sym q ∙ p))
+      by-last ih (yes p) (no q) = omega (arith, hit g win m (h .moved m (omega arith) p), hit f lose m p, miss f win m q)
+      by-last ih (no p) (yes q) = omega (arith, hit g win m (h .left m (omega arith) p ∙ q), miss f lose m p, hit f win m q)
+      by-last ih (no p) (no q) = omega (arith, miss g win m (λ e. q (sym (h .left m (omega arith) p) ∙ e)), miss f lose m p, miss f win m q)
 
   pub count-rest : (c m : ℕ) → (c ≡ win → ⊥) → (c ≡ lose → ⊥) → Merged f g win lose m → count g c m ≡ count f c m
   count-rest c zero u v h = none g c ∙ sym (none f c)
-  count-rest c (suc m) u v h = by-last (count-rest c m u v (less m h)) (same? (f m) lose) (same? (f m) c)
+  count-rest c (suc m) u v h = by-last (count-rest c m u v (less m h)) (ℕ-discrete (f m) lose) (ℕ-discrete (f m) c)
     where
-      by-last : count g c m ≡ count f c m → (f m ≡ lose) ⊎ (f m ≡ lose → ⊥) → (f m ≡ c) ⊎ (f m ≡ c → ⊥) → count g c (suc m) ≡ count f c (suc m)
-      by-last ih (inl p) (inl q) = absurd (v (sym q ∙ p))
-      by-last ih (inl p) (inr q) = omega (arith, miss g c m (λ e. u (sym e ∙ h .moved m (omega arith) p)), miss f c m q)
-      by-last ih (inr p) (inl q) = omega (arith, hit g c m (h .left m (omega arith) p ∙ q), hit f c m q)
-      by-last ih (inr p) (inr q) = omega (arith, miss g c m (λ e. q (sym (h .left m (omega arith) p) ∙ e)), miss f c m q)
+      by-last : count g c m ≡ count f c m → Dec (f m ≡ lose) → Dec (f m ≡ c) → count g c (suc m) ≡ count f c (suc m)
+      by-last ih (yes p) (yes q) = absurd (v (sym q ∙ p))
+      by-last ih (yes p) (no q) = omega (arith, miss g c m (λ e. u (sym e ∙ h .moved m (omega arith) p)), miss f c m q)
+      by-last ih (no p) (yes q) = omega (arith, hit g c m (h .left m (omega arith) p ∙ q), hit f c m q)
+      by-last ih (no p) (no q) = omega (arith, miss g c m (λ e. q (sym (h .left m (omega arith) p) ∙ e)), miss f c m q)

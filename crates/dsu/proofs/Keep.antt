@@ -1,24 +1,24 @@
 -- On valid sets each element's way leads to its class; `find` keeps the sets valid and changes no class. Assumes nothing.
 use Prim.Native.Nat.{ℕ, zero, suc, _+_, _≤_, _<_}
 use mathlib.Core.Path.{_≡_, refl, sym, ap, subst, _∙_}
-use mathlib.Core.Logic.{_⊎_, inl, inr}
 use mathlib.Core.List.{List}
+use native.Mathlib.Decide.{ℕ-discrete}
 use native.Mathlib.Omega.{arith}
 use lib.ListN.{length, getD, set, length-set}
 use lib.Seq.{getD-set-same, getD-set-other}
 use Rattle.dsu.specs.Steps.{Met}
 use Rattle.dsu.specs.Laws.{classOf, count, Valid}
 use Rattle.dsu.proofs.Ways.{Higher}
-use Rattle.dsu.proofs.Count.{same?, count-cong}
+use Rattle.dsu.proofs.Count.{count-cong}
 use Rattle.dsu.proofs.Leads.{sets, Leads, here, above, after, leads-start, leads-end, leads-le, leads-lt, leads-class, pointed-leads}
 
 -- what holds of the element at y after a store at x, by whether y is x
 pub set-case : (P : ℕ → Type 0) (l : List ℕ) (x a y : ℕ) → x < length l → (y ≡ x → P a) → ((y ≡ x → ⊥) → P (getD l y 0)) → P (getD (set l x a) y 0)
-set-case P l x a y h f g = by-place (same? y x)
+set-case P l x a y h f g = by-place (ℕ-discrete y x)
   where
-    by-place : (y ≡ x) ⊎ (y ≡ x → ⊥) → P (getD (set l x a) y 0)
-    by-place (inl e) = subst P (sym (ap (λ (k : ℕ). getD (set l x a) k 0) e ∙ getD-set-same l x a 0 h)) (f e)
-    by-place (inr e) = subst P (sym (getD-set-other l x y a 0 e)) (g e)
+    by-place : Dec (y ≡ x) → P (getD (set l x a) y 0)
+    by-place (yes e) = subst P (sym (ap (λ (k : ℕ). getD (set l x a) k 0) e ∙ getD-set-same l x a 0 h)) (f e)
+    by-place (no e) = subst P (sym (getD-set-other l x y a 0 e)) (g e)
 
 module _ (l z : List ℕ) (n : ℕ) (v : Valid (sets l z n)) where
   pub met : (x : ℕ) → x < n → Met z n x
@@ -27,11 +27,11 @@ module _ (l z : List ℕ) (n : ℕ) (v : Valid (sets l z n)) where
   -- the first number bounds the steps
   leads-some : (k x : ℕ) → x < n → n < k + getD z x 0 → (a : ℕ) × Leads l z n x a
   leads-some zero x h b = absurd (omega (arith, v .fits x h))
-  leads-some (suc k) x h b = by-parent (λ c. leads-some k (getD l x 0) (v .inside x h) c) (same? (getD l x 0) x)
+  leads-some (suc k) x h b = by-parent (λ c. leads-some k (getD l x 0) (v .inside x h) c) (ℕ-discrete (getD l x 0) x)
     where
-      by-parent : (n < k + getD z (getD l x 0) 0 → (a : ℕ) × Leads l z n (getD l x 0) a) → (getD l x 0 ≡ x) ⊎ (getD l x 0 ≡ x → ⊥) → (a : ℕ) × Leads l z n x a
-      by-parent ih (inl e) = (x, here (met x h) e)
-      by-parent ih (inr e) =
+      by-parent : (n < k + getD z (getD l x 0) 0 → (a : ℕ) × Leads l z n (getD l x 0) a) → Dec (getD l x 0 ≡ x) → (a : ℕ) × Leads l z n x a
+      by-parent ih (yes e) = (x, here (met x h) e)
+      by-parent ih (no e) =
           let w = ih (omega (arith, v .grows x h e)) in
           (w .0, above (met x h) (record { apart = e; inside = v .inside x h; grows = v .grows x h e }) (w .1))
 

@@ -2,8 +2,8 @@
 use Prim.Native.Nat.{ℕ, zero, suc, _+_, _≤_, _<_}
 use mathlib.Core.Path.{_≡_, refl, sym, ap, subst, _∙_}
 use mathlib.Core.Bool.{Bool, true, false, cond}
-use mathlib.Core.Logic.{_⊎_, inl, inr}
 use mathlib.Core.List.{List, [], _∷_, _++_}
+use native.Mathlib.Decide.{ℕ-discrete}
 use native.Mathlib.Omega.{arith}
 use lib.Dec.{ltb}
 use lib.ListN.{length, getD, replicate, length-append, length-replicate, getD-replicate, List·getD-append}
@@ -17,7 +17,7 @@ use Rattle.dsu.specs.Sets.{Way, reached, way, changed, findOf, under, jo
 use Rattle.dsu.specs.Steps.{Met}
 use Rattle.dsu.specs.Classes.{Classes, Joined, before}
 use Rattle.dsu.specs.Laws.{classOf, Same, Valid, NewLaw, FindLaw, UnionLaw}
-use Rattle.dsu.proofs.Count.{same?, count-one, Merged}
+use Rattle.dsu.proofs.Count.{count-one, Merged}
 use Rattle.dsu.proofs.Classes.{classes-moved, classes-alone, Joins, turned, merged-joins, classes-fewer}
 use Rattle.dsu.proofs.Leads.{sets, Leads, here, after, leads-end, leads-way, leads-find, leads-class}
 use Rattle.dsu.proofs.Keep.{leads-to-class, Kept, leads-kept}
@@ -33,11 +33,11 @@ upTo-long (suc k) = length-append (upTo k) (k ∷ []) ∙ omega (arith, upTo-lon
 upTo-at : (k i : ℕ) → i < k → getD (upTo k) i 0 ≡ i
 unfolding upTo
 upTo-at zero i h = absurd (omega arith)
-upTo-at (suc k) i h = by-place (λ c. upTo-at k i c) (same? i k)
+upTo-at (suc k) i h = by-place (λ c. upTo-at k i c) (ℕ-discrete i k)
   where
-    by-place : (i < k → getD (upTo k) i 0 ≡ i) → (i ≡ k) ⊎ (i ≡ k → ⊥) → getD (upTo k ++ k ∷ []) i 0 ≡ i
-    by-place ih (inl e) = getD-at (upTo k) k [] 0 i (upTo-long k ∙ sym e) ∙ sym e
-    by-place ih (inr e) = List·getD-append (upTo k) (k ∷ []) 0 i (omega (arith, upTo-long k)) ∙ ih (omega arith)
+    by-place : (i < k → getD (upTo k) i 0 ≡ i) → Dec (i ≡ k) → getD (upTo k ++ k ∷ []) i 0 ≡ i
+    by-place ih (yes e) = getD-at (upTo k) k [] 0 i (upTo-long k ∙ sym e) ∙ sym e
+    by-place ih (no e) = List·getD-append (upTo k) (k ∷ []) 0 i (omega (arith, upTo-long k)) ∙ ih (omega arith)
 
 module _ (k n : ℕ) (few : n ≤ 512) (in-k : n ≤ k) where
   abbrev begun : DSU
@@ -153,15 +153,15 @@ module _ (d : DSU) (m : List ℕ) (v : Valid (sets m (d .size) (d .n))) (same : 
 
     join-law : Met (d .size) (d .n) a × (getD m a 0 ≡ a) → Met (d .size) (d .n) b × (getD m b 0 ≡ b) → UnionLaw d x y (join d m a b)
     unfolding join
-    join-law ra rb = by-same (same? a b)
+    join-law ra rb = by-same (ℕ-discrete a b)
       where
         by-size : Apart m (d .n) a b → (t : Bool) → ltb (getD (d .size) a 0) (getD (d .size) b 0) ≡ t → UnionLaw d x y (cond t (under d m b a) (under d m a b))
         by-size r true e = second-law (record { a-in = r .b-in; b-in = r .a-in; a-root = r .b-root; b-root = r .a-root; apart = λ q. r .apart (sym q) })
         by-size r false e = first-law r
 
-        by-same : (a ≡ b) ⊎ (a ≡ b → ⊥) → UnionLaw d x y (join d m a b)
-        by-same (inl e) = rw (eq-eqb a b e) (same-law d x y x-in y-in (sets m (d .size) (d .n)) refl v e same)
-        by-same (inr h) =
+        by-same : Dec (a ≡ b) → UnionLaw d x y (join d m a b)
+        by-same (yes e) = rw (eq-eqb a b e) (same-law d x y x-in y-in (sets m (d .size) (d .n)) refl v e same)
+        by-same (no h) =
             let r : Apart m (d .n) a b = record { a-in = ra .0 .inside; b-in = rb .0 .inside; a-root = ra .1; b-root = rb .1; apart = h } in
             rw (ne-eqb a b h, le-ltb (d .n) (getD (d .size) a 0 + getD (d .size) b 0) (two-fit m (d .size) (d .n) v a b r)) (by-size r (ltb (getD (d .size) a 0) (getD (d .size) b 0)) refl)
 

@@ -2,8 +2,8 @@
 -- representative changes no way's end. Assumes nothing.
 use Prim.Native.Nat.{ℕ, _+_, _≤_, _<_}
 use mathlib.Core.Path.{_≡_, refl, sym, ap, subst, _∙_}
-use mathlib.Core.Logic.{_⊎_, inl, inr}
 use mathlib.Core.List.{List}
+use native.Mathlib.Decide.{ℕ-discrete}
 use native.Mathlib.Omega.{arith}
 use lib.ListN.{length, getD, set}
 use lib.Seq.{getD-set-same, getD-set-other}
@@ -15,7 +15,6 @@ use Rattle.dsu.specs.Sets.{Way, reached, point, way, changed, foundBy, f
 use Rattle.dsu.specs.Steps.{Met}
 use Rattle.dsu.specs.Laws.{rootOf, classOf}
 use Rattle.dsu.proofs.Ways.{seen-top, seen-up, way-top, way-up, Higher}
-use Rattle.dsu.proofs.Count.{same?}
 
 abbrev pub sets : List ℕ → List ℕ → ℕ → DSU
 sets l z n = record { repr = l; size = z; n = n }
@@ -79,12 +78,12 @@ module _ (l z : List ℕ) (n x a : ℕ) (long : n ≤ length l) (t : Leads l z n
 
   pub pointed-leads : {y b : ℕ} → Leads l z n y b → Leads (set l x a) z n y b
   pointed-leads (here {x = y} m e) = here m (getD-set-other l x y a 0 (λ q. apart (leads-one t (subst (λ (k : ℕ). Leads l z n k k) q (here m e)))) ∙ e)
-  pointed-leads (above {x = y} {a = b} m h s) = by-place (pointed-leads s) (same? y x)
+  pointed-leads (above {x = y} {a = b} m h s) = by-place (pointed-leads s) (ℕ-discrete y x)
     where
-      by-place : Leads (set l x a) z n (getD l y 0) b → (y ≡ x) ⊎ (y ≡ x → ⊥) → Leads (set l x a) z n y b
-      by-place ih (inl e) =
+      by-place : Leads (set l x a) z n (getD l y 0) b → Dec (y ≡ x) → Leads (set l x a) z n y b
+      by-place ih (yes e) =
           let q : a ≡ b = leads-one t (subst (λ (k : ℕ). Leads l z n k b) e (above m h s)) in
           subst (λ (k : ℕ). Leads (set l x a) z n y k) q (subst (λ (k : ℕ). Leads (set l x a) z n k a) (sym e) x-leads)
-      by-place ih (inr e) =
+      by-place ih (no e) =
           let p : getD (set l x a) y 0 ≡ getD l y 0 = getD-set-other l x y a 0 e in
           above {a = b} m (record { apart = λ q. h .apart (sym p ∙ q); inside = rw p (h .inside); grows = rw p (h .grows) }) (rw p ih)

@@ -2,15 +2,15 @@
 -- nothing else changes. Assumes nothing.
 use Prim.Native.Nat.{ℕ, _+_, _≤_, _<_}
 use mathlib.Core.Path.{_≡_, refl, sym, ap, subst, _∙_}
-use mathlib.Core.Logic.{_⊎_, inl, inr}
 use mathlib.Core.List.{List}
+use native.Mathlib.Decide.{ℕ-discrete}
 use native.Mathlib.Omega.{arith}
 use lib.ListN.{length, getD, set, length-set}
 use lib.Seq.{getD-set-same, getD-set-other}
 use Rattle.dsu.specs.Steps.{Met}
 use Rattle.dsu.specs.Laws.{classOf, count, Valid}
 use Rattle.dsu.proofs.Ways.{Higher}
-use Rattle.dsu.proofs.Count.{same?, count-two, Merged, count-win, count-rest}
+use Rattle.dsu.proofs.Count.{count-two, Merged, count-win, count-rest}
 use Rattle.dsu.proofs.Leads.{sets, Leads, here, above, leads-class}
 use Rattle.dsu.proofs.Keep.{set-case, leads-to-class}
 
@@ -89,12 +89,12 @@ module _ (l z : List ℕ) (n : ℕ) (v : Valid (sets l z n)) (a b : ℕ) (r : Ap
   }
 
   counted-root : (y : ℕ) → y < n → (y ≡ b → ⊥) → getD l y 0 ≡ y → getD sized y 0 ≡ count (classOf (sets parents sized n)) y n
-  counted-root y h not-b e = by-place (same? y a)
+  counted-root y h not-b e = by-place (ℕ-discrete y a)
     where
-      by-place : (y ≡ a) ⊎ (y ≡ a → ⊥) → getD sized y 0 ≡ count (classOf (sets parents sized n)) y n
-      by-place (inl q) = subst (λ (k : ℕ). getD sized k 0 ≡ count (classOf (sets parents sized n)) k n) (sym q)
+      by-place : Dec (y ≡ a) → getD sized y 0 ≡ count (classOf (sets parents sized n)) y n
+      by-place (yes q) = subst (λ (k : ℕ). getD sized k 0 ≡ count (classOf (sets parents sized n)) k n) (sym q)
           (omega (arith, getD-set-same z a joint 0 a-long, v .counted a (r .a-in) (r .a-root), v .counted b (r .b-in) (r .b-root), count-win (classOf (sets l z n)) (classOf (sets parents sized n)) a b (r .apart) n merged-class))
-      by-place (inr q) = other y q ∙ v .counted y h e ∙ sym (count-rest (classOf (sets l z n)) (classOf (sets parents sized n)) a b (r .apart) y n q not-b merged-class)
+      by-place (no q) = other y q ∙ v .counted y h e ∙ sym (count-rest (classOf (sets l z n)) (classOf (sets parents sized n)) a b (r .apart) y n q not-b merged-class)
 
   pub merged-valid : Valid (sets parents sized n)
   merged-valid = record {
