@@ -1,10 +1,8 @@
 -- What `put_under`, `join_roots` and `union` return, at each return, and what they ask of the roots. Assumes nothing.
-use Prim.Native.Nat.{ℕ, zero, suc, _+_, _≤_, _<_}
-use mathlib.Core.Path.{_≡_, refl, sym, ap, subst, _∙_}
-use mathlib.Core.Bool.{Bool, true, false, cond}
+use Prim.Native.Nat.{ℕ, _+_, _≤_, _<_}
+use mathlib.Core.Path.{_≡_, refl, sym, ap, _∙_}
 use mathlib.Core.List.{List}
 use native.Mathlib.Omega.{arith}
-use lib.Dec.{leb, ltb, eqb}
 use lib.ListN.{getD, set}
 use mir.Syntax.{w32, w64}
 use mir.Val.{Fits}
@@ -17,9 +15,9 @@ use Rattle.dsu.specs.declared.Found.{Found}
 use Rattle.dsu.specs.declared.Found.the-variants.{Root, Refused}
 use Rattle.dsu.specs.declared.Outcome.the-variants.{Done}
 use Rattle.dsu.specs.declared.Answer.{Answer}
-use Rattle.dsu.specs.Sets.{Seen, top, up, fault, seen, Way, broken, reached, point, onward, walk, way, changed, refuse, under, join, joinSecond, joinFirst, unionOf}
-use Rattle.dsu.specs.Steps.{Met, Roots, climbed, answered}
-use Rattle.dsu.proofs.Ways.{at-top, at-up}
+use Rattle.dsu.specs.Sets.{Way, broken, reached, way, changed, refuse, under, join, joinSecond, joinFirst, unionOf}
+use Rattle.dsu.specs.Steps.{Roots, climbed, answered}
+use Rattle.dsu.proofs.Leads.{leads-end, way-leads}
 
 -- i and j are the roots as indices
 module _ (d : DSU) (a b : ℕ) (r : Roots (d .size) (d .n) a b) (i j : ℕ) (is-i : i ≡ a) (is-j : j ≡ b) where
@@ -62,30 +60,6 @@ module _ (d : DSU) (l : List ℕ) (a b : ℕ) (i j : ℕ) (is-i : i ≡ a) (is-j
       pub join-first : getD (d .size) j 0 ≤ getD (d .size) i 0 → r ≡ under d l a b → r ≡ join d l a b
       unfolding join
       join-first h e = rw (ne-eqb a b apart, le-ltb (d .n) (getD (d .size) a 0 + getD (d .size) b 0) (omega (arith, sum)), le-ltb (getD (d .size) a 0) (getD (d .size) b 0) (rw (is-i, is-j) at h)) e
-
--- the representative at the end of a way is an element with a size as it should be
-abbrev Ends : List ℕ → ℕ → Way → Type 0
-Ends z n broken = Unit
-Ends z n (reached a l) = Met z n a
-
-module _ (l z : List ℕ) (n : ℕ) where
-  point-ends : (x : ℕ) (w : Way) → Ends z n w → Ends z n (point x w)
-  point-ends x broken h = tt
-  point-ends x (reached a m) h = h
-
-  walk-ends : (k x : ℕ) → x < n → Ends z n (walk k l z n x)
-  unfolding walk
-  walk-ends zero x i = tt
-  walk-ends (suc k) x i = by-seen (λ h. walk-ends k (getD l x 0) h) (seen l z n x) refl
-    where
-      by-seen : (getD l x 0 < n → Ends z n (walk k l z n (getD l x 0))) → (s : Seen) → seen l z n x ≡ s → Ends z n (onward x l s (walk k l z n (getD l x 0)))
-      by-seen ih top e = at-top l z n x i e
-      by-seen ih up e = point-ends x (walk k l z n (getD l x 0)) (ih (at-up l z n x e .inside))
-      by-seen ih fault e = tt
-
-  way-ends : (x a : ℕ) (m : List ℕ) → x < n → way l z n x ≡ reached a m → Met z n a
-  unfolding way
-  way-ends x a m i e = subst (Ends z n) e (walk-ends (suc n) x i)
 
 -- the way, from what `find_from` answered
 module _ (l z : List ℕ) (n x : ℕ) (inside : x < n) (f : Found) (m : List ℕ) (is-f : _≡_ {A = Found × List ℕ} (f, m) (answered l z n x)) where
@@ -136,8 +110,8 @@ module _ (d : DSU) (x y : ℕ) where
         module _ (b : ℕ) (is-b : g ≡ Root b) where
           pub union-roots : Roots (d .size) (d .n) a b
           union-roots =
-              let p = way-ends (d .repr) (d .size) (d .n) x a l x-in (way-root (d .repr) (d .size) (d .n) x x-in f l is-f a is-a) in
-              let q = way-ends l (d .size) (d .n) y b m y-in (way-root l (d .size) (d .n) y y-in g m is-g b is-b) in
+              let p = leads-end (way-leads (d .repr) (d .size) (d .n) x a l x-in (way-root (d .repr) (d .size) (d .n) x x-in f l is-f a is-a)) .0 in
+              let q = leads-end (way-leads l (d .size) (d .n) y b m y-in (way-root l (d .size) (d .n) y y-in g m is-g b is-b)) .0 in
               record { few = p .few; first-inside = p .inside; second-inside = q .inside; first-fits = p .fits; second-fits = q .fits }
 
           pub union-joined : (r : Answer) → r ≡ join d m a b → r ≡ unionOf d x y

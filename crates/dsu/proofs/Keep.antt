@@ -1,6 +1,6 @@
 -- On valid sets each element's way leads to its class; `find` keeps the sets valid and changes no class. Assumes nothing.
-use Prim.Native.Nat.{ℕ, zero, suc, _+_, _≤_, _<_}
-use mathlib.Core.Path.{_≡_, refl, sym, ap, subst, _∙_}
+use Prim.Native.Nat.{ℕ, zero, suc, _+_, _<_}
+use mathlib.Core.Path.{_≡_, sym, ap, subst, _∙_}
 use mathlib.Core.List.{List}
 use native.Mathlib.Decide.{ℕ-discrete}
 use native.Mathlib.Omega.{arith}
@@ -8,9 +8,8 @@ use lib.ListN.{length, getD, set, length-set}
 use lib.Seq.{getD-set-same, getD-set-other}
 use Rattle.dsu.specs.Steps.{Met}
 use Rattle.dsu.specs.Laws.{classOf, count, Valid}
-use Rattle.dsu.proofs.Ways.{Higher}
 use Rattle.dsu.proofs.Count.{count-cong}
-use Rattle.dsu.proofs.Leads.{sets, Leads, here, above, after, leads-start, leads-end, leads-le, leads-lt, leads-class, pointed-leads}
+use Rattle.dsu.proofs.Leads.{sets, Leads, here, above, after, leads-start, leads-end, leads-lt, leads-class, pointed-leads, end-apart, after-leads}
 
 -- what holds of the element at y after a store at x, by whether y is x
 pub set-case : (P : ℕ → Type 0) (l : List ℕ) (x a y : ℕ) → x < length l → (y ≡ x → P a) → ((y ≡ x → ⊥) → P (getD l y 0)) → P (getD (set l x a) y 0)
@@ -60,19 +59,11 @@ module _ (l z : List ℕ) (n : ℕ) (v : Valid (sets l z n)) where
       counted = λ y h. set-case (λ (k : ℕ). k ≡ y → getD z y 0 ≡ count (classOf (sets (set l x a) z n)) y n) l x a y x-in (λ e r. absurd (apart (r ∙ e))) (λ e r. v .counted y h r ∙ count-cong (classOf (sets l z n)) (classOf (sets (set l x a) z n)) y n same-class);
     }
 
--- what `find` leaves: valid sets, and each way's end
-pub record Kept (l z : List ℕ) (n : ℕ) (m : List ℕ) : Type 0 where
-  pub valid : Valid (sets m z n)
-  pub ways : (y b : ℕ) → Leads l z n y b → Leads m z n y b
-
-pub leads-kept : {l z : List ℕ} {n x a : ℕ} → Valid (sets l z n) → (t : Leads l z n x a) → Kept l z n (after t)
+-- what `find` leaves
+pub after-valid : {l z : List ℕ} {n x a : ℕ} → Valid (sets l z n) → (t : Leads l z n x a) → Valid (sets (after t) z n)
 unfolding after
-leads-kept v (here m e) = record { valid = v; ways = λ y b t. t }
-leads-kept {l} {z} {n} v (above {x = x} {a = a} m h t) =
-    let k = leads-kept v t in
-    let s : Leads (after t) z n x a = k .ways x a (above m h t) in
-    let apart : (a ≡ x → ⊥) = λ e. omega (arith, h .grows, leads-le t, ap (λ (i : ℕ). getD z i 0) e) in
-    record {
-      valid = pointed-valid (after t) z n (k .valid) x a s apart;
-      ways = λ y b w. pointed-leads (after t) z n x a (k .valid .long-repr) s apart (k .ways y b w);
-    }
+after-valid v (here m e) = v
+after-valid {l} {z} {n} v (above {x = x} {a = a} m h t) = pointed-valid (after t) z n (after-valid v t) x a (after-leads (v .long-repr) t (above m h t)) (end-apart h t)
+
+pub after-class : {l z : List ℕ} {n x a : ℕ} → Valid (sets l z n) → (t : Leads l z n x a) (y : ℕ) → y < n → classOf (sets (after t) z n) y ≡ classOf (sets l z n) y
+after-class {l} {z} {n} v t y h = leads-class (after-leads (v .long-repr) t (leads-to-class l z n v y h))

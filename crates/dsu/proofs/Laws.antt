@@ -1,6 +1,6 @@
 -- The laws of join sets: those who build on them cite these, with a function's contract as the premise. Assumes nothing.
 use Prim.Native.Nat.{ℕ, zero, suc, _+_, _≤_, _<_}
-use mathlib.Core.Path.{_≡_, refl, sym, ap, subst, _∙_}
+use mathlib.Core.Path.{_≡_, refl, sym, subst, _∙_}
 use mathlib.Core.Bool.{Bool, true, false, cond}
 use mathlib.Core.List.{List, [], _∷_, _++_}
 use native.Mathlib.Decide.{ℕ-discrete}
@@ -8,19 +8,19 @@ use native.Mathlib.Omega.{arith}
 use lib.Dec.{ltb}
 use lib.ListN.{length, getD, replicate, length-append, length-replicate, getD-replicate, List·getD-append}
 use lib.Seq.{getD-at}
-use borrow.Author.Tests.{lt-leb, le-ltb, ltb-true, ltb-false, eq-eqb, ne-eqb, lt-ltb}
+use borrow.Author.Tests.{lt-leb, le-ltb, eq-eqb, ne-eqb}
 use Rattle.dsu.specs.declared.DSU.{DSU}
 use Rattle.dsu.specs.declared.FindAnswer.{FindAnswer}
 use Rattle.dsu.specs.declared.Outcome.the-variants.{Done}
 use Rattle.dsu.specs.declared.Answer.{Answer}
-use Rattle.dsu.specs.Sets.{Way, reached, way, changed, findOf, under, join, joinSecond, joinFirst, unionOf, upTo, fresh, newOf}
+use Rattle.dsu.specs.Sets.{findOf, under, join, unionOf, upTo, fresh, newOf}
 use Rattle.dsu.specs.Steps.{Met}
-use Rattle.dsu.specs.Classes.{Classes, Joined, before}
+use Rattle.dsu.specs.Classes.{before}
 use Rattle.dsu.specs.Laws.{classOf, Same, Valid, NewLaw, FindLaw, UnionLaw}
-use Rattle.dsu.proofs.Count.{count-one, Merged}
+use Rattle.dsu.proofs.Count.{count-one}
 use Rattle.dsu.proofs.Classes.{classes-moved, classes-alone, Joins, turned, merged-joins, classes-fewer}
 use Rattle.dsu.proofs.Leads.{sets, Leads, here, after, leads-end, leads-way, leads-find, leads-class}
-use Rattle.dsu.proofs.Keep.{leads-to-class, Kept, leads-kept}
+use Rattle.dsu.proofs.Keep.{leads-to-class, after-valid, after-class}
 use Rattle.dsu.proofs.Merge.{Apart, two-fit, merged-class, merged-valid}
 
 -- new
@@ -76,21 +76,17 @@ new-law n r e h = subst (NewLaw n) (sym (e ∙ rw (le-ltb 512 n h))) (record {
 
 -- find
 
-kept-class : (l z : List ℕ) (n : ℕ) (v : Valid (sets l z n)) (m : List ℕ) → Kept l z n m → (y : ℕ) → y < n → classOf (sets m z n) y ≡ classOf (sets l z n) y
-kept-class l z n v m k y h = leads-class (k .ways y (classOf (sets l z n) y) (leads-to-class l z n v y h))
-
 pub find-law : (d : DSU) (x : ℕ) (r : FindAnswer) → r ≡ findOf d x → Valid d → x < d .n → FindLaw d x r
 find-law d x r e v h =
     let t = leads-to-class (d .repr) (d .size) (d .n) v x h in
     let end = leads-end t in
-    let k = leads-kept v t in
     subst (FindLaw d x) (sym (e ∙ leads-find t)) (record {
       found = refl;
       inside = end .0 .inside;
       member = sym (leads-class (here (end .0) (end .1)));
       is-n = refl;
-      valid = k .valid;
-      kept = kept-class (d .repr) (d .size) (d .n) v (after t) k;
+      valid = after-valid v t;
+      kept = after-class v t;
     })
 
 -- union
@@ -171,11 +167,11 @@ union-law d x y r e v x-in y-in =
     let z = d .size in
     let n = d .n in
     let s = leads-to-class (d .repr) z n v x x-in in
-    let k = leads-kept v s in
-    let same₁ = kept-class (d .repr) z n v (after s) k in
-    let t = subst (λ (b : ℕ). Leads (after s) z n y b) (same₁ y y-in) (leads-to-class (after s) z n (k .valid) y y-in) in
-    let k′ = leads-kept (k .valid) t in
-    let same₂ = kept-class (after s) z n (k .valid) (after t) k′ in
-    let way-end : (w : ℕ) → w < n → Met z n (classOf d w) × (getD (after t) (classOf d w) 0 ≡ classOf d w) = λ w h. leads-end (k′ .ways w (classOf d w) (k .ways w (classOf d w) (leads-to-class (d .repr) z n v w h))) in
+    let v₁ = after-valid v s in
+    let same₁ = after-class v s in
+    let t = subst (λ (b : ℕ). Leads (after s) z n y b) (same₁ y y-in) (leads-to-class (after s) z n v₁ y y-in) in
+    let v₂ = after-valid v₁ t in
+    let same₂ : (w : ℕ) → w < n → classOf (sets (after t) z n) w ≡ classOf d w = λ w h. after-class v₁ t w h ∙ same₁ w h in
+    let end : (w : ℕ) → w < n → Met z n (classOf d w) × (getD (after t) (classOf d w) 0 ≡ classOf d w) = λ w h. leads-end (subst (Leads (after t) z n w) (same₂ w h) (leads-to-class (after t) z n v₂ w h)) in
     let is : r ≡ join d (after t) (classOf d x) (classOf d y) = e ∙ rw (lt-leb n x x-in, lt-leb n y y-in, leads-way s, leads-way t) in
-    subst (UnionLaw d x y) (sym is) (join-law d (after t) (k′ .valid) (λ w h. same₂ w h ∙ same₁ w h) x y x-in y-in (way-end x x-in) (way-end y y-in))
+    subst (UnionLaw d x y) (sym is) (join-law d (after t) v₂ same₂ x y x-in y-in (end x x-in) (end y y-in))

@@ -9,3 +9,4 @@ pub mod Keep
 pub mod Merge
 pub mod Classes
 pub mod Laws
+pub mod Refusals

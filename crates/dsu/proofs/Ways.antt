@@ -1,18 +1,14 @@
 -- The way from an element by what is seen there, and the answers of `find_in` and `find_from` at each return. Assumes nothing.
 use Prim.Native.Nat.{ℕ, zero, suc, _+_, _≤_, _<_}
-use mathlib.Core.Path.{_≡_, refl, sym, ap, subst, _∙_}
+use mathlib.Core.Path.{_≡_, refl, sym, ap, _∙_}
 use mathlib.Core.Bool.{Bool, true, false, cond}
 use mathlib.Core.List.{List}
 use native.Mathlib.Omega.{arith}
 use lib.Dec.{leb, ltb, eqb}
-use lib.ListN.{getD, set}
+use lib.ListN.{getD}
 use borrow.Author.Tests.{lt-ltb, le-ltb, le-leb, lt-leb, eq-eqb, ne-eqb, ltb-false, leb-false, eqb-true, eqb-false}
-use Rattle.refusal.specs.declared.StateRefusal.{StateRefusal}
-use Rattle.refusal.specs.declared.StateRefusal.the-variants.{Element, JoinSets}
-use Rattle.dsu.specs.declared.Found.{Found}
-use Rattle.dsu.specs.declared.Found.the-variants.{Root, Refused}
-use Rattle.dsu.specs.Sets.{Seen, top, up, fault, seen, Way, broken, reached, point, onward, walk, way}
-use Rattle.dsu.specs.Steps.{Met, climbed, answered}
+use Rattle.dsu.specs.Sets.{Seen, top, up, fault, seen, broken, reached, point, onward, walk, way}
+use Rattle.dsu.specs.Steps.{Met}
 
 cond-same : {A : Type 0} (b : Bool) (a : A) → cond b a a ≡ a
 cond-same true a = refl
@@ -64,10 +60,10 @@ pub record Higher (l z : List ℕ) (n x : ℕ) : Type 0 where
 top-up : top ≡ up → ⊥
 top-up e = let q : _≡_ {A = ℕ} 0 1 = cc in omega arith
 
-fault-top : fault ≡ top → ⊥
+pub fault-top : fault ≡ top → ⊥
 fault-top e = let q : _≡_ {A = ℕ} 0 1 = cc in omega arith
 
-fault-up : fault ≡ up → ⊥
+pub fault-up : fault ≡ up → ⊥
 fault-up e = let q : _≡_ {A = ℕ} 0 1 = cc in omega arith
 
 module _ (l z : List ℕ) (n x : ℕ) where
@@ -91,11 +87,21 @@ module _ (l z : List ℕ) (n x : ℕ) where
       let q₃ = cond-else (leb (getD z (getD l x 0) 0) (getD z x 0)) fault up up fault-up (q₂ .1) in
       record { apart = eqb-false (getD l x 0) x (q₁ .0); inside = leb-false n (getD l x 0) (q₂ .0); grows = leb-false (getD z (getD l x 0) 0) (getD z x 0) (q₃ .0) }
 
-  pub at-top : x < n → seen l z n x ≡ top → Met z n x
-  at-top i e = no-fault top fault-top e .0 i
+  own : rest ≡ top → getD l x 0 ≡ x
+  unfolding rest
+  own e = by-test (eqb (getD l x 0) x) refl e
+    where
+      by-test : (b : Bool) → eqb (getD l x 0) x ≡ b → cond b top (cond (leb n (getD l x 0)) fault (cond (leb (getD z (getD l x 0) 0) (getD z x 0)) fault up)) ≡ top → getD l x 0 ≡ x
+      by-test true t e = eqb-true (getD l x 0) x t
+      by-test false t e =
+          let q = cond-else (leb n (getD l x 0)) fault _ top fault-top e in
+          absurd (top-up (sym (cond-else (leb (getD z (getD l x 0) 0) (getD z x 0)) fault up top fault-top (q .1) .1)))
 
-  pub at-up : seen l z n x ≡ up → Higher l z n x
-  at-up e = higher (no-fault up fault-up e .1)
+  pub at-top : x < n → seen l z n x ≡ top → Met z n x × (getD l x 0 ≡ x)
+  at-top i e = let q = no-fault top fault-top e in (q .0 i, own (q .1))
+
+  pub at-up : seen l z n x ≡ up → (x < n → Met z n x) × Higher l z n x
+  at-up e = let q = no-fault up fault-up e in (q .0, higher (q .1))
 
 -- the steps of a way
 module _ (l z : List ℕ) (n : ℕ) where
@@ -117,7 +123,7 @@ module _ (l z : List ℕ) (n : ℕ) where
       by-seen : (n < j + getD z p 0 → n < k + getD z p 0 → walk j l z n p ≡ walk k l z n p) → (s : Seen) → seen l z n x ≡ s → onward x l s (walk j l z n p) ≡ onward x l s (walk k l z n p)
       by-seen ih top e = refl
       by-seen ih fault e = refl
-      by-seen ih up e = let h = at-up l z n x e in ap (point x) (ih (omega (arith, h .grows)) (omega (arith, h .grows)))
+      by-seen ih up e = let h = at-up l z n x e .1 in ap (point x) (ih (omega (arith, h .grows)) (omega (arith, h .grows)))
 
 module _ (l z : List ℕ) (n x : ℕ) where
   pub way-fault : seen l z n x ≡ fault → way l z n x ≡ broken
@@ -131,5 +137,5 @@ module _ (l z : List ℕ) (n x : ℕ) where
   pub way-up : seen l z n x ≡ up → way l z n x ≡ point x (way l z n (getD l x 0))
   unfolding way
   way-up e =
-      let h = at-up l z n x e in
+      let h = at-up l z n x e .1 in
       step l z n n x e ∙ ap (point x) (same-walk l z n n (suc n) (getD l x 0) (omega (arith, h .grows)) (omega (arith, h .grows)))

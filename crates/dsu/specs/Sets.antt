@@ -8,11 +8,9 @@ use lib.ListN.{getD, set, replicate}
 use Rattle.refusal.specs.declared.StateRefusal.{StateRefusal}
 use Rattle.refusal.specs.declared.StateRefusal.the-variants.{Element, JoinSets}
 use Rattle.dsu.specs.declared.DSU.{DSU}
-use Rattle.dsu.specs.declared.Found.{Found}
 use Rattle.dsu.specs.declared.Found.the-variants.{Root}
 use Rattle.dsu.specs.declared.Found.the-variants as found
 use Rattle.dsu.specs.declared.FindAnswer.{FindAnswer}
-use Rattle.dsu.specs.declared.Outcome.{Outcome}
 use Rattle.dsu.specs.declared.Outcome.the-variants.{Done}
 use Rattle.dsu.specs.declared.Outcome.the-variants as outcome
 use Rattle.dsu.specs.declared.Answer.{Answer}

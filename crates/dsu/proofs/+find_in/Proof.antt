@@ -1,3 +1,4 @@
+-- `find_in` meets its contract; n less the size of x's class falls at each call. Assumes nothing.
 use Prim.Native.Nat.{ℕ, _<_, _-_}
 use native.Mathlib.Omega.{arith}
 use lib.ListN.{getD}
@@ -20,7 +21,6 @@ find-in-at t = and 2 find-in-kinds.ps (is 2 find-in-kinds.ps μ-find-in t) find-
 abbrev find-in-below : ℕ → In 2 find-in-kinds.ps
 find-in-below t = and 2 find-in-kinds.ps (falls 2 find-in-kinds.ps _<_ μ-find-in t) find-in.Pre
 
--- src/lib.rt:51:18
 find-in-mul-parent : (t : ℕ) → find-in-lts.Need-mul-parent (
   wide-reads.Asked,
   wide-reads.Learnt,
@@ -29,7 +29,6 @@ find-in-mul-parent : (t : ℕ) → find-in-lts.Need-mul-parent (
 ) (find-in-at t) find-in.Post
 find-in-mul-parent t c = search finding
 
--- src/lib.rt:51:18
 find-in-element-copy-out-parent : (t : ℕ) → find-in-lts.Need-element-copy-out-parent (
   wide-reads.Asked,
   wide-reads.Learnt,
@@ -38,7 +37,6 @@ find-in-element-copy-out-parent : (t : ℕ) → find-in-lts.Need-element-copy-ou
 ) (find-in-at t) find-in.Post
 find-in-element-copy-out-parent t c = search finding
 
--- src/lib.rt:52:9
 find-in-wide-requires : (t : ℕ) → find-in-lts.Need-wide-requires (
   wide-reads.Asked,
   wide-reads.Learnt,
@@ -47,7 +45,6 @@ find-in-wide-requires : (t : ℕ) → find-in-lts.Need-wide-requires (
 ) (find-in-at t) find-in.Post
 find-in-wide-requires t c κs = search finding
 
--- src/lib.rt:54:9
 find-in-returns : (t : ℕ) → find-in-lts.Need-returns (
   wide-reads.Asked,
   wide-reads.Learnt,
@@ -56,7 +53,6 @@ find-in-returns : (t : ℕ) → find-in-lts.Need-returns (
 ) (find-in-at t) find-in.Post
 find-in-returns t c = search finding
 
--- src/lib.rt:57:9
 find-in-returns-2 : (t : ℕ) → find-in-lts.Need-returns-2 (
   wide-reads.Asked,
   wide-reads.Learnt,
@@ -65,7 +61,6 @@ find-in-returns-2 : (t : ℕ) → find-in-lts.Need-returns-2 (
 ) (find-in-at t) find-in.Post
 find-in-returns-2 t c = search finding
 
--- src/lib.rt:59:15
 find-in-mul-own : (t : ℕ) → find-in-lts.Need-mul-own (
   wide-reads.Asked,
   wide-reads.Learnt,
@@ -74,7 +69,6 @@ find-in-mul-own : (t : ℕ) → find-in-lts.Need-mul-own (
 ) (find-in-at t) find-in.Post
 find-in-mul-own t c = search finding
 
--- src/lib.rt:59:15
 find-in-element-copy-out-own : (t : ℕ) → find-in-lts.Need-element-copy-out-own (
   wide-reads.Asked,
   wide-reads.Learnt,
@@ -83,7 +77,6 @@ find-in-element-copy-out-own : (t : ℕ) → find-in-lts.Need-element-copy-out-o
 ) (find-in-at t) find-in.Post
 find-in-element-copy-out-own t c = search finding
 
--- src/lib.rt:60:17
 find-in-mul-above : (t : ℕ) → find-in-lts.Need-mul-above (
   wide-reads.Asked,
   wide-reads.Learnt,
@@ -92,7 +85,6 @@ find-in-mul-above : (t : ℕ) → find-in-lts.Need-mul-above (
 ) (find-in-at t) find-in.Post
 find-in-mul-above t c = search finding
 
--- src/lib.rt:60:17
 find-in-element-copy-out-above : (t : ℕ) → find-in-lts.Need-element-copy-out-above (
   wide-reads.Asked,
   wide-reads.Learnt,
@@ -101,7 +93,6 @@ find-in-element-copy-out-above : (t : ℕ) → find-in-lts.Need-element-copy-out
 ) (find-in-at t) find-in.Post
 find-in-element-copy-out-above t c = search finding
 
--- src/lib.rt:62:9
 find-in-returns-3 : (t : ℕ) → find-in-lts.Need-returns-3 (
   wide-reads.Asked,
   wide-reads.Learnt,
@@ -110,7 +101,6 @@ find-in-returns-3 : (t : ℕ) → find-in-lts.Need-returns-3 (
 ) (find-in-at t) find-in.Post
 find-in-returns-3 t c = search finding
 
--- src/lib.rt:64:12
 find-in-wide-requires-2 : (t : ℕ) → find-in-lts.Need-wide-requires-2 (
   wide-reads.Asked,
   wide-reads.Learnt,
@@ -119,7 +109,6 @@ find-in-wide-requires-2 : (t : ℕ) → find-in-lts.Need-wide-requires-2 (
 ) (find-in-at t) find-in.Post
 find-in-wide-requires-2 t c κs = search finding
 
--- src/lib.rt:65:9
 find-in-returns-4 : (t : ℕ) → find-in-lts.Need-returns-4 (
   wide-reads.Asked,
   wide-reads.Learnt,
@@ -128,7 +117,6 @@ find-in-returns-4 : (t : ℕ) → find-in-lts.Need-returns-4 (
 ) (find-in-at t) find-in.Post
 find-in-returns-4 t c = in-over _ _ _ _ (c .before .before .before .before .before .before .before .before .before .pre .1) (c .before .before .before .before .before .before .before .wide .result) (omega arith) (omega arith) (omega arith) (omega arith) (omega arith)
 
--- src/lib.rt:67:9
 find-in-find-in-requires : (t : ℕ) → find-in-lts.Need-find-in-requires (
   wide-reads.Asked,
   wide-reads.Learnt,
@@ -137,7 +125,6 @@ find-in-find-in-requires : (t : ℕ) → find-in-lts.Need-find-in-requires (
 ) (find-in-at t) find-in.Post
 find-in-find-in-requires t c κs = search finding
 
--- src/lib.rt:68:21
 find-in-enum-known-f : (t : ℕ) → find-in-lts.Need-enum-known-f (
   wide-reads.Asked,
   wide-reads.Learnt,
@@ -146,7 +133,6 @@ find-in-enum-known-f : (t : ℕ) → find-in-lts.Need-enum-known-f (
 ) (find-in-at t) find-in.Post
 find-in-enum-known-f t c = search finding
 
--- src/lib.rt:69:31
 find-in-enum-told : (t : ℕ) → find-in-lts.Need-enum-told (
   wide-reads.Asked,
   wide-reads.Learnt,
@@ -155,7 +141,6 @@ find-in-enum-told : (t : ℕ) → find-in-lts.Need-enum-told (
 ) (find-in-at t) find-in.Post
 find-in-enum-told t c = search finding
 
--- src/lib.rt:69:9
 find-in-returns-5 : (t : ℕ) → find-in-lts.Need-returns-5 (
   wide-reads.Asked,
   wide-reads.Learnt,
@@ -164,7 +149,6 @@ find-in-returns-5 : (t : ℕ) → find-in-lts.Need-returns-5 (
 ) (find-in-at t) find-in.Post
 find-in-returns-5 t c = search finding
 
--- src/lib.rt:71:5
 find-in-mul-repr : (t : ℕ) → find-in-lts.Need-mul-repr (
   wide-reads.Asked,
   wide-reads.Learnt,
@@ -173,7 +157,6 @@ find-in-mul-repr : (t : ℕ) → find-in-lts.Need-mul-repr (
 ) (find-in-at t) find-in.Post
 find-in-mul-repr t c = search finding
 
--- src/lib.rt:71:5
 find-in-element-write-repr : (t : ℕ) → find-in-lts.Need-element-write-repr (
   wide-reads.Asked,
   wide-reads.Learnt,
@@ -182,7 +165,6 @@ find-in-element-write-repr : (t : ℕ) → find-in-lts.Need-element-write-repr (
 ) (find-in-at t) find-in.Post
 find-in-element-write-repr t c = search finding
 
--- src/lib.rt:47:1
 find-in-returns-6 : (t : ℕ) → find-in-lts.Need-returns-6 (
   wide-reads.Asked,
   wide-reads.Learnt,

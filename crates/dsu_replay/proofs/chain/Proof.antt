@@ -1,10 +1,8 @@
+-- `chain` is safe and ends. Assumes nothing.
 use Prim.Native.Nat.{_≤_, _-_}
 use borrow.Author.Needs.{needs}
 use Rattle.dsu_replay.proofs.chain.Statement.{statement}
 use Rattle.dsu_replay.proofs.chain.Tie as tie
-use Rattle.dsu_replay.proofs.chain.Reads as reads
-use Rattle.dsu_replay.proofs.chain.Lts as lts
-use Rattle.dsu_replay.proofs.wide.Reads as wide-reads
 
 abbrev Inv-loop : tie.InvT-loop
 Inv-loop last repr₀ size₀ i₀ repr size i = i ≤ 512
@@ -12,59 +10,45 @@ Inv-loop last repr₀ size₀ i₀ repr size i = i ≤ 512
 abbrev μ-loop : tie.MeasureT-loop
 μ-loop last repr₀ size₀ i₀ repr size i = 512 - i
 
--- src/main.rt:26:5
 loop-holds : tie.Need-loop-holds Inv-loop μ-loop
 loop-holds c = search needs
 
--- src/main.rt:27:25
 add-repr : tie.Need-add-repr Inv-loop μ-loop
 add-repr c = search needs
 
--- src/main.rt:27:14
 wide-requires : tie.Need-wide-requires Inv-loop μ-loop
 wide-requires c κs = search needs
 
--- src/main.rt:27:9
 mul-repr : tie.Need-mul-repr Inv-loop μ-loop
 mul-repr c = search needs
 
--- src/main.rt:27:9
 array-write-repr : tie.Need-array-write-repr Inv-loop μ-loop
 array-write-repr c = search needs
 
--- src/main.rt:28:25
 add-size : tie.Need-add-size Inv-loop μ-loop
 add-size c = search needs
 
--- src/main.rt:28:14
 wide-requires-2 : tie.Need-wide-requires-2 Inv-loop μ-loop
 wide-requires-2 c κs = search needs
 
--- src/main.rt:28:9
 mul-size : tie.Need-mul-size Inv-loop μ-loop
 mul-size c = search needs
 
--- src/main.rt:28:9
 array-write-size : tie.Need-array-write-size Inv-loop μ-loop
 array-write-size c = search needs
 
--- src/main.rt:29:9
 add-i : tie.Need-add-i Inv-loop μ-loop
 add-i c = search needs
 
--- src/main.rt:26:5
 loop-less : tie.Need-loop-less Inv-loop μ-loop
 loop-less c = search needs
 
--- src/main.rt:26:5
 loop-again : tie.Need-loop-again Inv-loop μ-loop
 loop-again c = search needs
 
--- src/main.rt:31:5
 array-write-repr-2 : tie.Need-array-write-repr-2 Inv-loop μ-loop
 array-write-repr-2 c = search needs
 
--- src/main.rt:22:1
 returns : tie.Need-returns Inv-loop μ-loop
 returns c = search needs
 

@@ -1,10 +1,8 @@
+-- `DSU::new` meets its contract: the loop puts each index at its place. Assumes nothing.
 use Prim.Native.Nat.{_≤_, _-_}
 use Rattle.dsu.proofs.Fresh.{Filled, filling}
 use Rattle.dsu.proofs.DSU.new.Statement.{statement}
 use Rattle.dsu.proofs.DSU.new.Tie as tie
-use Rattle.dsu.proofs.DSU.new.Reads as reads
-use Rattle.dsu.proofs.DSU.new.Lts as lts
-use Rattle.dsu.proofs.wide.Reads as wide-reads
 
 abbrev Inv-loop : tie.InvT-loop
 Inv-loop n repr₀ size i₀ repr i = (i ≤ 512) × Filled repr i
@@ -12,39 +10,30 @@ Inv-loop n repr₀ size i₀ repr i = (i ≤ 512) × Filled repr i
 abbrev μ-loop : tie.MeasureT-loop
 μ-loop n repr₀ size i₀ repr i = 512 - i
 
--- src/lib.rt:150:9
 loop-holds : tie.Need-loop-holds Inv-loop μ-loop
 loop-holds c = search filling
 
--- src/lib.rt:151:18
 wide-requires : tie.Need-wide-requires Inv-loop μ-loop
 wide-requires c κs = search filling
 
--- src/lib.rt:151:13
 mul-repr : tie.Need-mul-repr Inv-loop μ-loop
 mul-repr c = search filling
 
--- src/lib.rt:151:13
 array-write-repr : tie.Need-array-write-repr Inv-loop μ-loop
 array-write-repr c = search filling
 
--- src/lib.rt:152:13
 add-i : tie.Need-add-i Inv-loop μ-loop
 add-i c = search filling
 
--- src/lib.rt:150:9
 loop-less : tie.Need-loop-less Inv-loop μ-loop
 loop-less c = search filling
 
--- src/lib.rt:150:9
 loop-again : tie.Need-loop-again Inv-loop μ-loop
 loop-again c = search filling
 
--- src/lib.rt:155:13
 returns : tie.Need-returns Inv-loop μ-loop
 returns c = search filling
 
--- src/lib.rt:144:5
 returns-2 : tie.Need-returns-2 Inv-loop μ-loop
 returns-2 c = search filling
 
