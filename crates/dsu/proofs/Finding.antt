@@ -1,4 +1,4 @@
--- What `find_in` and `find_from` return, at each return: the end of the way from x. Assumes nothing.
+-- What `find_in`, `find_from` and `find` return, at each return: the end of the way from x. Assumes nothing.
 use Prim.Native.Nat.{ℕ, _≤_, _<_}
 use mathlib.Core.Path.{_≡_, refl, sym, ap, _∙_}
 use mathlib.Core.Bool.{Bool, true, false, cond}
@@ -23,10 +23,10 @@ abbrev Both : Type 0
 Both = Found × List ℕ
 
 module _ (l z : List ℕ) (n x : ℕ) where
-  -- the answer at a fault, at the representative and above a parent
   faulty : way l z n x ≡ broken → _≡_ {A = Both} (Refused JoinSets, l) (climbed l (way l z n x))
   faulty e = rw e
 
+  -- `find_in`: p is the parent
   module _ (m : Met z n x) (p : ℕ) (is-p : p ≡ getD l x 0) where
     pub in-top : p ≡ x → _≡_ {A = Both} (Root (getD l x 0), l) (climbed l (way l z n x))
     in-top h = let e : getD l x 0 ≡ x = sym is-p ∙ h in rw (way-top l z n x (seen-top l z n x m e), e)
@@ -63,7 +63,7 @@ module _ (l z : List ℕ) (n x : ℕ) where
                   let r : a ≡ b = cc in
                   rw r (ap (λ (g : Both). (Root b, set (g .1) x b)) q)
 
-  -- any x: 23 first
+  -- `find_from`
   pub from-outside : n ≤ x → _≡_ {A = Both} (Refused Element, l) (answered l z n x)
   unfolding answered
   from-outside h = rw (le-leb n x h)
@@ -85,20 +85,20 @@ module _ (l z : List ℕ) (n x : ℕ) where
 
 -- `find`: the sets with the parents that were left
 module _ (d : DSU) where
-  abbrev with : Both → FindAnswer
-  with b = record { found = b .0; sets = changed d (b .1) (d .size) }
+  abbrev left : Both → FindAnswer
+  left b = record { found = b .0; sets = changed d (b .1) (d .size) }
 
-  with-way : (w : Way) → with (climbed (d .repr) w) ≡ foundBy d w
-  with-way broken = refl
-  with-way (reached a l) = refl
+  left-way : (w : Way) → left (climbed (d .repr) w) ≡ foundBy d w
+  left-way broken = refl
+  left-way (reached a l) = refl
 
-  pub find-made : (f : Found) (l : List ℕ) (x : ℕ) → _≡_ {A = Both} (f, l) (answered (d .repr) (d .size) (d .n) x) → with (f, l) ≡ findOf d x
+  pub find-made : (f : Found) (l : List ℕ) (x : ℕ) → _≡_ {A = Both} (f, l) (answered (d .repr) (d .size) (d .n) x) → left (f, l) ≡ findOf d x
   unfolding answered findOf
-  find-made f l x e = ap with e ∙ by-test (leb (d .n) x) (way (d .repr) (d .size) (d .n) x)
+  find-made f l x e = ap left e ∙ by-test (leb (d .n) x) (way (d .repr) (d .size) (d .n) x)
     where
-      by-test : (b : Bool) (w : Way) → with (cond b (Refused Element, d .repr) (climbed (d .repr) w)) ≡ cond b (record { found = Refused Element; sets = d }) (foundBy d w)
+      by-test : (b : Bool) (w : Way) → left (cond b (Refused Element, d .repr) (climbed (d .repr) w)) ≡ cond b (record { found = Refused Element; sets = d }) (foundBy d w)
       by-test true w = refl
-      by-test false w = with-way w
+      by-test false w = left-way w
 
 pub ruleset from = (from-outside, from-many, from-none, from-over, from-way, needs)
 

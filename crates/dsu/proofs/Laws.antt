@@ -15,10 +15,10 @@ use Rattle.dsu.specs.declared.Outcome.the-variants.{Done}
 use Rattle.dsu.specs.declared.Answer.{Answer}
 use Rattle.dsu.specs.Sets.{findOf, under, join, unionOf, upTo, fresh, newOf}
 use Rattle.dsu.specs.Steps.{Met}
-use Rattle.dsu.specs.Classes.{before}
+use Rattle.dsu.specs.Classes.{Classes, before}
 use Rattle.dsu.specs.Laws.{classOf, Same, Valid, NewLaw, FindLaw, UnionLaw}
 use Rattle.dsu.proofs.Count.{count-one}
-use Rattle.dsu.proofs.Classes.{classes-moved, classes-alone, Joins, turned, merged-joins, classes-fewer}
+use Rattle.dsu.proofs.Classes.{classes-unique, classes-some, classes-moved, classes-alone, Joins, turned, merged-joins, classes-fewer}
 use Rattle.dsu.proofs.Leads.{sets, Leads, here, after, leads-end, leads-way, leads-find, leads-class}
 use Rattle.dsu.proofs.Keep.{leads-to-class, after-valid, after-class}
 use Rattle.dsu.proofs.Merge.{Apart, two-fit, merged-class, merged-valid}
@@ -76,6 +76,17 @@ new-law n r e h = subst (NewLaw n) (sym (e ∙ rw (le-ltb 512 n h))) (record {
 
 -- find
 
+-- two values whose elements are in the same classes
+module _ (d s : DSU) (same : (w : ℕ) → w < d .n → classOf s w ≡ classOf d w) where
+  same-kept : (p q : ℕ) → p < d .n → q < d .n → Same d p q → Same s p q
+  same-kept p q a b e = same p a ∙ e ∙ sym (same q b)
+
+  same-only : (p q : ℕ) → p < d .n → q < d .n → Same s p q → Same d p q
+  same-only p q a b e = sym (same p a) ∙ e ∙ same q b
+
+  same-classes : {k : ℕ} → Classes (Same d) (d .n) k → Classes (Same s) (d .n) k
+  same-classes w = classes-moved same-kept same-only w
+
 pub find-law : (d : DSU) (x : ℕ) (r : FindAnswer) → r ≡ findOf d x → Valid d → x < d .n → FindLaw d x r
 find-law d x r e v h =
     let t = leads-to-class (d .repr) (d .size) (d .n) v x h in
@@ -87,6 +98,7 @@ find-law d x r e v h =
       is-n = refl;
       valid = after-valid v t;
       kept = after-class v t;
+      as-many = λ k w. same-classes d (sets (after t) (d .size) (d .n)) (after-class v t) w;
     })
 
 -- union
@@ -110,18 +122,12 @@ module _ (d : DSU) (x y : ℕ) (x-in : x < d .n) (y-in : y < d .n) where
     done = refl;
     is-n = is-n;
     valid = v;
-    joined = same x x-in ∙ e ∙ sym (same y y-in);
-    kept = keep;
-    only = λ p q a b g. before (drop-back p q a b g);
+    joined = same-kept d s same x y x-in y-in e;
+    kept = same-kept d s same;
+    only = λ p q a b g. before (same-only d s same p q a b g);
     fewer = λ h k w. absurd (h e);
-    as-many = λ h k w. classes-moved keep drop-back w;
+    as-many = λ h k w. same-classes d s same w;
   }
-    where
-      keep : (p q : ℕ) → p < d .n → q < d .n → Same d p q → Same s p q
-      keep p q a b f = same p a ∙ f ∙ sym (same q b)
-
-      drop-back : (p q : ℕ) → p < d .n → q < d .n → Same s p q → Same d p q
-      drop-back p q a b g = sym (same p a) ∙ g ∙ same q b
 
 -- m has the parents after both finds
 module _ (d : DSU) (m : List ℕ) (v : Valid (sets m (d .size) (d .n))) (same : (w : ℕ) → w < d .n → classOf (sets m (d .size) (d .n)) w ≡ classOf d w) where
@@ -175,3 +181,7 @@ union-law d x y r e v x-in y-in =
     let end : (w : ℕ) → w < n → Met z n (classOf d w) × (getD (after t) (classOf d w) 0 ≡ classOf d w) = λ w h. leads-end (subst (Leads (after t) z n w) (same₂ w h) (leads-to-class (after t) z n v₂ w h)) in
     let is : r ≡ join d (after t) (classOf d x) (classOf d y) = e ∙ rw (lt-leb n x x-in, lt-leb n y y-in, leads-way s, leads-way t) in
     subst (UnionLaw d x y) (sym is) (join-law d (after t) v₂ same₂ x y x-in y-in (end x x-in) (end y y-in))
+
+-- sets have exactly one number of classes
+pub classes-number : (d : DSU) → (k : ℕ) × Classes (Same d) (d .n) k × ((j : ℕ) → Classes (Same d) (d .n) j → j ≡ k)
+classes-number d = let w = classes-some (classOf d) (d .n) in (w .0, w .1, λ j v. classes-unique v (w .1))

@@ -1,6 +1,6 @@
 -- The exact condition of each refusal, on every value of the struct. Assumes nothing.
 use Prim.Native.Nat.{ℕ, zero, suc, _+_, _≤_, _<_}
-use mathlib.Core.Path.{_≡_, refl, sym, ap, _∙_}
+use mathlib.Core.Path.{_≡_, refl, sym, ap, subst, _∙_}
 use mathlib.Core.Bool.{Bool, true, false, cond}
 use mathlib.Core.Logic.{_⊎_, inl, inr, _↔_}
 use mathlib.Core.List.{List}
@@ -10,12 +10,31 @@ use lib.Dec.{leb, ltb, eqb}
 use lib.ListN.{length, getD}
 use borrow.Author.Tests.{lt-ltb, le-ltb, le-leb, lt-leb, eq-eqb, ne-eqb, ltb-true, leb-true, eqb-true, eqb-false}
 use Rattle.dsu.specs.declared.DSU.{DSU}
+use Rattle.dsu.specs.declared.FindAnswer.{FindAnswer}
 use Rattle.dsu.specs.declared.Answer.{Answer}
 use Rattle.dsu.specs.Sets.{Seen, top, up, fault, seen, Way, broken, reached, point, onward, walk, way, findOf, under, join, joinSecond, joinFirst, unionOf, newOf}
 use Rattle.dsu.specs.Laws.{classOf}
-use Rattle.dsu.specs.Refusals.{foundNumber, outcomeNumber, OnWay, here, next, Fault, many, outside, small, no-size, large, Broken, TooLarge, BrokenUnion, first, second, joint}
+use Rattle.dsu.specs.Refusals.{foundNumber, outcomeNumber, OnWay, here, next, Fault, many, outside, small, no-size, large, Broken, TooLarge, BrokenUnion, first, second, joint, NewRefusals, FindRefusals, UnionRefusals}
 use Rattle.dsu.proofs.Leads.{Leads, after, leads-start, leads-way, leads-class, way-leads, after-leads, after-back}
 use Rattle.dsu.proofs.Ways.{fault-top, fault-up, seen-many, seen-none, seen-over, at-top, at-up, way-fault, way-up}
+
+-- a call that gets past 23: refused with 24 where P holds, and as it was, or passed
+data Answers (P : Type 0) (number : ℕ) (Unchanged : Type 0) : Type 0 where
+  refused : P → number ≡ 24 → Unchanged → Answers P number Unchanged
+  passed : (P → ⊥) → number ≡ 0 → Answers P number Unchanged
+
+module _ {P U : Type 0} {k : ℕ} where
+  never-23 : Answers P k U → k ≡ 23 → ⊥
+  never-23 (refused p e u) q = omega arith
+  never-23 (passed p e) q = omega arith
+
+  just-24 : Answers P k U → (k ≡ 24) ↔ P
+  just-24 (refused p e u) = (λ q. p, λ q. e)
+  just-24 (passed p e) = (λ q. absurd (omega arith), λ q. absurd (p q))
+
+  as-it-was : Answers P k U → (k ≡ 0 → ⊥) → U
+  as-it-was (refused p e u) h = u
+  as-it-was (passed p e) h = absurd (h e)
 
 module _ (d : DSU) where
   abbrev l : List ℕ
@@ -26,9 +45,6 @@ module _ (d : DSU) where
 
   abbrev n : ℕ
   n = d .n
-
-  abbrev wayOf : ℕ → Way
-  wayOf x = way l z n x
 
   -- a fault at x is seen there, and what is seen as a fault is one
   unseen : (x : ℕ) → (seen l z n x ≡ top → ⊥) → (seen l z n x ≡ up → ⊥) → seen l z n x ≡ fault
@@ -98,77 +114,32 @@ module _ (d : DSU) where
   not-broken : (x a : ℕ) (m : List ℕ) → x < n → way l z n x ≡ reached a m → Broken d x → ⊥
   not-broken x a m i e w = let q = way-broken x i .1 w in let v : _≡_ {A = ℕ} 0 1 = cc in omega arith
 
-  -- `find`
-  abbrev findNumber : ℕ → ℕ
-  findNumber x = foundNumber (findOf d x .found)
-
-  find-outside : (x : ℕ) → n ≤ x → _≡_ {A = ℕ} (findNumber x) 23
+  -- `find` of an element inside
+  find-answers : (x : ℕ) → x < n → Answers (Broken d x) (foundNumber (findOf d x .found)) (findOf d x .sets ≡ d)
   unfolding findOf
-  find-outside x h = rw (le-leb n x h)
+  find-answers x i = by-way (way l z n x) refl
+    where
+      by-way : (w : Way) → way l z n x ≡ w → Answers (Broken d x) (foundNumber (findOf d x .found)) (findOf d x .sets ≡ d)
+      by-way broken e = refused (way-broken x i .0 e) (rw (lt-leb n x i, e)) (rw (lt-leb n x i, e))
+      by-way (reached a m) e = passed (not-broken x a m i e) (rw (lt-leb n x i, e))
 
-  data FindCase (x : ℕ) : Type 0 where
-    wrong : Broken d x → _≡_ {A = ℕ} (findNumber x) 24 → FindCase x
-    right : (Broken d x → ⊥) → _≡_ {A = ℕ} (findNumber x) 0 → FindCase x
-
-  find-case : (x : ℕ) → x < n → FindCase x
+  find-outside : (x : ℕ) → n ≤ x → (foundNumber (findOf d x .found) ≡ 23) × (findOf d x .sets ≡ d)
   unfolding findOf
-  find-case x i = by-way (way l z n x) refl
-    where
-      by-way : (w : Way) → way l z n x ≡ w → FindCase x
-      by-way broken e = wrong (way-broken x i .0 e) (rw (lt-leb n x i, e))
-      by-way (reached a m) e = right (not-broken x a m i e) (rw (lt-leb n x i, e))
+  find-outside x h = (rw (le-leb n x h), rw (le-leb n x h))
 
-  pub find-23 : (x : ℕ) → _≡_ {A = ℕ} (findNumber x) 23 ↔ (n ≤ x)
-  find-23 x = (λ e. by-place e (decLt x n), find-outside x)
-    where
-      by-case : _≡_ {A = ℕ} (findNumber x) 23 → FindCase x → ⊥
-      by-case e (wrong w q) = omega arith
-      by-case e (right w q) = omega arith
-
-      by-place : _≡_ {A = ℕ} (findNumber x) 23 → Dec (x < n) → n ≤ x
-      by-place e (yes i) = absurd (by-case e (find-case x i))
-      by-place e (no h) = omega arith
-
-  pub find-24 : (x : ℕ) → _≡_ {A = ℕ} (findNumber x) 24 ↔ (x < n) × Broken d x
-  find-24 x = (λ e. by-place e (decLt x n), λ w. by-back (w .1) (find-case x (w .0)))
-    where
-      by-case : _≡_ {A = ℕ} (findNumber x) 24 → FindCase x → Broken d x
-      by-case e (wrong w q) = w
-      by-case e (right w q) = absurd (omega arith)
-
-      by-place : _≡_ {A = ℕ} (findNumber x) 24 → Dec (x < n) → (x < n) × Broken d x
-      by-place e (yes i) = (i, by-case e (find-case x i))
-      by-place e (no h) = absurd (omega (arith, find-outside x (omega arith)))
-
-      by-back : Broken d x → FindCase x → _≡_ {A = ℕ} (findNumber x) 24
-      by-back w (wrong v q) = q
-      by-back w (right v q) = absurd (v w)
-
-  -- `union`. An array of the struct has 512 elements
-  abbrev unionNumber : ℕ → ℕ → ℕ
-  unionNumber x y = outcomeNumber (unionOf d x y .outcome)
-
-  union-first : (x y : ℕ) → n ≤ x → _≡_ {A = ℕ} (unionNumber x y) 23
-  unfolding unionOf
-  union-first x y h = rw (le-leb n x h)
-
-  union-second : (x y : ℕ) → x < n → n ≤ y → _≡_ {A = ℕ} (unionNumber x y) 23
-  unfolding unionOf
-  union-second x y i h = rw (lt-leb n x i, le-leb n y h)
-
-  data UnionCase (x y : ℕ) : Type 0 where
-    wrong-union : BrokenUnion d x y → _≡_ {A = ℕ} (unionNumber x y) 24 → UnionCase x y
-    right-union : (BrokenUnion d x y → ⊥) → _≡_ {A = ℕ} (unionNumber x y) 0 → UnionCase x y
-
+  -- `union` of two elements inside. An array of the struct has 512 elements
   module _ (long : length (d .repr) ≡ 512) (x y : ℕ) (x-in : x < n) (y-in : y < n) where
-    by-ways : (w : Way) → way l z n x ≡ w → unionOf d x y ≡ joinFirst d y w
+    abbrev UnionAnswers : Answer → Type 0
+    UnionAnswers r = Answers (BrokenUnion d x y) (outcomeNumber (r .outcome)) (r .sets ≡ d)
+
+    union-ways : (w : Way) → way l z n x ≡ w → joinFirst d y w ≡ unionOf d x y
     unfolding unionOf
-    by-ways w e = rw (lt-leb n x x-in, lt-leb n y y-in, e)
+    union-ways w e = rw (lt-leb n x x-in, lt-leb n y y-in, e)
 
     -- the way of x leads to a; then that of y, with the parents afterwards
     module _ (a : ℕ) (t : Leads l z n x a) where
-      after-ways : (w : Way) → way (after t) z n y ≡ w → unionOf d x y ≡ joinSecond d a w
-      after-ways w e = by-ways (reached a (after t)) (leads-way t) ∙ ap (joinSecond d a) e
+      after-ways : (w : Way) → way (after t) z n y ≡ w → joinSecond d a w ≡ unionOf d x y
+      after-ways w e = ap (joinSecond d a) (sym e) ∙ union-ways (reached a (after t)) (leads-way t)
 
       fits : n ≤ length l
       fits = omega (arith, long, leads-start t .few)
@@ -183,81 +154,91 @@ module _ (d : DSU) where
               let r = leads-way (after-leads fits t (way-leads l z n y b m y-in q)) in
               let v : _≡_ {A = ℕ} 0 1 = cc in absurd (omega arith)
 
-      -- both ways end, at a and b
+      -- that of y leads to b
       module _ (b : ℕ) (s : Leads (after t) z n y b) where
         y-leads : Leads l z n y b
         y-leads = after-back fits t s
 
-        joined : unionOf d x y ≡ join d (after s) (classOf d x) (classOf d y)
-        joined = after-ways (reached b (after s)) (leads-way s) ∙ rw (leads-class t, leads-class y-leads)
+        no-fault : (TooLarge d x y → ⊥) → BrokenUnion d x y → ⊥
+        no-fault h (first w) = not-broken x a (after t) x-in (leads-way t) w
+        no-fault h (second w) = not-broken y b (after y-leads) y-in (leads-way y-leads) w
+        no-fault h (joint w) = h w
 
-        ends-case : UnionCase x y
+        by-size : (TooLarge d x y → ⊥) → (c : Bool) → UnionAnswers (cond c (under d (after s) b a) (under d (after s) a b))
+        by-size o true = passed (no-fault o) refl
+        by-size o false = passed (no-fault o) refl
+
+        join-answers : UnionAnswers (join d (after s) a b)
         unfolding join
-        ends-case = by-class (ℕ-discrete (classOf d x) (classOf d y)) (decLt n (getD z (classOf d x) 0 + getD z (classOf d y) 0))
+        join-answers = by-class (leads-class t) (leads-class y-leads) (ℕ-discrete a b) (decLt n (getD z a 0 + getD z b 0))
           where
-            fine : (TooLarge d x y → ⊥) → BrokenUnion d x y → ⊥
-            fine h (first w) = not-broken x a (after t) x-in (leads-way t) w
-            fine h (second w) = not-broken y b (after y-leads) y-in (leads-way y-leads) w
-            fine h (joint w) = h w
+            by-class : classOf d x ≡ a → classOf d y ≡ b → Dec (a ≡ b) → Dec (n < getD z a 0 + getD z b 0) → UnionAnswers (join d (after s) a b)
+            by-class ea eb (yes e) o = rw (eq-eqb a b e) (passed (no-fault (λ w. w .apart (ea ∙ e ∙ sym eb))) refl)
+            by-class ea eb (no h) (yes o) = rw (ne-eqb a b h, lt-ltb n (getD z a 0 + getD z b 0) o) (refused (joint (record { apart = λ e. h (sym ea ∙ e ∙ eb); over = rw (ea, eb) o })) refl refl)
+            by-class ea eb (no h) (no o) = rw (ne-eqb a b h, le-ltb n (getD z a 0 + getD z b 0) (omega arith)) (by-size (λ w. o (rw (ea, eb) at (w .over))) (ltb (getD z a 0) (getD z b 0)))
 
-            by-class : Dec (classOf d x ≡ classOf d y) → Dec (n < getD z (classOf d x) 0 + getD z (classOf d y) 0) → UnionCase x y
-            by-class (yes e) o = right-union (fine (λ w. w .apart e)) (ap (λ (r : Answer). outcomeNumber (r .outcome)) joined ∙ rw (eq-eqb (classOf d x) (classOf d y) e))
-            by-class (no h) (yes o) = wrong-union (joint (record { apart = h; over = o })) (ap (λ (r : Answer). outcomeNumber (r .outcome)) joined ∙ rw (ne-eqb (classOf d x) (classOf d y) h, lt-ltb n (getD z (classOf d x) 0 + getD z (classOf d y) 0) o))
-            by-class (no h) (no o) = right-union (fine (λ w. o (w .over))) (ap (λ (r : Answer). outcomeNumber (r .outcome)) joined ∙ rw (ne-eqb (classOf d x) (classOf d y) h, le-ltb n (getD z (classOf d x) 0 + getD z (classOf d y) 0) (omega arith)) (by-size (ltb (getD z (classOf d x) 0) (getD z (classOf d y) 0))))
-              where
-                by-size : (c : Bool) → _≡_ {A = ℕ} (outcomeNumber (cond c (under d (after s) (classOf d y) (classOf d x)) (under d (after s) (classOf d x) (classOf d y)) .outcome)) 0
-                by-size true = refl
-                by-size false = refl
-
-    union-case : UnionCase x y
-    union-case = by-first (way l z n x) refl
+    union-answers : UnionAnswers (unionOf d x y)
+    union-answers = by-first (way l z n x) refl
       where
-        by-second : (a : ℕ) (t : Leads l z n x a) (w : Way) → way (after t) z n y ≡ w → UnionCase x y
-        by-second a t broken e = wrong-union (second (after-broken a t e)) (ap (λ (r : Answer). outcomeNumber (r .outcome)) (after-ways a t broken e))
-        by-second a t (reached b m) e = ends-case a t b (way-leads (after t) z n y b m y-in e)
+        by-second : (a : ℕ) (t : Leads l z n x a) (w : Way) → way (after t) z n y ≡ w → UnionAnswers (unionOf d x y)
+        by-second a t broken e = subst UnionAnswers (after-ways a t broken e) (refused (second (after-broken a t e)) refl refl)
+        by-second a t (reached b m) e = let s = way-leads (after t) z n y b m y-in e in subst UnionAnswers (after-ways a t (reached b (after s)) (leads-way s)) (join-answers a t b s)
 
-        by-first : (w : Way) → way l z n x ≡ w → UnionCase x y
-        by-first broken e = wrong-union (first (way-broken x x-in .0 e)) (ap (λ (r : Answer). outcomeNumber (r .outcome)) (by-ways broken e))
+        by-first : (w : Way) → way l z n x ≡ w → UnionAnswers (unionOf d x y)
+        by-first broken e = subst UnionAnswers (union-ways broken e) (refused (first (way-broken x x-in .0 e)) refl refl)
         by-first (reached a m) e = let t = way-leads l z n x a m x-in e in by-second a t (way (after t) z n y) refl
 
-  pub union-23 : (x y : ℕ) → length (d .repr) ≡ 512 → _≡_ {A = ℕ} (unionNumber x y) 23 ↔ ((n ≤ x) ⊎ (n ≤ y))
-  union-23 x y long = (λ e. by-place e (decLt x n) (decLt y n), by-back (decLt x n))
+  union-outside : (x y : ℕ) → (n ≤ x) ⊎ (n ≤ y) → (outcomeNumber (unionOf d x y .outcome) ≡ 23) × (unionOf d x y .sets ≡ d)
+  unfolding unionOf
+  union-outside x y o = by-place (decLt x n) o
     where
-      by-case : _≡_ {A = ℕ} (unionNumber x y) 23 → UnionCase x y → ⊥
-      by-case e (wrong-union w q) = omega arith
-      by-case e (right-union w q) = omega arith
+      by-place : Dec (x < n) → (n ≤ x) ⊎ (n ≤ y) → (outcomeNumber (unionOf d x y .outcome) ≡ 23) × (unionOf d x y .sets ≡ d)
+      by-place (no h) o = let i : n ≤ x = omega arith in (rw (le-leb n x i), rw (le-leb n x i))
+      by-place (yes i) (inl h) = absurd (omega arith)
+      by-place (yes i) (inr h) = (rw (lt-leb n x i, le-leb n y h), rw (lt-leb n x i, le-leb n y h))
 
-      by-place : _≡_ {A = ℕ} (unionNumber x y) 23 → Dec (x < n) → Dec (y < n) → (n ≤ x) ⊎ (n ≤ y)
-      by-place e (yes i) (yes j) = absurd (by-case e (union-case long x y i j))
-      by-place e (yes i) (no k) = inr (omega arith)
-      by-place e (no h) k = inl (omega arith)
-
-      by-back : Dec (x < n) → (n ≤ x) ⊎ (n ≤ y) → _≡_ {A = ℕ} (unionNumber x y) 23
-      by-back i (inl h) = union-first x y h
-      by-back (yes i) (inr h) = union-second x y i h
-      by-back (no i) (inr h) = union-first x y (omega arith)
-
-  pub union-24 : (x y : ℕ) → length (d .repr) ≡ 512 → _≡_ {A = ℕ} (unionNumber x y) 24 ↔ (x < n) × (y < n) × BrokenUnion d x y
-  union-24 x y long = (λ e. by-place e (decLt x n) (decLt y n), λ w. by-back (w .2) (union-case long x y (w .0) (w .1)))
-    where
-      by-case : _≡_ {A = ℕ} (unionNumber x y) 24 → UnionCase x y → BrokenUnion d x y
-      by-case e (wrong-union w q) = w
-      by-case e (right-union w q) = absurd (omega arith)
-
-      by-place : _≡_ {A = ℕ} (unionNumber x y) 24 → Dec (x < n) → Dec (y < n) → (x < n) × (y < n) × BrokenUnion d x y
-      by-place e (yes i) (yes j) = (i, j, by-case e (union-case long x y i j))
-      by-place e (yes i) (no k) = absurd (omega (arith, union-second x y i (omega arith)))
-      by-place e (no h) k = absurd (omega (arith, union-first x y (omega arith)))
-
-      by-back : BrokenUnion d x y → UnionCase x y → _≡_ {A = ℕ} (unionNumber x y) 24
-      by-back w (wrong-union v q) = q
-      by-back w (right-union v q) = absurd (v w)
-
--- `new`
-pub new-23 : (n : ℕ) → _≡_ {A = ℕ} (outcomeNumber (newOf n .outcome)) 23 ↔ (512 < n)
-unfolding newOf
-new-23 n = (by-test (ltb 512 n) refl, λ h. rw (lt-ltb 512 n h))
+pub find-refusals : (d : DSU) (x : ℕ) (r : FindAnswer) → r ≡ findOf d x → FindRefusals d x r
+find-refusals d x r e = subst (FindRefusals d x) (sym e) (by-place (decLt x (d .n)))
   where
-    by-test : (b : Bool) → ltb 512 n ≡ b → _≡_ {A = ℕ} (outcomeNumber (newOf n .outcome)) 23 → 512 < n
-    by-test true t e = ltb-true 512 n t
-    by-test false t e = absurd (omega (arith, rw t at e))
+    by-place : Dec (x < d .n) → FindRefusals d x (findOf d x)
+    by-place (yes i) = let w = find-answers d x i in record {
+      is-23 = (λ q. absurd (never-23 w q), λ h. absurd (omega arith));
+      is-24 = (λ q. (i, just-24 w .0 q), λ h. just-24 w .1 (h .1));
+      unchanged = as-it-was w;
+    }
+    by-place (no h) = let w = find-outside d x (omega arith) in record {
+      is-23 = (λ q. omega arith, λ q. w .0);
+      is-24 = (λ q. absurd (omega (arith, w .0)), λ q. absurd (omega (arith, q .0)));
+      unchanged = λ q. w .1;
+    }
+
+pub union-refusals : (d : DSU) (x y : ℕ) (r : Answer) → r ≡ unionOf d x y → length (d .repr) ≡ 512 → UnionRefusals d x y r
+union-refusals d x y r e long = subst (UnionRefusals d x y) (sym e) (by-place (decLt x (d .n)) (decLt y (d .n)))
+  where
+    not-in : (d .n ≤ x) ⊎ (d .n ≤ y) → x < d .n → y < d .n → ⊥
+    not-in (inl h) i j = omega arith
+    not-in (inr h) i j = omega arith
+
+    out : (d .n ≤ x) ⊎ (d .n ≤ y) → UnionRefusals d x y (unionOf d x y)
+    out o = let w = union-outside d x y o in record {
+      is-23 = (λ q. o, λ q. w .0);
+      is-24 = (λ q. absurd (omega (arith, w .0)), λ q. absurd (not-in o (q .0) (q .1)));
+      unchanged = λ q. w .1;
+    }
+
+    by-place : Dec (x < d .n) → Dec (y < d .n) → UnionRefusals d x y (unionOf d x y)
+    by-place (yes i) (yes j) = let w = union-answers d long x y i j in record {
+      is-23 = (λ q. absurd (never-23 w q), λ o. absurd (not-in o i j));
+      is-24 = (λ q. (i, j, just-24 w .0 q), λ h. just-24 w .1 (h .2));
+      unchanged = as-it-was w;
+    }
+    by-place (yes i) (no k) = out (inr (omega arith))
+    by-place (no h) k = out (inl (omega arith))
+
+pub new-refusals : (n : ℕ) (r : Answer) → r ≡ newOf n → NewRefusals n r
+unfolding newOf
+new-refusals n r e = subst (NewRefusals n) (sym e) (by-place (decLt 512 n))
+  where
+    by-place : Dec (512 < n) → NewRefusals n (newOf n)
+    by-place (yes h) = rw (lt-ltb 512 n h) (record { is-23 = (λ q. h, λ q. refl); is-24 = λ q. omega arith })
+    by-place (no h) = rw (le-ltb 512 n (omega arith)) (record { is-23 = (λ q. absurd (omega arith), λ q. absurd (h q)); is-24 = λ q. omega arith })

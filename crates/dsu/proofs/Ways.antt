@@ -1,4 +1,4 @@
--- The way from an element by what is seen there, and the answers of `find_in` and `find_from` at each return. Assumes nothing.
+-- The way from an element, by what is seen there. Assumes nothing.
 use Prim.Native.Nat.{ℕ, zero, suc, _+_, _≤_, _<_}
 use mathlib.Core.Path.{_≡_, refl, sym, ap, _∙_}
 use mathlib.Core.Bool.{Bool, true, false, cond}
@@ -21,6 +21,10 @@ cond-else false a c d h e = (refl, e)
 
 -- what is seen, from the facts
 module _ (l z : List ℕ) (n x : ℕ) where
+  -- of a parent that is another element
+  parent-seen : Seen
+  parent-seen = cond (leb n (getD l x 0)) fault (cond (leb (getD z (getD l x 0) 0) (getD z x 0)) fault up)
+
   pub seen-many : 512 < n → seen l z n x ≡ fault
   unfolding seen
   seen-many h = rw (lt-ltb 512 n h)
@@ -34,22 +38,28 @@ module _ (l z : List ℕ) (n x : ℕ) where
   seen-over h = rw (lt-ltb n (getD z x 0) h, cond-same (eqb (getD z x 0) 0) fault) (cond-same (ltb 512 n) fault)
 
   module _ (m : Met z n x) where
-    seen-met : seen l z n x ≡ cond (eqb (getD l x 0) x) top (cond (leb n (getD l x 0)) fault (cond (leb (getD z (getD l x 0) 0) (getD z x 0)) fault up))
-    unfolding seen
+    seen-met : seen l z n x ≡ cond (eqb (getD l x 0) x) top parent-seen
+    unfolding seen parent-seen
     seen-met = rw (le-ltb 512 n (m .few), ne-eqb (getD z x 0) 0 (λ e. omega (arith, m .some)), le-ltb n (getD z x 0) (m .fits))
 
     pub seen-top : getD l x 0 ≡ x → seen l z n x ≡ top
     seen-top r = seen-met ∙ rw (eq-eqb (getD l x 0) x r)
 
     module _ (apart : getD l x 0 ≡ x → ⊥) where
+      seen-parent : seen l z n x ≡ parent-seen
+      seen-parent = seen-met ∙ rw (ne-eqb (getD l x 0) x apart)
+
       pub seen-outside : n ≤ getD l x 0 → seen l z n x ≡ fault
-      seen-outside h = seen-met ∙ rw (ne-eqb (getD l x 0) x apart, le-leb n (getD l x 0) h)
+      unfolding parent-seen
+      seen-outside h = seen-parent ∙ rw (le-leb n (getD l x 0) h)
 
       pub seen-small : getD z (getD l x 0) 0 ≤ getD z x 0 → seen l z n x ≡ fault
-      seen-small h = seen-met ∙ rw (ne-eqb (getD l x 0) x apart, le-leb (getD z (getD l x 0) 0) (getD z x 0) h) (cond-same (leb n (getD l x 0)) fault)
+      unfolding parent-seen
+      seen-small h = seen-parent ∙ rw (le-leb (getD z (getD l x 0) 0) (getD z x 0) h) (cond-same (leb n (getD l x 0)) fault)
 
       pub seen-up : getD l x 0 < n → getD z x 0 < getD z (getD l x 0) 0 → seen l z n x ≡ up
-      seen-up h g = seen-met ∙ rw (ne-eqb (getD l x 0) x apart, lt-leb n (getD l x 0) h, lt-leb (getD z (getD l x 0) 0) (getD z x 0) g)
+      unfolding parent-seen
+      seen-up h g = seen-parent ∙ rw (lt-leb n (getD l x 0) h, lt-leb (getD z (getD l x 0) 0) (getD z x 0) g)
 
 -- the facts, from what is seen
 pub record Higher (l z : List ℕ) (n x : ℕ) : Type 0 where
@@ -67,38 +77,32 @@ pub fault-up : fault ≡ up → ⊥
 fault-up e = let q : _≡_ {A = ℕ} 0 1 = cc in omega arith
 
 module _ (l z : List ℕ) (n x : ℕ) where
-  rest : Seen
-  rest = cond (eqb (getD l x 0) x) top (cond (leb n (getD l x 0)) fault (cond (leb (getD z (getD l x 0) 0) (getD z x 0)) fault up))
-
-  no-fault : (s : Seen) → (fault ≡ s → ⊥) → seen l z n x ≡ s → (x < n → Met z n x) × (rest ≡ s)
-  unfolding seen rest
+  no-fault : (s : Seen) → (fault ≡ s → ⊥) → seen l z n x ≡ s → (x < n → Met z n x) × (cond (eqb (getD l x 0) x) top (parent-seen l z n x) ≡ s)
+  unfolding seen parent-seen
   no-fault s h e =
       let q₁ = cond-else (ltb 512 n) fault _ s h e in
       let q₂ = cond-else (eqb (getD z x 0) 0) fault _ s h (q₁ .1) in
-      let q₃ = cond-else (ltb n (getD z x 0)) fault rest s h (q₂ .1) in
+      let q₃ = cond-else (ltb n (getD z x 0)) fault _ s h (q₂ .1) in
       let a = eqb-false (getD z x 0) 0 (q₂ .0) in
       (λ i. record { few = ltb-false 512 n (q₁ .0); inside = i; some = omega arith; fits = ltb-false n (getD z x 0) (q₃ .0) }, q₃ .1)
 
-  higher : rest ≡ up → Higher l z n x
-  unfolding rest
+  higher : cond (eqb (getD l x 0) x) top (parent-seen l z n x) ≡ up → Higher l z n x
+  unfolding parent-seen
   higher e =
       let q₁ = cond-else (eqb (getD l x 0) x) top _ up top-up e in
       let q₂ = cond-else (leb n (getD l x 0)) fault _ up fault-up (q₁ .1) in
       let q₃ = cond-else (leb (getD z (getD l x 0) 0) (getD z x 0)) fault up up fault-up (q₂ .1) in
       record { apart = eqb-false (getD l x 0) x (q₁ .0); inside = leb-false n (getD l x 0) (q₂ .0); grows = leb-false (getD z (getD l x 0) 0) (getD z x 0) (q₃ .0) }
 
-  own : rest ≡ top → getD l x 0 ≡ x
-  unfolding rest
-  own e = by-test (eqb (getD l x 0) x) refl e
-    where
-      by-test : (b : Bool) → eqb (getD l x 0) x ≡ b → cond b top (cond (leb n (getD l x 0)) fault (cond (leb (getD z (getD l x 0) 0) (getD z x 0)) fault up)) ≡ top → getD l x 0 ≡ x
-      by-test true t e = eqb-true (getD l x 0) x t
-      by-test false t e =
-          let q = cond-else (leb n (getD l x 0)) fault _ top fault-top e in
-          absurd (top-up (sym (cond-else (leb (getD z (getD l x 0) 0) (getD z x 0)) fault up top fault-top (q .1) .1)))
+  own : (b : Bool) → eqb (getD l x 0) x ≡ b → cond b top (parent-seen l z n x) ≡ top → getD l x 0 ≡ x
+  unfolding parent-seen
+  own true t e = eqb-true (getD l x 0) x t
+  own false t e =
+      let q = cond-else (leb n (getD l x 0)) fault _ top fault-top e in
+      absurd (top-up (sym (cond-else (leb (getD z (getD l x 0) 0) (getD z x 0)) fault up top fault-top (q .1) .1)))
 
   pub at-top : x < n → seen l z n x ≡ top → Met z n x × (getD l x 0 ≡ x)
-  at-top i e = let q = no-fault top fault-top e in (q .0 i, own (q .1))
+  at-top i e = let q = no-fault top fault-top e in (q .0 i, own (eqb (getD l x 0) x) refl (q .1))
 
   pub at-up : seen l z n x ≡ up → (x < n → Met z n x) × Higher l z n x
   at-up e = let q = no-fault up fault-up e in (q .0, higher (q .1))

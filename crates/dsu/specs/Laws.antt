@@ -59,6 +59,7 @@ pub record FindLaw (d : DSU) (x : ℕ) (r : FindAnswer) : Type 0 where
   pub is-n : r .sets .n ≡ d .n
   pub valid : Valid (r .sets)
   pub kept : (y : ℕ) → y < d .n → classOf (r .sets) y ≡ classOf d y
+  pub as-many : (k : ℕ) → Classes (Same d) (d .n) k → Classes (Same (r .sets)) (d .n) k
 
 -- r is a `union` of x and y in d: their classes are one, and no other changed; there is one class fewer where they were apart
 pub record UnionLaw (d : DSU) (x y : ℕ) (r : Answer) : Type 0 where

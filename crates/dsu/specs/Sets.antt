@@ -1,5 +1,6 @@
--- What `new`, `find` and `union` answer, and the sets afterwards, on every value of the struct: `repr` has each element's parent, `size` the
--- size of its class, n is the number of elements. After a refusal the sets are as they were.
+-- What `new`, `find` and `union` answer, and the sets afterwards, on every value of the struct: `repr` has each element's parent,
+-- `size` the size of its class, and n is the number of elements. The refusal `Element` is document 01's 23, `JoinSets` its 24.
+-- After a refusal the sets are as they were.
 use Prim.Native.Nat.{ℕ, zero, suc, _+_}
 use mathlib.Core.Bool.{cond}
 use mathlib.Core.List.{List, [], _∷_, _++_}

@@ -41,8 +41,8 @@ fn wide(x: u32) -> usize
     x as usize
 }
 
-// The representative of x, whose size was tried; each element passed points at it afterwards. The arrays are lent, so that
-// a call that is 512 deep copies none of them.
+// The representative of x, an element with a size as it should be; each element passed points at it afterwards. A broken
+// value makes this 512 calls deep, so the arrays are lent and none is copied.
 fn find_in(repr: &mut [u32; 512], size: &[u32; 512], n: usize, x: usize) -> Found
     requires { ⌜ Met (now size) n x ⌝ }
     ensures { λ r. ⌜ _≡_ {A = Found × List ℕ} (r, now (repr .exit)) (climbed (now (repr .entry)) (way (now (repr .entry)) (now (size .entry)) n x)) ⌝ }
@@ -71,7 +71,7 @@ fn find_in(repr: &mut [u32; 512], size: &[u32; 512], n: usize, x: usize) -> Foun
     Found::Root(root)
 }
 
-// The same of any x: 23 where x is outside, then 24.
+// The same of any x: 23 is sought first, then 24.
 fn find_from(repr: &mut [u32; 512], size: &[u32; 512], n: usize, x: usize) -> Found
     ensures { λ r. ⌜ _≡_ {A = Found × List ℕ} (r, now (repr .exit)) (answered (now (repr .entry)) (now (size .entry)) n x) ⌝ }
 {
@@ -91,7 +91,7 @@ fn find_from(repr: &mut [u32; 512], size: &[u32; 512], n: usize, x: usize) -> Fo
     find_in(repr, size, n, x)
 }
 
-// The root b put under the root a.
+// The root b put under the root a, in sets with the parents repr.
 fn put_under(sets: DSU, mut repr: [u32; 512], a: u32, b: u32) -> Answer
     requires { ⌜ Roots (sets .size) (sets .n) a b ⌝ }
     ensures { λ r. ⌜ r ≡ under sets repr a b ⌝ }
@@ -111,7 +111,7 @@ fn put_under(sets: DSU, mut repr: [u32; 512], a: u32, b: u32) -> Answer
     }
 }
 
-// Two roots joined by size; repr has the parents after both were found.
+// Two roots joined by size; on equal sizes the second joins the first. repr has the parents after both were found.
 fn join_roots(sets: DSU, repr: [u32; 512], a: u32, b: u32) -> Answer
     requires { ⌜ Roots (sets .size) (sets .n) a b ⌝ }
     ensures { λ r. ⌜ r ≡ join sets repr a b ⌝ }

@@ -8,7 +8,7 @@ use dsu::DSU;
 use dsu::FindAnswer;
 use dsu::Found;
 use dsu::Outcome;
-ghost use Prim.Native.Nat.{_≤_, _<_};
+ghost use Prim.Native.Nat.{_≤_};
 ghost use mathlib.Core.Path.{_≡_};
 
 fn wide(x: u32) -> usize
