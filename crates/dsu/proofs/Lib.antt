@@ -1,0 +1,12 @@
+-- The laws of the join sets, and what the functions' proofs cite.
+pub mod Ways
+pub mod Finding
+pub mod Joining
+pub mod Fresh
+pub mod Count
+pub mod Leads
+pub mod Keep
+pub mod Merge
+pub mod Classes
+pub mod Laws
+pub mod Refusals

@@ -1,0 +1,110 @@
+-- What `new`, `find` and `union` answer, and the sets afterwards, on every value of the struct: `repr` has each element's parent,
+-- `size` the size of its class, and n is the number of elements. The refusal `Element` is document 01's 23, `JoinSets` its 24.
+-- After a refusal the sets are as they were.
+use Prim.Native.Nat.{ℕ, zero, suc, _+_}
+use mathlib.Core.Bool.{cond}
+use mathlib.Core.List.{List, [], _∷_, _++_}
+use lib.Dec.{leb, ltb, eqb}
+use lib.ListN.{getD, set, replicate}
+use Rattle.refusal.specs.declared.StateRefusal.{StateRefusal}
+use Rattle.refusal.specs.declared.StateRefusal.the-variants.{Element, JoinSets}
+use Rattle.dsu.specs.declared.DSU.{DSU}
+use Rattle.dsu.specs.declared.Found.the-variants.{Root}
+use Rattle.dsu.specs.declared.Found.the-variants as found
+use Rattle.dsu.specs.declared.FindAnswer.{FindAnswer}
+use Rattle.dsu.specs.declared.Outcome.the-variants.{Done}
+use Rattle.dsu.specs.declared.Outcome.the-variants as outcome
+use Rattle.dsu.specs.declared.Answer.{Answer}
+
+-- what is seen at an element on the way to its representative: it is its own parent, it has another one, or something is broken
+pub data Seen : Type 0 where
+  top up fault : Seen
+
+-- broken are: n over 512; a size met that is 0 or over n; a parent outside; a parent's size that is not larger
+unfoldable pub seen : List ℕ → List ℕ → ℕ → ℕ → Seen
+seen repr size n x =
+    cond (ltb 512 n) fault
+    (cond (eqb (getD size x 0) 0) fault
+    (cond (ltb n (getD size x 0)) fault
+    (cond (eqb (getD repr x 0) x) top
+    (cond (leb n (getD repr x 0)) fault
+    (cond (leb (getD size (getD repr x 0) 0) (getD size x 0)) fault up)))))
+
+-- the end of the way: a fault, or the representative and the parents afterwards
+pub data Way : Type 0 where
+  broken : Way
+  reached : ℕ → List ℕ → Way
+
+-- the parent's way, with x made to point at the representative
+abbrev pub point : ℕ → Way → Way
+point x broken = broken
+point x (reached a repr) = reached a (set repr x a)
+
+abbrev pub onward : ℕ → List ℕ → Seen → Way → Way
+onward x repr top above = reached x repr
+onward x repr up above = point x above
+onward x repr fault above = broken
+
+-- the way from x. The first number bounds the steps; sizes grow on the way, so `suc n` is enough
+unfoldable pub walk : ℕ → List ℕ → List ℕ → ℕ → ℕ → Way
+walk zero repr size n x = broken
+walk (suc k) repr size n x = let above = walk k repr size n (getD repr x 0) in onward x repr (seen repr size n x) above
+
+unfoldable pub way : List ℕ → List ℕ → ℕ → ℕ → Way
+way repr size n x = walk (suc n) repr size n x
+
+-- the sets d with other parents and sizes
+abbrev pub changed : DSU → List ℕ → List ℕ → DSU
+changed d repr size = record { repr = repr; size = size; n = d .n }
+
+-- `find`: 23 for an element outside, 24 where the way is broken, else the representative
+abbrev pub foundBy : DSU → Way → FindAnswer
+foundBy d broken = record { found = found.Refused JoinSets; sets = d }
+foundBy d (reached a repr) = record { found = Root a; sets = changed d repr (d .size) }
+
+unfoldable pub findOf : DSU → ℕ → FindAnswer
+findOf d x =
+    cond (leb (d .n) x) (record { found = found.Refused Element; sets = d })
+    (foundBy d (way (d .repr) (d .size) (d .n) x))
+
+abbrev pub refuse : DSU → StateRefusal → Answer
+refuse d r = record { outcome = outcome.Refused r; sets = d }
+
+-- the root b put under the root a, whose size is now that of both
+abbrev pub under : DSU → List ℕ → ℕ → ℕ → Answer
+under d repr a b = record { outcome = Done; sets = changed d (set repr b a) (set (d .size) a (getD (d .size) a 0 + getD (d .size) b 0)) }
+
+-- two roots joined by size; on equal sizes the second joins the first. 24 where the joined size would be over n
+unfoldable pub join : DSU → List ℕ → ℕ → ℕ → Answer
+join d repr a b =
+    cond (eqb a b) (record { outcome = Done; sets = changed d repr (d .size) })
+    (cond (ltb (d .n) (getD (d .size) a 0 + getD (d .size) b 0)) (refuse d JoinSets)
+    (cond (ltb (getD (d .size) a 0) (getD (d .size) b 0)) (under d repr b a) (under d repr a b)))
+
+abbrev pub joinSecond : DSU → ℕ → Way → Answer
+joinSecond d a broken = refuse d JoinSets
+joinSecond d a (reached b repr) = join d repr a b
+
+abbrev pub joinFirst : DSU → ℕ → Way → Answer
+joinFirst d y broken = refuse d JoinSets
+joinFirst d y (reached a repr) = joinSecond d a (way repr (d .size) (d .n) y)
+
+-- `union`: 23 for either element before 24; then the way of x, that of y, and the join
+unfoldable pub unionOf : DSU → ℕ → ℕ → Answer
+unionOf d x y =
+    cond (leb (d .n) x) (refuse d Element)
+    (cond (leb (d .n) y) (refuse d Element)
+    (joinFirst d y (way (d .repr) (d .size) (d .n) x)))
+
+-- 0, 1, .., n - 1
+unfoldable pub upTo : ℕ → List ℕ
+upTo zero = []
+upTo (suc n) = upTo n ++ n ∷ []
+
+-- n elements, each its own parent, in a class of size 1
+unfoldable pub fresh : ℕ → DSU
+fresh n = record { repr = upTo 512; size = replicate 512 1; n = n }
+
+-- `new`: 23, with sets of no elements, for over 512
+unfoldable pub newOf : ℕ → Answer
+newOf n = cond (ltb 512 n) (refuse (fresh 0) Element) (record { outcome = Done; sets = fresh n })

@@ -1,0 +1,214 @@
+// Join sets by value: each element's parent, the size of its class, and the number of elements.
+ghost use mathlib.Core.Path.{_≡_};
+ghost use mathlib.Core.List.{List};
+ghost use Prim.Native.Nat.{ℕ};
+ghost use Rattle.dsu.specs.declared.Found.{Found};
+ghost use Rattle.dsu.specs.Sets.{way, newOf, findOf, unionOf, join, under};
+ghost use Rattle.dsu.specs.Steps.{Met, Roots, answered, climbed};
+use refusal::StateRefusal;
+
+pub struct DSU {
+    pub repr: [u32; 512],
+    pub size: [u32; 512],
+    pub n: usize,
+}
+
+// What `find` answers, and the sets afterwards.
+pub enum Found {
+    Root(u32),
+    Refused(StateRefusal),
+}
+
+pub struct FindAnswer {
+    pub found: Found,
+    pub sets: DSU,
+}
+
+// What `new` and `union` answer, and the sets afterwards.
+pub enum Outcome {
+    Done,
+    Refused(StateRefusal),
+}
+
+pub struct Answer {
+    pub outcome: Outcome,
+    pub sets: DSU,
+}
+
+fn wide(x: u32) -> usize
+    ensures { λ r. ⌜ r ≡ x ⌝ }
+{
+    x as usize
+}
+
+// The representative of x, an element with a size as it should be; each element passed points at it afterwards. A broken
+// value makes this 512 calls deep, so the arrays are lent and none is copied.
+fn find_in(repr: &mut [u32; 512], size: &[u32; 512], n: usize, x: usize) -> Found
+    requires { ⌜ Met (now size) n x ⌝ }
+    ensures { λ r. ⌜ _≡_ {A = Found × List ℕ} (r, now (repr .exit)) (climbed (now (repr .entry)) (way (now (repr .entry)) (now (size .entry)) n x)) ⌝ }
+{
+    let parent = repr[x];
+    let p = wide(parent);
+    if p == x {
+        return Found::Root(parent);
+    }
+    if n <= p {
+        return Found::Refused(StateRefusal::JoinSets);
+    }
+    let own = size[x];
+    let above = size[p];
+    if above <= own {
+        return Found::Refused(StateRefusal::JoinSets);
+    }
+    if n < wide(above) {
+        return Found::Refused(StateRefusal::JoinSets);
+    }
+    let f = find_in(repr, size, n, p);
+    let Found::Root(root) = f else {
+        return Found::Refused(StateRefusal::JoinSets);
+    };
+    repr[x] = root;
+    Found::Root(root)
+}
+
+// The same of any x: 23 is sought first, then 24.
+fn find_from(repr: &mut [u32; 512], size: &[u32; 512], n: usize, x: usize) -> Found
+    ensures { λ r. ⌜ _≡_ {A = Found × List ℕ} (r, now (repr .exit)) (answered (now (repr .entry)) (now (size .entry)) n x) ⌝ }
+{
+    if n <= x {
+        return Found::Refused(StateRefusal::Element);
+    }
+    if 512 < n {
+        return Found::Refused(StateRefusal::JoinSets);
+    }
+    let own = wide(size[x]);
+    if own == 0 {
+        return Found::Refused(StateRefusal::JoinSets);
+    }
+    if n < own {
+        return Found::Refused(StateRefusal::JoinSets);
+    }
+    find_in(repr, size, n, x)
+}
+
+// The root b put under the root a, in sets with the parents repr.
+fn put_under(sets: DSU, mut repr: [u32; 512], a: u32, b: u32) -> Answer
+    requires { ⌜ Roots (sets .size) (sets .n) a b ⌝ }
+    ensures { λ r. ⌜ r ≡ under sets repr a b ⌝ }
+{
+    let mut size = sets.size;
+    let i = wide(a);
+    let j = wide(b);
+    size[i] = size[i] + size[j];
+    repr[j] = a;
+    Answer {
+        outcome: Outcome::Done,
+        sets: DSU {
+            repr,
+            size,
+            n: sets.n,
+        },
+    }
+}
+
+// Two roots joined by size; on equal sizes the second joins the first. repr has the parents after both were found.
+fn join_roots(sets: DSU, repr: [u32; 512], a: u32, b: u32) -> Answer
+    requires { ⌜ Roots (sets .size) (sets .n) a b ⌝ }
+    ensures { λ r. ⌜ r ≡ join sets repr a b ⌝ }
+{
+    let size = sets.size;
+    let n = sets.n;
+    if a == b {
+        return Answer {
+            outcome: Outcome::Done,
+            sets: DSU { repr, size, n },
+        };
+    }
+    let first = size[wide(a)];
+    let second = size[wide(b)];
+    if n < wide(first) + wide(second) {
+        return Answer {
+            outcome: Outcome::Refused(StateRefusal::JoinSets),
+            sets,
+        };
+    }
+    if first < second {
+        return put_under(sets, repr, b, a);
+    }
+    put_under(sets, repr, a, b)
+}
+
+impl DSU {
+    // n elements, each alone in its class. Where n is over 512 the sets that come back have no elements.
+    pub fn new(n: usize) -> Answer
+        ensures { λ r. ⌜ r ≡ newOf n ⌝ }
+    {
+        let mut repr = [0u32; 512];
+        let size = [1u32; 512];
+        let mut i: u32 = 0;
+        while i < 512 {
+            repr[wide(i)] = i;
+            i += 1;
+        }
+        if 512 < n {
+            return Answer {
+                outcome: Outcome::Refused(StateRefusal::Element),
+                sets: DSU { repr, size, n: 0 },
+            };
+        }
+        Answer {
+            outcome: Outcome::Done,
+            sets: DSU { repr, size, n },
+        }
+    }
+
+    // The representative of x; each element passed points at it afterwards.
+    pub fn find(self, x: usize) -> FindAnswer
+        ensures { λ r. ⌜ r ≡ findOf self x ⌝ }
+    {
+        let mut repr = self.repr;
+        let size = self.size;
+        let n = self.n;
+        let found = find_from(&mut repr, &size, n, x);
+        FindAnswer {
+            found,
+            sets: DSU { repr, size, n },
+        }
+    }
+
+    // The classes of x and y made one.
+    pub fn union(self, x: usize, y: usize) -> Answer
+        ensures { λ r. ⌜ r ≡ unionOf self x y ⌝ }
+    {
+        let n = self.n;
+        if n <= x {
+            return Answer {
+                outcome: Outcome::Refused(StateRefusal::Element),
+                sets: self,
+            };
+        }
+        if n <= y {
+            return Answer {
+                outcome: Outcome::Refused(StateRefusal::Element),
+                sets: self,
+            };
+        }
+        let mut repr = self.repr;
+        let size = self.size;
+        let f = find_from(&mut repr, &size, n, x);
+        let Found::Root(a) = f else {
+            return Answer {
+                outcome: Outcome::Refused(StateRefusal::JoinSets),
+                sets: self,
+            };
+        };
+        let g = find_from(&mut repr, &size, n, y);
+        let Found::Root(b) = g else {
+            return Answer {
+                outcome: Outcome::Refused(StateRefusal::JoinSets),
+                sets: self,
+            };
+        };
+        join_roots(self, repr, a, b)
+    }
+}
