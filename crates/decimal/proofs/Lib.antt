@@ -1,4 +1,3 @@
--- The laws of decimal digits and of written memory.
+-- The laws of decimal digits.
 pub mod Decimal
-pub mod Written
 pub mod Put

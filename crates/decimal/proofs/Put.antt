@@ -7,9 +7,9 @@ use mir.Syntax.{w64}
 use mir.Val.{Fits}
 use borrow.Author.Needs.{needs}
 use Rattle.decimal.specs.Decimal.{digits}
-use Rattle.decimal.specs.Written.{Written}
+use Rattle.lists.specs.Written.{Written}
 use Rattle.decimal.proofs.Decimal.{digits-one, digits-more, length-more, length-some, length-word}
-use Rattle.decimal.proofs.Written.{written-one, written-more, written-length}
+use Rattle.lists.proofs.Written.{written-one, written-more, written-length}
 
 module _ (l : List ℕ) (at x : ℕ) where
   pub one-room : at + length (digits x) ≤ length l → at < length l

@@ -1,4 +1,3 @@
--- The definitions of decimal digits, and of bytes written into lent memory.
+-- The definition of decimal digits.
 pub mod Decimal
-pub mod Written
 pub mod Examples

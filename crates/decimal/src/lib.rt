@@ -2,7 +2,7 @@
 ghost use Prim.Native.Nat.{_+_, _≤_};
 ghost use lib.ListN.{length};
 ghost use Rattle.decimal.specs.Decimal.{digits};
-ghost use Rattle.decimal.specs.Written.{Written};
+ghost use Rattle.lists.specs.Written.{Written};
 
 // Writes the decimal digits of x from at on, where there is room for just these, and answers the place behind.
 fn put_digits(out: &mut [u8], at: usize, x: u32) -> usize

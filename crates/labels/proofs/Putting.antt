@@ -11,9 +11,9 @@ use mir.Val.{Fits}
 use borrow.Author.Needs.{needs}
 use Rattle.lists.proofs.Parts.{take-more}
 use Rattle.decimal.specs.Decimal.{digits}
-use Rattle.decimal.specs.Written.{Written}
+use Rattle.lists.specs.Written.{Written}
 use Rattle.decimal.proofs.Decimal.{length-word}
-use Rattle.decimal.proofs.Written.{written-none, written-append, written-cons, written-more, written-length}
+use Rattle.lists.proofs.Written.{written-none, written-append, written-cons, written-more, written-length}
 use Rattle.labels.specs.Labels.{entry}
 use Rattle.labels.specs.Forms.{pairLabel}
 

@@ -10,8 +10,8 @@ use borrow.Author.Needs.{needs}
 use Rattle.lists.specs.Lists.{tabulate}
 use Rattle.lists.proofs.Lists.{length-tabulate, tabulate-end}
 use Rattle.lists.proofs.Parts.{part-all}
-use Rattle.decimal.specs.Written.{Written}
-use Rattle.decimal.proofs.Written.{written-length}
+use Rattle.lists.specs.Written.{Written}
+use Rattle.lists.proofs.Written.{written-length}
 use Rattle.labels.specs.Labels.{entry, writeEntries, countBytes, writeLabels, readLabels, labelCount, labelsFault, LabelList, AllLabels}
 use Rattle.labels.specs.Forms.{numberedLabel, sinkLabel, numbered}
 use Rattle.labels.proofs.Labels.{sound, length-read, entries-read, labels-read, size-read, write-read}

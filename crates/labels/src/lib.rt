@@ -5,7 +5,7 @@ ghost use Prim.Native.Nat.{_+_, _-_, _≤_, _<_};
 ghost use mathlib.Core.List.{[], _∷_, _++_};
 ghost use lib.ListN.{length, getD, take, drop, set};
 ghost use Rattle.decimal.specs.Decimal.{digits};
-ghost use Rattle.decimal.specs.Written.{Written};
+ghost use Rattle.lists.specs.Written.{Written};
 ghost use Rattle.labels.specs.Labels.{entriesOk, labelsFault, LabelList, labelCount, labelPlace, readLabels, writeLabels, entry, countBytes, sameLabel};
 ghost use Rattle.labels.specs.Forms.{numberedLabel, pairLabel, sinkLabel, numbered};
 ghost use Rattle.labels.specs.Checked.{checkedNumber};

@@ -1,2 +1,3 @@
 -- The definitions on lists that the other crates share.
 pub mod Lists
+pub mod Written

@@ -16,7 +16,6 @@ ghost use Rattle.words.specs.Epsilons.{Fresh, SelvesAdded, Named, Epsilo
 ghost use Rattle.sheets.specs.Accepted.{Accepted};
 ghost use Rattle.utf8.specs.Utf8.{decode, wellformed};
 ghost use Rattle.words.specs.Acceptance.{acceptsWords, acceptsText, answerOf, pointsOf};
-
 use refusal::InputRefusal;
 use sheets::Checked;
 

@@ -1,7 +1,7 @@
 -- `copy` meets its contract: each turn writes one byte more.
 use Prim.Native.Nat.{_-_, _≤_}
 use lib.ListN.{length, take}
-use Rattle.decimal.specs.Written.{Written}
+use Rattle.lists.specs.Written.{Written}
 use Rattle.labels.proofs.Putting.{copyLaws}
 use Rattle.labels.proofs.copy.Statement.{statement}
 use Rattle.labels.proofs.copy.Tie as tie

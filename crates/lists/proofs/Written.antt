@@ -5,8 +5,8 @@ use mathlib.Core.Path.{_≡_, refl, _∙_, ap}
 use native.Mathlib.Omega.{arith}
 use lib.ListN.{length, set, length-append}
 use lib.Seq.{sets, length-sets}
 use Rattle.lists.proofs.Parts.{sets-append}
-use Rattle.decimal.specs.Written.{Written}
+use Rattle.lists.specs.Written.{Written}
 
 -- nothing is written
 pub written-none : (l : List ℕ) (i : ℕ) → Written l i [] l i

@@ -1,0 +1,49 @@
+-- What the answers of an operation say of its outputs: the laws by which operations are proved.
+use Prim.Native.Nat.{ℕ, suc, _+_, _≤_}
+use mathlib.Core.Bool.{Bool, true, false, cond, _||_}
+use mathlib.Core.List.{List, [], _∷_, _++_}
+use mathlib.Core.Logic.{_⊎_, inl, inr, ⊎-elim}
+use mathlib.Core.Path.{_≡_, refl, sym, _∙_, ap}
+use native.Mathlib.Omega.{arith}
+use borrow.Author.Tests.{ltb-false}
+use lib.Dec.{ltb}
+use lib.ListN.{length}
+use lib.Seq.{sets}
+use Rattle.lists.specs.Written.{Written}
+use Rattle.lists.proofs.Tests.{test, or-cases, or-false}
+use Rattle.automata.specs.Automaton.{Automaton}
+use Rattle.labels.specs.Labels.{writeLabels}
+use Rattle.refusal.specs.Answer.{Answer, refused, given}
+use Rattle.sheets.specs.Sheet.{write}
+use Rattle.output.specs.declared.Made.the-variants.{Lengths}
+use Rattle.output.specs.Made.{outputOf}
+use Rattle.output.specs.Output.{Pattern, outputs, roomFirst, sheetSize, labelsSize}
+
+-- a sheet and its labels written at the fronts of the outputs
+pub made-given : (o l o′ l′ : List ℕ) (w b : ℕ) (P : Pattern) → Written o 0 (write (P .automaton)) o′ w → Written l 0 (writeLabels (P .labels)) l′ b → outputOf (Lengths w b) o′ l′ ≡ outputs o l (given P)
+unfolding outputs
+made-given o l o′ l′ w b P p q =
+    let m : w ≡ length (write (P .automaton)) = omega (arith, p .behind) in
+    let n : b ≡ length (writeLabels (P .labels)) = omega (arith, q .behind) in
+    rw (p .stored, m, q .stored, n)
+
+-- the answer of `lacks_room`
+module _ {X : Type 0} (o l : List ℕ) (a : Answer X) (r : Bool) (e : r ≡ (ltb (length o) 10500 || ltb (length l) 16642)) where
+  pub room-lacking : r ≡ true → roomFirst o l a ≡ refused 20
+  unfolding roomFirst
+  room-lacking h =
+      ⊎-elim (λ (t : ltb (length o) 10500 ≡ true). rw t)
+      (λ (f : ltb (length o) 10500 ≡ false).
+      ⊎-elim (λ (t : ltb (length o) 10500 ≡ true). rw t) (λ (t : ltb (length l) 16642 ≡ true). rw (f, t)) (or-cases (ltb (length o) 10500) _ (sym e ∙ h)))
+      (test (ltb (length o) 10500))
+
+  pub room-enough : r ≡ false → roomFirst o l a ≡ a
+  unfolding roomFirst
+  room-enough h = let f = or-false (ltb (length o) 10500) _ (sym e ∙ h) in rw (f .0, f .1)
+
+module _ (o l : List ℕ) (r : Bool) (e : r ≡ (ltb (length o) 10500 || ltb (length l) 16642)) (h : r ≡ false) where
+  pub room-words : 10500 ≤ length o
+  room-words = ltb-false _ _ (or-false (ltb (length o) 10500) _ (sym e ∙ h) .0)
+
+  pub room-bytes : 16642 ≤ length l
+  room-bytes = ltb-false _ _ (or-false (ltb (length o) 10500) _ (sym e ∙ h) .1)

@@ -1,0 +1,3 @@
+-- The laws of outputs.
+pub mod Writing
+pub mod Answers

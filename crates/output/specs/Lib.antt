@@ -1,0 +1,3 @@
+-- The outputs of operations.
+pub mod Output
+pub mod Made

@@ -1,0 +1,49 @@
+-- What an operation leaves in the two lent outputs (document 01, "The sheet" and "Labels"): a sheet at the front of one, its
+-- labels at the front of the other, and all else unchanged; after a refusal everything is.
+use Prim.Native.Nat.{ℕ}
+use mathlib.Core.Bool.{cond}
+use mathlib.Core.List.{List}
+use lib.Dec.{ltb}
+use lib.ListN.{length}
+use lib.Seq.{sets}
+use Rattle.automata.specs.Automaton.{Automaton}
+use Rattle.labels.specs.Labels.{writeLabels}
+use Rattle.refusal.specs.Answer.{Answer, refused, given}
+use Rattle.sheets.specs.Sheet.{write}
+
+-- an automaton and a label for each of its states
+pub record Pattern : Type 0 where
+  pub automaton : Automaton
+  pub labels : List (List ℕ)
+
+-- how many words and how many bytes an output takes
+pub record Lengths : Type 0 where
+  pub words : ℕ
+  pub bytes : ℕ
+
+-- the answer with the contents of the two outputs
+pub record Output : Type 0 where
+  pub answer : Answer Lengths
+  pub sheet : List ℕ
+  pub labels : List ℕ
+
+-- the outputs o and l after an answer
+unfoldable pub outputs : List ℕ → List ℕ → Answer Pattern → Output
+outputs o l (refused n) = record { answer = refused n; sheet = o; labels = l }
+outputs o l (given P) =
+    record {
+      answer = given (record { words = length (write (P .automaton)); bytes = length (writeLabels (P .labels)) });
+      sheet = sets o 0 (write (P .automaton));
+      labels = sets l 0 (writeLabels (P .labels));
+    }
+
+-- the fixed sizes of the outputs
+abbrev pub sheetSize : ℕ
+sheetSize = 10500
+
+abbrev pub labelsSize : ℕ
+labelsSize = 16642
+
+-- 20 where an output is too short, or else the answer a
+unfoldable pub roomFirst : {X : Type 0} → List ℕ → List ℕ → Answer X → Answer X
+roomFirst o l a = cond (ltb (length o) sheetSize) (refused 20) (cond (ltb (length l) labelsSize) (refused 20) a)
