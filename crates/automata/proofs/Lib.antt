@@ -1,2 +1,3 @@
--- The laws of records.
+-- The laws of records and of their order.
 pub mod Records
+pub mod Ordered

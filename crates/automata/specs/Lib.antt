@@ -2,3 +2,4 @@
 pub mod Automaton
 pub mod WellFormed
 pub mod Records
+pub mod Ordered

@@ -22,8 +22,8 @@ lastSymbol = 4294967295
 
 -- the order of a dictionary, on lists of equal length
 pub data Lex : List ℕ → List ℕ → Type 0 where
-  less : {a b : ℕ} {v w : List ℕ} → a < b → Lex (a ∷ v) (b ∷ w)
-  then : {a b : ℕ} {v w : List ℕ} → a ≡ b → Lex v w → Lex (a ∷ v) (b ∷ w)
+  here : {a b : ℕ} {v w : List ℕ} → a < b → Lex (a ∷ v) (b ∷ w)
+  later : {a b : ℕ} {v w : List ℕ} → a ≡ b → Lex v w → Lex (a ∷ v) (b ∷ w)
 
 abbrev pub Before : Transition → Transition → Type 0
 Before d e = Lex (wordsOf d) (wordsOf e)

@@ -29,10 +29,10 @@ ascending-map h (Ascending.more g a) =
     Ascending.more (λ y m. h _ y (List·Memᴰ·head refl) (List·Memᴰ·tail m) (g y m)) (ascending-map (λ x y m n. h x y (List·Memᴰ·tail m) (List·Memᴰ·tail n)) a)
 
 rises : (d e : Transition) → d .from ≡ e .from → d .kind ≡ e .kind → Before d e → d .first ≤ e .first
-rises d e f k (Lex.less h) = absurd (omega arith)
-rises d e f k (Lex.then p (Lex.less h)) = absurd (omega arith)
-rises d e f k (Lex.then p (Lex.then q (Lex.less h))) = omega arith
-rises d e f k (Lex.then p (Lex.then q (Lex.then r h))) = omega arith
+rises d e f k (Lex.here h) = absurd (omega arith)
+rises d e f k (Lex.later p (Lex.here h)) = absurd (omega arith)
+rises d e f k (Lex.later p (Lex.later q (Lex.here h))) = omega arith
+rises d e f k (Lex.later p (Lex.later q (Lex.later r h))) = omega arith
 
 -- the ranges of one state are sorted, if its transitions ascend and are sound
 pub sorted-ranges : (q : ℕ) (es : List Transition) → Ascending Before es → ((e : Transition) → e ∈ es → e .from ≡ q) → ((e : Transition) → e ∈ es → Sound e)

@@ -13,6 +13,7 @@ use lib.ListN.{length, getD, take, drop, drop-of-length-le, length-drop, length-
 use Rattle.lists.proofs.Parts.{drop-at, part-all}
 use Rattle.lists.proofs.Tests.{tests}
 use Rattle.automata.specs.Automaton.{Transition}
+use Rattle.automata.specs.Ordered.{less}
 use Rattle.automata.specs.Records.{wordsOf, readRecords, recordAt}
 use Rattle.automata.proofs.Records.{records-at, records-end, part-record}
 use Rattle.refusal.specs.declared.InputRefusal.{InputRefusal}
@@ -22,7 +23,7 @@ use Rattle.refusal.specs.Number.{inputNumber}
 use Rattle.sheets.specs.declared.Checked.{Checked}
 use Rattle.sheets.specs.declared.Checked.the-variants.{Accepted, Refused}
 use Rattle.sheets.specs.Checked.{checkedNumber, sheetFirst}
-use Rattle.sheets.specs.Fault.{acceptWords, less, isBad, recordFault, recordsFault, orElse, transitionsFault, statesFault, fault}
+use Rattle.sheets.specs.Fault.{acceptWords, isBad, recordFault, recordsFault, orElse, transitionsFault, statesFault, fault}
 
 -- the accept words from i on decide
 module _ (s : List ℕ) (i : ℕ) (e : acceptWords s ≡ acceptWords (drop i s)) where

@@ -15,30 +15,13 @@ use Rattle.lists.specs.Lists.{_∈_, Ascending, none, more}
 use Rattle.lists.proofs.Tests.{test, or-cases, and-parts, and-both, or-left, or-right, or-false, cond-no, cond-yes}
 use Rattle.automata.specs.Automaton.{Transition, Automaton, InBounds}
 use Rattle.automata.specs.Records.{wordsOf, readRecords, writeRecords}
-use Rattle.automata.specs.WellFormed.{Lex, less, then, Before, Sound, WellFormed, Fits}
+use Rattle.automata.specs.Ordered.{less}
+use Rattle.automata.specs.WellFormed.{Before, Sound, WellFormed, Fits}
+use Rattle.automata.proofs.Ordered.{less-lex, lex-less, lex-trans}
 use Rattle.automata.proofs.Records.{read-write, write-read, length-write, length-read}
 use Rattle.sheets.specs.Sheet.{stateCount, recordCount, recordsAt, read, write}
 use Rattle.sheets.specs.Accepted.{Accepted}
-use Rattle.sheets.specs.Fault
 use Rattle.sheets.specs.Fault.{acceptWords, orElse, isBad, recordFault, recordsFault, transitionsFault, statesFault, fault}
-
--- the two orders of a dictionary, as a test and as a relation
-less-lex : (v w : List ℕ) → length v ≡ length w → Fault.less v w ≡ true → Lex v w
-less-lex v [] h e = absurd (true≢false (sym e))
-less-lex [] (y ∷ w) h e = absurd (omega arith)
-less-lex (x ∷ v) (y ∷ w) h e =
-    ⊎-elim (λ t. less (ltb-true x y t)) (λ t. let p = and-parts (eqb x y) (Fault.less v w) t in then (eqb-true x y (p .0)) (less-lex v w (omega arith) (p .1)))
-    (or-cases (ltb x y) _ e)
-
-lex-less : {v w : List ℕ} → Lex v w → Fault.less v w ≡ true
-lex-less (less {a} {b} h) = or-left _ _ (lt-ltb a b h)
-lex-less (then {a} {b} h l) = or-right (ltb a b) _ (and-both _ _ (eq-eqb a b h) (lex-less l))
-
-lex-trans : {u v w : List ℕ} → Lex u v → Lex v w → Lex u w
-lex-trans (less {a} {b} h) (less {b = c} k) = let l : a < c = omega arith in less l
-lex-trans (less {a} {b} h) (then {b = c} k m) = let l : a < c = omega arith in less l
-lex-trans (then {a} {b} h l) (less {b = c} k) = let l : a < c = omega arith in less l
-lex-trans (then h l) (then k m) = then (h ∙ k) (lex-trans l m)
 
 orElse-zero : (f g : ℕ) → orElse f g ≡ 0 → (f ≡ 0) × (g ≡ 0)
 orElse-zero zero g e = (refl, e)
@@ -80,11 +63,11 @@ good-not n e g =
     (λ (t : eqb (e .kind) 0 ≡ false). rw t)
     (test (eqb (e .kind) 0)))
 
-record-pass : (n : ℕ) (before : List ℕ) (e : Transition) → recordFault n before e ≡ 0 → Good n e × (Fault.less before (wordsOf e) ≡ true)
+record-pass : (n : ℕ) (before : List ℕ) (e : Transition) → recordFault n before e ≡ 0 → Good n e × (less before (wordsOf e) ≡ true)
 unfolding recordFault
 record-pass n before e h =
     let p = cond-no (isBad n e) 4 _ h in
-    (bad-not n e (p .0), cond-yes (Fault.less before (wordsOf e)) 5 0 (p .1) .0)
+    (bad-not n e (p .0), cond-yes (less before (wordsOf e)) 5 0 (p .1) .0)
 
 -- records that pass are good, and ascend
 records-good : (n : ℕ) (before : List ℕ) (es : List Transition) → recordsFault n before es ≡ 0 → (e : Transition) → e ∈ es → Good n e
@@ -113,7 +96,7 @@ all-ascend n (e ∷ es) h = let r = records-ascend n e es (orElse-zero (recordFa
 
 -- and records that are good and ascend pass
 records-pass : (n : ℕ) (before : List ℕ) (es : List Transition) → ((e : Transition) → e ∈ es → Good n e) → Ascending Before es
-    → ((e : Transition) → e ∈ es → Fault.less before (wordsOf e) ≡ true) → recordsFault n before es ≡ 0
+    → ((e : Transition) → e ∈ es → less before (wordsOf e) ≡ true) → recordsFault n before es ≡ 0
 unfolding recordsFault recordFault
 records-pass n before [] g a l = refl
 records-pass n before (e ∷ es) g (more f a) l =

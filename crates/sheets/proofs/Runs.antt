@@ -17,7 +17,7 @@ use Rattle.lists.proofs.Parts.{part-all, sets-one}
 use Rattle.lists.proofs.Tests.{test}
 use Rattle.automata.specs.Automaton.{Transition, leaving}
 use Rattle.automata.specs.Records.{readRecords, writeRecords, recordAt}
-use Rattle.automata.specs.WellFormed.{Lex, less, then, Before, WellFormed}
+use Rattle.automata.specs.WellFormed.{Lex, here, later, Before, WellFormed}
 use Rattle.automata.proofs.Records.{records-at, records-end, read-drop, read-take, write-read, length-read}
 use Rattle.sheets.specs.Sheet.{stateCount, recordCount, recordsAt, read}
 use Rattle.sheets.specs.Accepted.{Accepted}
@@ -30,8 +30,8 @@ rising none = none
 rising (more {x} f a) = more (λ y m. front (f y m)) (rising a)
   where
     front : {y : Transition} → Before x y → x .from ≤ y .from
-    front (less h) = omega arith
-    front (then h l) = omega arith
+    front (here h) = omega arith
+    front (later h l) = omega arith
 
 below-none : (q : ℕ) (e : Transition) (es : List Transition) → q ≤ e .from → ((y : Transition) → y ∈ es → e .from ≤ y .from) → below q es ≡ 0
 unfolding below

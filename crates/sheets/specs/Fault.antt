@@ -5,6 +5,7 @@ use mathlib.Core.List.{List, [], _∷_}
 use lib.ListN.{length, take, drop}
 use lib.Dec.{leb, ltb, eqb}
 use Rattle.automata.specs.Automaton.{Transition}
+use Rattle.automata.specs.Ordered.{less}
 use Rattle.automata.specs.Records.{wordsOf, readRecords}
 use Rattle.automata.specs.WellFormed.{mostStates, mostTransitions, greatestAccept}
 
@@ -17,12 +18,6 @@ orElse (suc f) g = suc f
 abbrev pub acceptWords : List ℕ → Bool
 acceptWords [] = true
 acceptWords (x ∷ xs) = leb x greatestAccept && acceptWords xs
-
--- the order of a dictionary
-abbrev pub less : List ℕ → List ℕ → Bool
-less xs [] = false
-less [] (y ∷ ys) = true
-less (x ∷ xs) (y ∷ ys) = ltb x y || (eqb x y && less xs ys)
 
 -- kind over 1, a state index out of range, first above last, or an epsilon whose first or last is not 0
 unfoldable pub isBad : ℕ → Transition → Bool

@@ -6,11 +6,12 @@ ghost use Prim.Native.Nat.{_*_, _≤_, _<_};
 ghost use lib.ListN.{length};
 ghost use lib.Seq.{sets};
 ghost use Rattle.automata.specs.Automaton.{leaving};
+ghost use Rattle.automata.specs.Ordered.{less};
 ghost use Rattle.automata.specs.Records.{recordAt, readRecords, writeRecords};
 ghost use Rattle.sheets.specs.Accepted.{Accepted};
 ghost use Rattle.sheets.specs.Runs.{below, startsOf, Rising, RunAt};
 ghost use Rattle.sheets.specs.Sheet.{stateCount, read};
-ghost use Rattle.sheets.specs.Fault.{fault, statesFault, transitionsFault, recordsFault, recordFault, isBad, less, acceptWords};
+ghost use Rattle.sheets.specs.Fault.{fault, statesFault, transitionsFault, recordsFault, recordFault, isBad, acceptWords};
 ghost use Rattle.sheets.specs.Checked.{checkedNumber};
 use refusal::InputRefusal;
 

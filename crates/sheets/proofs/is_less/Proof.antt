@@ -2,7 +2,7 @@
 use Prim.Native.Nat.{_≤_, _-_}
 use mathlib.Core.Path.{_≡_}
 use lib.ListN.{length, drop}
-use Rattle.sheets.specs.Fault.{less}
+use Rattle.automata.specs.Ordered.{less}
 use Rattle.sheets.proofs.Checking.{lessLaws}
 use Rattle.sheets.proofs.is_less.Statement.{statement}
 use Rattle.sheets.proofs.is_less.Tie as tie
