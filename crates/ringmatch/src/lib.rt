@@ -3,7 +3,6 @@
 ghost use mathlib.Core.Path.{_≡_};
 ghost use Rattle.ringmatch.specs.Reply.{reply, replied};
 ghost use Rattle.words.specs.Acceptance.{acceptsWords, acceptsText, answerOf};
-
 use words::Acceptance;
 
 // The number of an acceptance's refusal, or 0 with the answer stored.
