@@ -17,4 +17,3 @@ pub mod KindByRuns
 pub mod Laws
 pub mod Answers
 pub mod Theorems
-pub mod Samples
