@@ -3,7 +3,7 @@
 use super::Case;
 use crate::expect::{self, Verdict};
 use crate::generate::{Rng, labels, pairs, patterns, sheets, tiny, words};
-use crate::oracle::{self, DSU};
+use crate::oracle;
 use crate::paper;
 use crate::sheet::{Sheet, write_labels};
 
@@ -11,7 +11,7 @@ use crate::sheet::{Sheet, write_labels};
 type Draw = fn(&mut Rng) -> Case;
 
 /// The kinds by name; `compare/README.md` has their formats.
-pub const KINDS: [(&str, Draw); 20] = [
+pub const KINDS: [(&str, Draw); 19] = [
     ("sheets", sheets),
     ("labels", labels),
     ("accepts", accepts),
@@ -20,7 +20,6 @@ pub const KINDS: [(&str, Draw); 20] = [
     ("closures", closures),
     ("parts", parts),
     ("determinize", determinize),
-    ("dsu", dsu),
     ("product", product),
     ("totalize", |rng| operation(rng, expect::totalize)),
     ("complement", |rng| operation(rng, expect::complement)),
@@ -170,24 +169,6 @@ fn determinize(rng: &mut Rng) -> Case {
         _ => few_words(rng),
     };
     Case::default().list(&sheet).outcome(expect::determinize(&sheet))
-}
-
-/// A run of join sets: finds with their answers and unions, at last the find of each element.
-fn dsu(rng: &mut Rng) -> Case {
-    let elements = rng.within(1, 12);
-    let mut sets = DSU::new(elements);
-    let mut steps: Vec<[u64; 3]> = Vec::new();
-    for _ in 0..rng.below(14) {
-        let (x, y) = (rng.below(elements), rng.below(elements));
-        if rng.one_in(3) {
-            steps.push([0, x as u64, sets.find(x) as u64]);
-        } else {
-            sets.union(x, y);
-            steps.push([1, x as u64, y as u64]);
-        }
-    }
-    steps.extend((0..elements).map(|x| [0, x as u64, sets.find(x) as u64]));
-    Case::default().number(elements as u64).list(&steps.concat())
 }
 
 fn product(rng: &mut Rng) -> Case {

@@ -1,6 +1,6 @@
 // Runs the join sets on the deepest chain and on broken values, and replays runs of the original Rust.
 //
-// The list on standard input was made by a Rust program that includes the original dsu.rs unchanged and prints random runs:
+// The list on standard input was made by `compare`, binary `dsu_runs`, from the original dsu.rs: random runs, in which
 // a line of ten bytes is a letter and two numbers of three digits. n a: fresh sets of a. f a b: `find` of a answered b.
 // u a b: `union` of a and b. After a run, r a b: the parent of a is b; s a b: the size at a is b.
 use dsu::Answer;
