@@ -1,22 +1,41 @@
 -- The laws by which the C functions are proved: a reply passes the answer on.
 use Prim.Native.Nat.{ℕ}
+use mathlib.Core.List.{List}
 use mathlib.Core.Path.{_≡_, sym, _∙_, ap}
 use borrow.Author.Needs.{needs}
 use Rattle.refusal.specs.Answer.{Answer}
-use Rattle.refusal.specs.Number.{inputNumber}
+use Rattle.output.specs.declared.Made.{Made}
+use Rattle.output.specs.declared.Made.the-variants.{Lengths, Refused}
+use Rattle.output.specs.Made.{outputOf}
+use Rattle.output.specs.Output.{Output}
+use Rattle.refusal.specs.Number.{inputNumber, numberOf}
+use Rattle.refusal.specs.declared.Refusal.{Refusal}
 use Rattle.refusal.specs.declared.InputRefusal.{InputRefusal}
 use Rattle.words.specs.Acceptance.{answerOf}
 use Rattle.words.specs.declared.Acceptance.{Acceptance}
-use Rattle.words.specs.declared.Acceptance.the-variants.{Kind, Refused}
-use Rattle.ringmatch.specs.Reply.{reply, replied}
+use Rattle.words.specs.declared.Acceptance.the-variants
+use Rattle.ringmatch.specs.Reply.{reply, replied, built, buildReply}
 
-pub reply-given : (old k : ℕ) (r : Acceptance) → r ≡ Kind k → replied 0 k ≡ reply old (answerOf r)
+pub reply-given : (old k : ℕ) (r : Acceptance) → r ≡ the-variants.Kind k → replied 0 k ≡ reply old (answerOf r)
 reply-given old k r e = ap (λ x. reply old (answerOf x)) (sym e)
 
-pub reply-refused : (old n : ℕ) (r : Acceptance) (i : InputRefusal) → n ≡ inputNumber i → r ≡ Refused i → replied n old ≡ reply old (answerOf r)
+pub reply-refused : (old n : ℕ) (r : Acceptance) (i : InputRefusal) → n ≡ inputNumber i → r ≡ the-variants.Refused i → replied n old ≡ reply old (answerOf r)
 reply-refused old n r i h e = ap (λ x. replied x old) h ∙ ap (λ x. reply old (answerOf x)) (sym e)
 
 pub reply-passed : (code old new : ℕ) (r : Acceptance) (a : Answer ℕ) → replied code new ≡ reply old (answerOf r) → answerOf r ≡ a → replied code new ≡ reply old a
 reply-passed code old new r a e h = e ∙ ap (reply old) h
+
+-- the lengths of an operation's outputs
+pub made-lengths : (x y w b : ℕ) (r : Made) → r ≡ Lengths w b → (o l : List ℕ) → built 0 w b o l ≡ buildReply x y (outputOf r o l)
+made-lengths x y w b r e o l = ap (λ m. buildReply x y (outputOf m o l)) (sym e)
+
+pub made-refused : (x y n : ℕ) (r : Made) (i : Refusal) → n ≡ numberOf i → r ≡ Refused i → (o l : List ℕ) → built n x y o l ≡ buildReply x y (outputOf r o l)
+made-refused x y n r i h e o l = ap (λ k. built k x y o l) h ∙ ap (λ m. buildReply x y (outputOf m o l)) (sym e)
+
+-- a reply with the outputs of an operation
+pub made-passed : (code x y w b : ℕ) (r : Made) (o l : List ℕ) (a : Output) → ((o l : List ℕ) → built code w b o l ≡ buildReply x y (outputOf r o l)) → outputOf r o l ≡ a → built code w b o l ≡ buildReply x y a
+made-passed code x y w b r o l a e h = e o l ∙ ap (buildReply x y) h
+
+pub ruleset mades = (made-lengths, made-refused, made-passed, needs)
 
 pub ruleset replies = (reply-given, reply-refused, reply-passed, needs)

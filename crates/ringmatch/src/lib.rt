@@ -1,8 +1,12 @@
 // The public face for other languages: one C function for each public call. A slice is a pointer and a length. The result is 0, or
 // the refusal's number, and then nothing else was written.
 ghost use mathlib.Core.Path.{_≡_};
-ghost use Rattle.ringmatch.specs.Reply.{reply, replied};
+ghost use mathlib.Core.List.{List};
+ghost use Prim.Native.Nat.{ℕ};
+ghost use Rattle.output.specs.Made.{outputOf};
+ghost use Rattle.ringmatch.specs.Reply.{reply, replied, built, buildReply};
 ghost use Rattle.words.specs.Acceptance.{acceptsWords, acceptsText, answerOf};
+use output::Made;
 use words::Acceptance;
 
 // The number of an acceptance's refusal, or 0 with the answer stored.
@@ -15,6 +19,20 @@ fn reply_acceptance(r: Acceptance, answer: &mut u32) -> u32
             0
         }
         Acceptance::Refused(i) => refusal::input_number(i),
+    }
+}
+
+// The number of an operation's refusal, or 0 with the lengths of its outputs stored.
+fn reply_made(r: Made, words: &mut u64, bytes: &mut u64) -> u32
+    ensures { λ code. ⌜ ((o l : List ℕ) → built code (now (words .exit)) (now (bytes .exit)) o l ≡ buildReply (now (words .entry)) (now (bytes .entry)) (outputOf r o l)) ⌝ }
+{
+    match r {
+        Made::Lengths(w, b) => {
+            *words = w as u64;
+            *bytes = b as u64;
+            0
+        }
+        Made::Refused(i) => refusal::number(i),
     }
 }
 
