@@ -3,3 +3,4 @@ pub mod Sets
 pub mod BitSet
 pub mod Words
 pub mod Closure
+pub mod Rows

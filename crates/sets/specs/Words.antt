@@ -38,8 +38,3 @@ visitRow t k p = cond (has k (setAt t (4 * p))) (unionAt t (4 * p) t (4 * k)) t
 unfoldable pub visitRows : List ℕ → ℕ → ℕ → List ℕ
 visitRows t k zero = t
 visitRows t k (suc p) = visitRow (visitRows t k p) k p
-
--- k rounds over n rows
-unfoldable pub closeRows : List ℕ → ℕ → ℕ → List ℕ
-closeRows t n zero = t
-closeRows t n (suc k) = visitRows (closeRows t n k) k n

@@ -10,7 +10,7 @@ use borrow.Author.Needs.{needs}
 use borrow.Author.Tests.{eq-eqb, eqb-true, ne-eqb, eqb-false}
 use lib.Dec.{eqb}
 use lib.ListN.{length, getD, take, drop, replicate, length-replicate}
-use Rattle.lists.specs.Lists.{any, tabulate}
+use Rattle.lists.specs.Lists.{any}
 use Rattle.lists.proofs.Lists.{any-out, tabulate-ext}
 use Rattle.lists.proofs.Parts.{part-all}
 use Rattle.lists.proofs.Tests.{test, true-same, and-parts}
@@ -20,11 +20,11 @@ use Rattle.automata.proofs.Records.{records-at, records-end, part-record}
 use Rattle.sets.specs.Sets.{has, Canon}
 use Rattle.sets.specs.BitSet.{setAt, entries}
 use Rattle.sets.specs.Closure.{closed}
-use Rattle.sets.specs.Words.{insertAt, closeRows}
+use Rattle.sets.specs.Words.{insertAt}
+use Rattle.sets.specs.Rows.{RowsBelow, ClosedTo}
 use Rattle.sets.proofs.Sets.{has-pick, pick-ext, pick-canon, has-nil, wide}
 use Rattle.sets.proofs.BitSet.{at-canon, fresh-at}
 use Rattle.sets.proofs.Stores.{inserted, insert-other, length-insert}
-use Rattle.sets.proofs.Rounds.{rounds-closed}
 use Rattle.sheets.specs.Accepted.{Accepted}
 use Rattle.sheets.specs.Sheet.{stateCount, recordsAt, read}
 use Rattle.sheets.proofs.Meaning.{read-well}
@@ -173,12 +173,11 @@ module _ (s : List ℕ) (a : Accepted s) where
         ∙ ap (λ es. eqb p q || any (isEpsilon p q) es) same-records)
         ∙ wide 0 (stateCount s) 256 _ few (λ q h. outside p q l (omega arith))
 
-    pub closures-done : (v : List ℕ) → length t ≡ length z → length u ≡ length t → v ≡ closeRows u (stateCount s) (stateCount s) → entries v (stateCount s) ≡ closures (read s)
-    unfolding closures entries
-    closures-done v m n k =
-        let o = e .long in
-        ap (λ x. tabulate (stateCount s) (λ j. setAt x (4 * j))) k
-        ∙ rounds-closed (stateCount s) (a .few-states) u (omega (arith, a .few-states)) (λ j l. subst (Canon (stateCount s)) (sym (row j l)) (row-canon j))
-        ∙ ap (closed (stateCount s) (stateCount s)) (tabulate-ext (stateCount s) _ _ row)
+    pub closures-below : RowsBelow u (stateCount s)
+    closures-below = record { row = λ j l. subst (Canon (stateCount s)) (sym (row j l)) (row-canon j) }
 
-pub ruleset closureLaws = (closures-named, closures-done, needs)
+    pub closures-done : (v : List ℕ) → ClosedTo u v (stateCount s) (stateCount s) → entries v (stateCount s) ≡ closures (read s)
+    unfolding closures entries
+    closures-done v k = k .rows ∙ ap (closed (stateCount s) (stateCount s)) (tabulate-ext (stateCount s) _ _ row)
+
+pub ruleset closureLaws = (closures-named, closures-below, closures-done, needs)

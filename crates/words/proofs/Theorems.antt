@@ -1,5 +1,5 @@
 -- Acceptance, as a reader wants it: what the closures hold, and what the answers say of runs.
-use Prim.Native.Nat.{ℕ, zero, suc, _+_, _≤_, _<_}
+use Prim.Native.Nat.{ℕ, zero, suc, _≤_, _<_}
 use mathlib.Core.Bool.{Bool, true, false, cond}
 use mathlib.Core.List.{List, [], _∷_}
 use mathlib.Core.Logic.{_↔_}
@@ -11,7 +11,7 @@ use Rattle.lists.specs.Lists.{_∈_, Ascending, none, more}
 use Rattle.automata.specs.Automaton.{Automaton, Run, Accepts, InBounds}
 use Rattle.automata.specs.WellFormed.{WellFormed}
 use Rattle.refusal.specs.Answer.{Answer, refused, given}
-use Rattle.sets.specs.Sets.{Set, has, pickFrom, pick, Canon}
+use Rattle.sets.specs.Sets.{pickFrom}
 use Rattle.sets.proofs.Sets.{pick-out, mem-has, has-mem}
 use Rattle.sheets.specs.Checked.{sheetFirst}
 use Rattle.sheets.specs.Fault.{fault}
@@ -19,7 +19,7 @@ use Rattle.sheets.specs.Sheet.{read}
 use Rattle.sheets.proofs.Accepted.{accepted}
 use Rattle.sheets.proofs.Meaning.{read-well}
 use Rattle.utf8.specs.Utf8.{Decoded, malformed, points, decode}
-use Rattle.words.specs.Simulation.{closure, simulate, startSet, least, kindOf, kind}
+use Rattle.words.specs.Simulation.{closure, simulate, startSet, kindOf, kind}
 use Rattle.words.specs.Acceptance.{acceptsWords, textAnswer, acceptsText}
 use Rattle.words.proofs.Closures.{closure-sound, closure-complete, closure-canon}
 use Rattle.words.proofs.Kind.{kindOf-some}
