@@ -18,3 +18,6 @@ pub mod Laws
 pub mod Answers
 pub mod Theorems
 pub mod Samples
+pub mod Left
+pub mod Notes
+pub mod Visits
