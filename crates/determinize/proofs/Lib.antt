@@ -21,3 +21,4 @@ pub mod Samples
 pub mod Left
 pub mod Notes
 pub mod Visits
+pub mod Sheets
