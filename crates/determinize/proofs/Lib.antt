@@ -22,3 +22,4 @@ pub mod Left
 pub mod Notes
 pub mod Visits
 pub mod Sheets
+pub mod Made

@@ -2,19 +2,19 @@
 use Prim.Native.Nat.{ℕ, zero, suc, _+_, _-_, _*_, _/_, _≤_, _<_}
 use mathlib.Core.Bool.{Bool, true, false}
 use mathlib.Core.List.{List, [], _∷_, _++_, map}
-use mathlib.Core.Path.{_≡_, refl, sym, _∙_, ap, subst}
+use mathlib.Core.Path.{_≡_, refl, sym, _∙_, ap, ap₂, subst}
 use native.Mathlib.Nat.{add-sub-cancel-left, le-antisymm}
 use native.Mathlib.Numerals.{add-one}
 use native.Mathlib.Omega.{arith}
 use borrow.Author.Needs.{needs}
 use borrow.Author.Tests.{eq-eqb, ne-eqb}
-use lib.ListN.{getD, length, take, drop, replicate, length-append, length-drop, length-map}
-use lib.Seq.{sets, length-take-le, length-sets}
+use lib.ListN.{getD, length, take, drop, replicate, length-append, length-drop, length-map, length-replicate}
+use lib.Seq.{sets, sets-eq, length-take-le, take-append-seam}
 use Rattle.lists.specs.Lists.{tabulate}
 use Rattle.lists.specs.Written.{Written}
 use Rattle.lists.proofs.Lists.{tabulate-end}
 use Rattle.lists.proofs.Written.{written-none, written-append, written-length}
-use Rattle.automata.specs.Automaton.{Transition, Automaton}
+use Rattle.automata.specs.Automaton.{Transition, Automaton, InBounds}
 use Rattle.automata.specs.Records.{recordAt, readRecords, writeRecords}
 use Rattle.automata.proofs.Records.{read-write, write-append, length-write, records-at, records-end, part-record}
 use Rattle.sets.specs.Sets.{Set, Canon}
@@ -23,10 +23,19 @@ use Rattle.sets.specs.Words.{putAt}
 use Rattle.sets.proofs.BitSet.{length-entries}
 use Rattle.sheets.specs.Accepted.{Accepted}
 use Rattle.sheets.specs.Sheet.{stateCount, read, write}
+use Rattle.sheets.proofs.Meaning.{read-well}
 use Rattle.words.specs.Simulation.{kindOf}
-use Rattle.determinize.specs.Notes.{settle, Canonical}
-use Rattle.determinize.specs.Sheets.{sheetOf}
+use Rattle.words.proofs.Epsilons.{fresh}
+use Rattle.refusal.specs.declared.StateRefusal.the-variants.{States, Transitions}
+use Rattle.determinize.specs.declared.Progress.{Progress}
+use Rattle.determinize.specs.declared.Progress.the-variants.{Sets, Over}
+use Rattle.determinize.specs.declared.Determinized.the-variants.{Sheet, Refused}
+use Rattle.determinize.specs.Determinize.{states, built, determinize}
+use Rattle.determinize.specs.Notes.{notesFrom, settle, Canonical, TableFinished, Explored}
+use Rattle.determinize.specs.Sheets.{sheetOf, sheetOutput, determinizedOf}
+use Rattle.determinize.proofs.Answers.{answer-over, answer-many, answer-given}
 use Rattle.determinize.proofs.Left.{Left, left-all, left-more, left-none}
+use Rattle.determinize.proofs.Notes.{settle-states}
 use Rattle.determinize.proofs.Visits.{row-at, row-canon}
 
 -- the record that a note stands for
@@ -156,3 +165,97 @@ module _ (A : Automaton) (t o₀ o₁ o₂ : List ℕ) (n x start behind : ℕ) 
         (written-append o₀ o₁ o₄ _ _ 0 start end u (written-append o₁ o₂ o₄ _ _ start behind end v (written-append o₂ o₃ o₄ _ _ behind records end w y)))
 
 pub ruleset sheetLaws = (sheet-count-room, sheet-records-room, sheet-written, needs)
+
+take-sets : (l vs : List ℕ) → length vs ≤ length l → take (length vs) (sets l 0 vs) ≡ vs
+take-sets l vs h = ap (take (length vs)) (sets-eq vs l 0 (omega arith)) ∙ take-append-seam vs (drop (0 + length vs) l)
+
+-- a finished table and its notes stand for the automaton of the table
+module _ (lo hi : ℕ) (A : Automaton) (ok : InBounds A) (before t r : List ℕ) (n m : ℕ) (f : TableFinished lo hi A before t r n m) where
+  T : List Set
+  T = entries t n
+
+  all : List Transition
+  all = notesFrom lo hi A T 0 (states T)
+
+  noted : Written before 0 (writeRecords all) r (5 * m)
+  unfolding all T
+  noted = f .noted
+
+  count-all : m ≡ length all
+  count-all = omega (arith, noted .behind, length-write all)
+
+  finished-transitions : map (settle (length T)) all ≡ built lo hi A T .transitions
+  unfolding all T built
+  finished-transitions = settle-states lo hi A ok (entries t n) (f .whole)
+
+  pub finished-count : m ≡ length (built lo hi A (entries t n) .transitions)
+  unfolding T
+  finished-count = count-all ∙ sym (length-map all (settle (length T))) ∙ ap length finished-transitions
+
+  notes-read : length before ≡ 10240 → m ≤ 2048 → readRecords (take (5 * m) r) ≡ all
+  notes-read b h =
+      let l : 5 * m ≡ length (writeRecords all) = noted .behind ∙ omega arith in
+      let k : take (5 * m) r ≡ writeRecords all =
+      ap (take (5 * m)) (noted .stored) ∙ ap (λ i. take i (sets before 0 (writeRecords all))) l ∙ take-sets before (writeRecords all) (omega arith) in
+      ap readRecords k ∙ read-write all
+
+  accept-words : (S : List Set) → map (kindOf A) S ++ 0 ∷ [] ≡ map (kindOf A) (S ++ [] ∷ [])
+  unfolding kindOf
+  accept-words [] = refl
+  accept-words (R ∷ S) = ap (λ l. kindOf A R ∷ l) (accept-words S)
+
+  pub finished-sheet : length before ≡ 10240 → m ≤ 2048 → sheetOf A (entries t n) (readRecords (take (5 * m) r)) ≡ built lo hi A (entries t n)
+  unfolding sheetOf built T states
+  finished-sheet b h =
+      ap₂ (λ x y. record { size = suc (length (entries t n)); start = 0; accept = x; transitions = y }) (accept-words (entries t n))
+      (ap (map (settle (length (entries t n)))) (notes-read b h) ∙ finished-transitions)
+
+notes-fresh : length {A = ℕ} (replicate 10240 0) ≡ 10240
+notes-fresh = length-replicate {A = ℕ} 10240 0
+
+-- the answers of determinizing an accepted sheet
+module _ (lo hi : ℕ) (s : List ℕ) (a : Accepted s) (t r : List ℕ) (x : Progress) (p : Explored lo hi (read s) (replicate 10240 0) t r x) where
+  pub accepted-over : (o : List ℕ) → x ≡ Over → determinizedOf (Refused States) o ≡ sheetOutput o (determinize lo hi (read s))
+  unfolding Explored sheetOutput
+  accepted-over o e = sym (ap (sheetOutput o) (answer-over lo hi (read s) (subst (Explored lo hi (read s) (replicate 10240 0) t r) e p)))
+
+  module _ (n m : ℕ) (e : x ≡ Sets n m) where
+    finished : TableFinished lo hi (read s) (replicate 10240 0) t r n m
+    unfolding Explored
+    finished = subst (Explored lo hi (read s) (replicate 10240 0) t r) e p
+
+    ok : InBounds (read s)
+    ok = read-well s a .states
+
+    pub accepted-few : n < 256
+    accepted-few = finished .few
+
+    pub accepted-canonical : Canonical (stateCount s) (entries t n)
+    accepted-canonical = finished .canonical
+
+    -- the notes stand at the front
+    pub accepted-part : m ≤ 2048 → 5 * m ≡ length (take (5 * m) r)
+    accepted-part h = sym (length-take-le (5 * m) r (omega (arith, notes-fresh, written-length (replicate 10240 0) r _ 0 (5 * m) (finished .noted))))
+
+    pub accepted-room : m ≤ 2048 → length (take (5 * m) r) ≤ 10240
+    accepted-room h = omega (arith, accepted-part h)
+
+    pub accepted-many : (o : List ℕ) → 2048 < m → determinizedOf (Refused Transitions) o ≡ sheetOutput o (determinize lo hi (read s))
+    unfolding sheetOutput
+    accepted-many o h =
+        sym
+        (ap (sheetOutput o)
+        (answer-many lo hi (read s) (entries t n) (finished .whole) (subst (λ k. 2048 < k) (finished-count lo hi (read s) ok (replicate 10240 0) t r n m finished) h)))
+
+    pub accepted-given : m ≤ 2048 → (o o′ : List ℕ) (w : ℕ) → Written o 0 (write (sheetOf (read s) (entries t n) (readRecords (take (5 * m) r)))) o′ w
+        → determinizedOf (Sheet w (n + 1)) o′ ≡ sheetOutput o (determinize lo hi (read s))
+    unfolding sheetOutput built
+    accepted-given h o o′ w v =
+        let D = built lo hi (read s) (entries t n) in
+        let u : Written o 0 (write D) o′ w = subst (λ E. Written o 0 (write E) o′ w) (finished-sheet lo hi (read s) ok (replicate 10240 0) t r n m finished notes-fresh h) v in
+        let c : w ≡ length (write D) = u .behind ∙ omega arith in
+        let k : n + 1 ≡ suc (length (entries t n)) = add-one n ∙ ap suc (sym (length-entries t n)) in
+        rw (u .stored, c, k)
+        (sym (ap (sheetOutput o) (answer-given lo hi (read s) (entries t n) (finished .whole) (subst (λ k. k ≤ 2048) (finished-count lo hi (read s) ok (replicate 10240 0) t r n m finished) h))))
+
+pub ruleset acceptedLaws = (fresh, accepted-over, accepted-few, accepted-canonical, accepted-many, accepted-given, accepted-part, accepted-room, needs)
