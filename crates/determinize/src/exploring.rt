@@ -163,7 +163,17 @@ fn visit_set(
     let mut set = [0u64; 4];
     sets::copy_row(&mut set, table, i);
     partition_ranges(
-        s, starts, closures, lower, upper, &set, i as u32, table, n, notes, count,
+        s,
+        starts,
+        closures,
+        lower,
+        upper,
+        &set,
+        i as u32,
+        table,
+        n,
+        notes,
+        count,
     )
 }
 

@@ -63,7 +63,10 @@ pub fn determinize(s: &[u32], out: &mut [u32], names: &mut [u8]) -> Made
         Checked::Refused(r) => return Made::Refused(Refusal::Input(r)),
     }
     match determinize_accepted(s, 0, 4294967295, out) {
-        Determinized::Sheet(words, states) => Made::Lengths(words, labels::write_numbered(names, states)),
+        Determinized::Sheet(words, states) => Made::Lengths(
+            words,
+            labels::write_numbered(names, states),
+        ),
         Determinized::Refused(r) => Made::Refused(Refusal::State(r)),
     }
 }

@@ -11,7 +11,7 @@ determinize-accepted-spec =
     (tie.spec (λ c. search acceptedLaws) (λ c. search acceptedLaws) (λ c. search acceptedLaws) (λ c κs. search acceptedLaws)
     (λ c. search acceptedLaws) (λ c. search acceptedLaws) (λ c. search acceptedLaws) (λ c. search acceptedLaws)
     (λ c κs. search acceptedLaws) (λ c. search acceptedLaws) (λ c. search acceptedLaws) (λ c. search acceptedLaws)
-    (λ c. search acceptedLaws) (λ c. search acceptedLaws) (λ c. search acceptedLaws) 
+    (λ c. search acceptedLaws) (λ c. search acceptedLaws) (λ c. search acceptedLaws)
     (λ c κs.
     let a = c .before .before .before .before .before .before .before .before .before .before .before .before .before .before .before .before .before .begin .ensures .0 .accepted in
     let p = c .before .before .before .before .before .before .before .before .before .explore .ensures in
