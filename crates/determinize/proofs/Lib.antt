@@ -17,3 +17,8 @@ pub mod KindByRuns
 pub mod Laws
 pub mod Answers
 pub mod Theorems
+pub mod Left
+pub mod Notes
+pub mod Visits
+pub mod Sheets
+pub mod Made

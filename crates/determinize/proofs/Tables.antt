@@ -60,7 +60,7 @@ unfolding add
 add-new [] T n h = absurd (n refl)
 add-new (q ∷ S) T n h = rw (le-ltb (index (q ∷ S) T) (length T) h)
 
-add-extends : (S : Set) (T : List Set) → Extends T (add S T)
+pub add-extends : (S : Set) (T : List Set) → Extends T (add S T)
 unfolding add
 add-extends [] T = extends-refl T
 add-extends (q ∷ S) T = go (ltb (index (q ∷ S) T) (length T))
@@ -69,7 +69,7 @@ add-extends (q ∷ S) T = go (ltb (index (q ∷ S) T) (length T))
     go true = extends-refl T
     go false = record { rest = (q ∷ S) ∷ []; is = refl }
 
-add-in : (S : Set) (T : List Set) → In (add S T) S
+pub add-in : (S : Set) (T : List Set) → In (add S T) S
 unfolding add
 add-in [] T = inl refl
 add-in (q ∷ S) T = inr (go (ltb (index (q ∷ S) T) (length T)) refl)

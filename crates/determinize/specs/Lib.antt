@@ -4,3 +4,5 @@ pub mod Determinize
 pub mod Deterministic
 pub mod Reached
 pub mod Kinds
+pub mod Notes
+pub mod Sheets

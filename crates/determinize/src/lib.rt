@@ -1,10 +1,72 @@
-// Determinizing (document 01, "Determinizing"). The definitions stand in specs/ and what is proved of them in proofs/.
+// Determinizing (document 01, "Determinizing"), in two passes: the table of the sets that words reach, with a note of each transition; then,
+// once every refusal is ruled out, the sheet.
 ghost use mathlib.Core.Path.{_≡_};
-ghost use Rattle.automata.specs.WellFormed.{mostStates};
+ghost use Prim.Native.Nat.{_≤_};
+ghost use lib.ListN.{length};
+ghost use Rattle.sheets.specs.Accepted.{Accepted};
+ghost use Rattle.sheets.specs.Sheet.{read};
+ghost use Rattle.output.specs.Made.{outputOf};
+ghost use Rattle.output.specs.Output.{outputs};
+ghost use Rattle.determinize.specs.Determinize.{determinize};
+ghost use Rattle.determinize.specs.Sheets.{determinizedOf, sheetOutput, determinizeSheet};
+use output::Made;
+use refusal::Refusal;
+use refusal::StateRefusal;
+use sheets::Checked;
 
-// How many sets the table of the determinizer holds.
-pub fn table_sets() -> usize
-    ensures { λ r. ⌜ r ≡ mostStates ⌝ }
+mod exploring;
+mod writing;
+
+// How far the first pass has come: how many sets the table has and how many transitions are noted, or that the sets are too many.
+pub enum Progress {
+    Sets(usize, usize),
+    Over,
+}
+
+// The answer of determinizing an accepted sheet: how many words the sheet of the result takes and how many states it has, or a refusal.
+pub enum Determinized {
+    Sheet(usize, usize),
+    Refused(StateRefusal),
+}
+
+// Determinizes an accepted sheet over the symbols from lower to upper, without labels.
+pub fn determinize_accepted(s: &[u32], lower: u32, upper: u32, out: &mut [u32]) -> Determinized
+    requires { ⌜ Accepted (now s) × (10500 ≤ length (now out)) ⌝ }
+    ensures { λ r. ⌜ determinizedOf r (now (out .exit)) ≡ sheetOutput (now (out .entry)) (determinize lower upper (read (now (s .entry)))) ⌝ }
 {
-    256
+    let mut starts = [0u32; 257];
+    let mut closures = [0u64; 1024];
+    let mut table = [0u64; 1024];
+    let mut notes = [0u32; 10240];
+    words::begin(s, &mut starts, &mut closures, &mut table);
+    match exploring::explore(s, &starts, &closures, lower, upper, &mut table, &mut notes) {
+        Progress::Sets(n, count) => {
+            if 2048 < count {
+                return Determinized::Refused(StateRefusal::Transitions);
+            }
+            let words = writing::write_sheet(s, &table, n, &notes[..5 * count], out);
+            Determinized::Sheet(words, n + 1)
+        }
+        Progress::Over => Determinized::Refused(StateRefusal::States),
+    }
+}
+
+// Determinizes a sheet: the result at the front of out, its labels D0, D1 and so on at the front of names.
+pub fn determinize(s: &[u32], out: &mut [u32], names: &mut [u8]) -> Made
+    ensures { λ r. ⌜ outputOf r (now (out .exit)) (now (names .exit)) ≡ outputs (now (out .entry)) (now (names .entry)) (determinizeSheet (now (s .entry)) (now (out .entry)) (now (names .entry))) ⌝ }
+{
+    if output::lacks_room(out, names) {
+        return Made::Refused(Refusal::State(StateRefusal::OutputLength));
+    }
+    match sheets::check(s) {
+        Checked::Accepted => {}
+        Checked::Refused(r) => return Made::Refused(Refusal::Input(r)),
+    }
+    match determinize_accepted(s, 0, 4294967295, out) {
+        Determinized::Sheet(words, states) => Made::Lengths(
+            words,
+            labels::write_numbered(names, states),
+        ),
+        Determinized::Refused(r) => Made::Refused(Refusal::State(r)),
+    }
 }

@@ -3,7 +3,9 @@
 ghost use mathlib.Core.Path.{_≡_};
 ghost use mathlib.Core.List.{List};
 ghost use Prim.Native.Nat.{ℕ};
+ghost use Rattle.determinize.specs.Sheets.{determinizeSheet};
 ghost use Rattle.output.specs.Made.{outputOf};
+ghost use Rattle.output.specs.Output.{outputs};
 ghost use Rattle.ringmatch.specs.Reply.{reply, replied, built, buildReply};
 ghost use Rattle.words.specs.Acceptance.{acceptsWords, acceptsText, answerOf};
 use output::Made;
@@ -50,4 +52,19 @@ pub extern "C" fn ringmatch_accepts_text(sheet: &[u32], text: &[u8], answer: &mu
     ensures { λ code. ⌜ replied code (now (answer .exit)) ≡ reply (now (answer .entry)) (acceptsText (now (sheet .entry)) (now (text .entry))) ⌝ }
 {
     reply_acceptance(words::accepts_text(sheet, text), answer)
+}
+
+// The determinization of a sheet and its labels D0, D1 and so on: words is the number of words of the sheet, bytes that of the labels.
+// Outputs of at least 10,500 words and 16,642 bytes. Refusals: 20, 1 to 6, 21, 22.
+#[no_mangle]
+pub extern "C" fn ringmatch_determinize(
+    sheet: &[u32],
+    out: &mut [u32],
+    names: &mut [u8],
+    words: &mut u64,
+    bytes: &mut u64,
+) -> u32
+    ensures { λ code. ⌜ built code (now (words .exit)) (now (bytes .exit)) (now (out .exit)) (now (names .exit)) ≡ buildReply (now (words .entry)) (now (bytes .entry)) (outputs (now (out .entry)) (now (names .entry)) (determinizeSheet (now (sheet .entry)) (now (out .entry)) (now (names .entry)))) ⌝ }
+{
+    reply_made(determinize::determinize(sheet, out, names), words, bytes)
 }

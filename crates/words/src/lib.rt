@@ -170,7 +170,7 @@ fn read_word(s: &[u32], starts: &[u32], closures: &[u64], word: &[u32], current:
 }
 
 // The tables of a sheet: where its runs begin, and its closures; and the states that the empty word leads to.
-fn begin(s: &[u32], starts: &mut [u32], closures: &mut [u64], current: &mut [u64])
+pub fn begin(s: &[u32], starts: &mut [u32], closures: &mut [u64], current: &mut [u64])
     requires { ⌜ Accepted (now s) × (length (now starts) ≡ 257) × Fresh (now closures) × (4 ≤ length (now current)) ⌝ }
     ensures { λ u. ⌜ Tables (now (s .entry)) (now (starts .exit)) (now (closures .exit)) × (setAt (now (current .exit)) 0 ≡ startSet (read (now (s .entry)))) ⌝ }
 {

@@ -1,0 +1,141 @@
+-- Notes of transitions: span by span, state by state, while the table grows; and what they stand for once it is finished.
+use Prim.Native.Nat.{ℕ, zero, suc, _+_, _-_, _≤_, _<_}
+use mathlib.Core.Bool.{Bool, true, false, cond}
+use mathlib.Core.List.{List, [], _∷_, _++_, map, append-nil, append-assoc, List·Memᴰ·head, List·Memᴰ·tail, List·Memᴰ·append-cases, List·Memᴰ·eq-of-singleton}
+use mathlib.Core.Logic.{_⊎_, inl, inr, ⊎-elim}
+use mathlib.Core.Path.{_≡_, refl, sym, _∙_, ap, ap₂}
+use native.Mathlib.Numerals.{add-one}
+use native.Mathlib.Omega.{arith}
+use borrow.Author.Tests.{le-leb, lt-leb, leb-true, leb-false, eq-eqb, ne-eqb}
+use lib.Dec.{eqb, leb}
+use lib.ListN.{getD, length, drop, length-append, length-map, List·getD-append, drop-of-length-le}
+use lib.Seq.{drop-cons}
+use Rattle.lists.specs.Lists.{_∈_}
+use Rattle.lists.proofs.Tests.{test}
+use Rattle.automata.specs.Automaton.{Transition, Automaton, InBounds}
+use Rattle.automata.specs.WellFormed.{mostStates}
+use Rattle.sets.specs.Sets.{Set, same, index}
+use Rattle.sets.proofs.Tables.{In, index-lt, same-yes, same-self, at-index}
+use Rattle.words.specs.Simulation.{outgoing, step}
+use Rattle.ranges.specs.Span.{Span}
+use Rattle.ranges.specs.Cuts.{nextCut, cutAll}
+use Rattle.ranges.proofs.Cuts.{cut-step, cut-end}
+use Rattle.determinize.specs.Determinize.{found, table, states, transitionOf, transitionsOf, transitionsFrom}
+use Rattle.determinize.specs.Notes.{number, noteOf, notesOf, notesFrom, sinkNotes, settle}
+use Rattle.determinize.proofs.Finished.{table-few, table-closed}
+use Rattle.determinize.proofs.Sink.{cut-nothing, sink-index}
+use Rattle.determinize.proofs.Spans.{cut-stretch}
+use Rattle.determinize.proofs.Steps.{outgoing-nil, step-nil}
+
+-- a set that a table has keeps its number while the table grows
+index-later : (R : Set) {T : List Set} (more : List Set) → R ∈ T → index R (T ++ more) ≡ index R T
+unfolding index
+index-later R {T = S ∷ T} more (List·Memᴰ·head e) = rw (same-yes R S e)
+index-later R {T = S ∷ T} more (List·Memᴰ·tail m) = ap (λ i. cond (same R S) 0 (suc i)) (index-later R more m)
+
+-- a set behind a table that lacks it
+pub index-end : (R : Set) (T : List Set) → length T ≤ index R T → index R (T ++ R ∷ []) ≡ length T
+unfolding index
+index-end R [] h = rw (same-self R)
+index-end R (S ∷ T) h =
+    ⊎-elim (λ (t : same R S ≡ true). let k = rw t at h in absurd (omega (arith, k)))
+    (λ (t : same R S ≡ false). let k = rw t at h in rw t (ap suc (index-end R T (omega (arith, k)))))
+    (test (same R S))
+
+pub number-later : (R : Set) (T more : List Set) → In T R → number R (T ++ more) ≡ number R T
+unfolding number
+number-later [] T more m = refl
+number-later (q ∷ R) T more (inl e) = let z : _≡_ {A = ℕ} 0 1 = cc in absurd (omega arith)
+number-later (q ∷ R) T more (inr m) = index-later (q ∷ R) more m
+
+module _ (hi : ℕ) (A : Automaton) (T : List Set) (j : ℕ) (S : Set) (a : ℕ) where
+  pub notes-step : a < hi + 1
+      → notesOf a hi A T j S
+      ≡ record { from = j; kind = 1; first = a; last = nextCut a (hi + 1) (outgoing A S) - 1; to = number (step A S a) T }
+      ∷ notesOf (nextCut a (hi + 1) (outgoing A S)) hi A T j S
+  unfolding notesOf noteOf
+  notes-step h = rw (add-one hi) (ap (map (noteOf A T j S)) (cut-step hi (outgoing A S) a (omega arith)))
+
+  pub notes-end : hi + 1 ≤ a → notesOf a hi A T j S ≡ []
+  unfolding notesOf
+  notes-end h = ap (map (noteOf A T j S)) (cut-end hi (outgoing A S) a (omega arith))
+
+module _ (lo hi : ℕ) (A : Automaton) (T : List Set) where
+  -- the sink's set is empty
+  notes-sink : (j : ℕ) → notesOf lo hi A T j [] ≡ sinkNotes lo hi j
+  unfolding notesOf noteOf sinkNotes number
+  notes-sink j =
+      ap (λ es. map (noteOf A T j []) (cutAll lo hi es)) (outgoing-nil A)
+      ∙ ⊎-elim
+      (λ (t : leb lo hi ≡ true).
+      rw t
+      (ap (map (noteOf A T j [])) (cut-nothing lo hi (leb-true lo hi t))
+      ∙ ap (λ R. record { from = j; kind = 1; first = lo; last = hi; to = number R T } ∷ []) (step-nil A lo)))
+      (λ (t : leb lo hi ≡ false). rw t (ap (map (noteOf A T j [])) (cut-end hi [] lo (leb-false lo hi t))))
+      (test (leb lo hi))
+
+  notes-append : (j : ℕ) (Ss Us : List Set) → notesFrom lo hi A T j (Ss ++ Us) ≡ notesFrom lo hi A T j Ss ++ notesFrom lo hi A T (j + length Ss) Us
+  unfolding notesFrom
+  notes-append j [] Us = ap (λ i. notesFrom lo hi A T i Us) (omega arith)
+  notes-append j (S ∷ Ss) Us =
+      ap (λ l. notesOf lo hi A T j S ++ l) (notes-append (suc j) Ss Us ∙ ap (λ i. notesFrom lo hi A T (suc j) Ss ++ notesFrom lo hi A T i Us) (omega arith))
+      ∙ sym (append-assoc (notesOf lo hi A T j S) _ _)
+
+  pub notes-states : notesFrom lo hi A T 0 (states T) ≡ notesFrom lo hi A T 0 T ++ sinkNotes lo hi (length T)
+  unfolding states notesFrom
+  notes-states =
+      notes-append 0 T ([] ∷ [])
+      ∙ ap (λ l. notesFrom lo hi A T 0 T ++ l) (append-nil _ ∙ ap (λ i. notesOf lo hi A T i []) (omega arith) ∙ notes-sink (length T))
+
+  -- the sets of the table from i on
+  pub notes-at : (i : ℕ) → i < length T → notesFrom lo hi A T i (drop i T) ≡ notesOf lo hi A T i (getD T i []) ++ notesFrom lo hi A T (i + 1) (drop (i + 1) T)
+  unfolding notesFrom
+  notes-at i h = rw (add-one i) (ap (notesFrom lo hi A T i) (drop-cons T i [] h))
+
+  pub notes-past : (i : ℕ) → length T ≤ i → notesFrom lo hi A T i (drop i T) ≡ []
+  unfolding notesFrom
+  notes-past i h = ap (notesFrom lo hi A T i) (drop-of-length-le T h)
+
+map-ext : {X Y Z : Type 0} (f : Y → Z) (g : X → Y) (h : X → Z) (l : List X) → ((x : X) → x ∈ l → f (g x) ≡ h x) → map f (map g l) ≡ map h l
+map-ext f g h [] e = refl
+map-ext f g h (x ∷ l) e = ap₂ _∷_ (e x (List·Memᴰ·head refl)) (map-ext f g h l (λ y m. e y (List·Memᴰ·tail m)))
+
+map-append : {X Y : Type 0} (f : X → Y) (l m : List X) → map f (l ++ m) ≡ map f l ++ map f m
+map-append f [] m = refl
+map-append f (x ∷ l) m = ap (λ k. f x ∷ k) (map-append f l m)
+
+-- in a finished table the notes stand for the transitions
+module _ (lo hi : ℕ) (A : Automaton) (ok : InBounds A) (T : List Set) (e : table lo hi A ≡ found T) where
+  settled : (R : Set) → In T R → cond (eqb (number R T) mostStates) (length T) (number R T) ≡ index R T
+  unfolding number
+  settled [] m = sym (sink-index lo hi A ok T e)
+  settled (q ∷ R) (inl z) = let y : _≡_ {A = ℕ} 0 1 = cc in absurd (omega arith)
+  settled (q ∷ R) (inr m) =
+      let l = index-lt (q ∷ R) m in
+      let k = table-few lo hi A ok T e in
+      rw (ne-eqb (index (q ∷ R) T) mostStates (λ z. omega arith))
+
+  settle-of : (j : ℕ) (S : Set) → ((a : ℕ) → lo ≤ a → a ≤ hi → In T (step A S a)) → map (settle (length T)) (notesOf lo hi A T j S) ≡ transitionsOf lo hi A T j S
+  unfolding notesOf noteOf transitionsOf transitionOf settle
+  settle-of j S c =
+      map-ext (settle (length T)) (noteOf A T j S) (transitionOf A T j S) (cutAll lo hi (outgoing A S))
+      (λ s m.
+      let v = cut-stretch lo hi (outgoing A S) s m in
+      ap (λ t. record { from = j; kind = 1; first = s .low; last = s .high; to = t })
+      (settled (step A S (s .low)) (c (s .low) (v .above) (omega (arith, v .full, v .below)))))
+
+  settle-from : (j : ℕ) (Ss : List Set) → ((S : Set) → S ∈ Ss → (a : ℕ) → lo ≤ a → a ≤ hi → In T (step A S a))
+      → map (settle (length T)) (notesFrom lo hi A T j Ss) ≡ transitionsFrom lo hi A T j Ss
+  unfolding notesFrom transitionsFrom
+  settle-from j [] c = refl
+  settle-from j (S ∷ Ss) c =
+      map-append (settle (length T)) (notesOf lo hi A T j S) (notesFrom lo hi A T (suc j) Ss)
+      ∙ ap₂ _++_ (settle-of j S (c S (List·Memᴰ·head refl))) (settle-from (suc j) Ss (λ R m. c R (List·Memᴰ·tail m)))
+
+  pub settle-states : map (settle (length T)) (notesFrom lo hi A T 0 (states T)) ≡ transitionsFrom lo hi A T 0 (states T)
+  unfolding states
+  settle-states =
+      settle-from 0 (T ++ [] ∷ [])
+      (λ S m a l u.
+      let i : In T S = ⊎-elim (λ k. inr k) (λ k. inl (List·Memᴰ·eq-of-singleton k)) (List·Memᴰ·append-cases T m) in
+      rw (at-index T S i) at (table-closed lo hi A ok T e (index S T) a l u))

@@ -1,0 +1,10 @@
+-- `visit` meets its contract: the set that the span leads to is placed and its number noted.
+use Rattle.determinize.proofs.Visits.{visitLaws}
+use Rattle.determinize.proofs.exploring.visit.Statement.{statement}
+use Rattle.determinize.proofs.exploring.visit.Tie as tie
+
+pub visit-spec : {M : Type 1} → statement M
+visit-spec =
+    tie.close
+    (tie.spec (λ c. search visitLaws) (λ c κs. search visitLaws) (λ c. search visitLaws) (λ c κs. search visitLaws)
+    (λ c κs. search visitLaws) (λ c. search visitLaws) (λ c. search visitLaws) (λ c. search visitLaws))

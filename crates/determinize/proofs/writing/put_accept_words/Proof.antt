@@ -1,0 +1,28 @@
+-- `put_accept_words` meets its contract: the accept words of the sets below `j` are written.
+use Prim.Native.Nat.{_+_, _-_, _≤_}
+use mathlib.Core.List.{map}
+use mathlib.Core.Path.{_≡_}
+use borrow.Author.Needs.{needs}
+use lib.ListN.{length}
+use Rattle.lists.specs.Written.{Written}
+use Rattle.sets.specs.BitSet.{entries}
+use Rattle.sheets.specs.Sheet.{read}
+use Rattle.words.specs.Simulation.{kindOf}
+use Rattle.determinize.proofs.Sheets.{acceptLaws, accepts-next}
+use Rattle.determinize.proofs.writing.put_accept_words.Statement.{statement}
+use Rattle.determinize.proofs.writing.put_accept_words.Tie as tie
+
+abbrev Inv-loop : tie.InvT-loop
+Inv-loop s table n out₀ at end₀ j₀ out end j =
+    (j ≤ n) × (length out ≡ length out₀) × (end ≡ at + j) × Written out₀ at (map (kindOf (read s)) (entries table j)) out end
+
+abbrev μ-loop : tie.MeasureT-loop
+μ-loop s table n out₀ at end₀ j₀ out end j = n - j
+
+pub put-accept-words-spec : {M : Type 1} → statement M
+put-accept-words-spec =
+    tie.close
+    (tie.spec Inv-loop μ-loop (λ c. search acceptLaws) (λ c κs. search acceptLaws) (λ c κs. search acceptLaws)
+    (λ c. search acceptLaws) (λ c. search acceptLaws) (λ c. (search needs, search needs, search needs, accepts-next _ _ _ _ _ _ _ (c .before .before .before .before .before .before .loop .inv .3) _ (c .before .before .before .accept-word .ensures) _ _ (c .before .before .put-word .ensures)))
+    (λ c κs. search acceptLaws)
+    (λ c. search acceptLaws) (λ c. search acceptLaws))

@@ -1,0 +1,219 @@
+// The first pass: the table of the nonempty sets that words reach, in the order in which a queue meets them, and a note of each transition.
+// The entries of the table are the queue. Each span between cuts costs one reading of the runs of the set's members for the set that it leads
+// to, one for its end, and one look-up.
+ghost use mathlib.Core.Path.{_≡_};
+ghost use mathlib.Core.List.{[], _∷_};
+ghost use Prim.Native.Nat.{_+_, _*_, _≤_, _<_};
+ghost use lib.ListN.{length, getD};
+ghost use Rattle.lists.specs.Written.{Written};
+ghost use Rattle.automata.specs.Records.{writeRecords};
+ghost use Rattle.sets.specs.Sets.{Canon};
+ghost use Rattle.sets.specs.BitSet.{setAt, entries};
+ghost use Rattle.sheets.specs.Accepted.{Accepted};
+ghost use Rattle.sheets.specs.Runs.{Indexed};
+ghost use Rattle.sheets.specs.Sheet.{stateCount, read};
+ghost use Rattle.words.specs.Simulation.{outgoing, step, startSet};
+ghost use Rattle.words.specs.Gather.{Tables};
+ghost use Rattle.ranges.specs.Cuts.{nextCut};
+ghost use Rattle.determinize.specs.Notes.{sinkNotes, Canonical, Placed, Visited, Parted, Explored};
+use crate::Progress;
+
+// Where a set stands in the table, and how many sets the table has.
+pub struct Entry {
+    pub number: u32,
+    pub sets: usize,
+}
+
+// The least of top and the cuts above `above` of the ranges that leave the members of a set: every first, every last plus 1.
+fn next_cut(s: &[u32], starts: &[u32], set: &[u64], above: u64, top: u64) -> u64
+    requires { ⌜ Accepted (now s) × Indexed (now s) (now starts) × Canon (stateCount (now s)) (setAt (now set) 0) × (4 ≤ length (now set)) ⌝ }
+    ensures { λ r. ⌜ r ≡ nextCut above top (outgoing (read (now (s .entry))) (setAt (now (set .entry)) 0)) ⌝ }
+{
+    let mut found = top;
+    let mut q = sets::next_member(set, 0);
+    while q < 256 {
+        found = ranges::next_cut(sheets::run(s, starts, q as u32), above, found);
+        q = sets::next_member(set, q + 1);
+    }
+    found
+}
+
+// The number of a set in the table of n sets. A nonempty set that the table lacks goes to its end; the empty set has the number 256.
+fn place(table: &mut [u64], n: usize, set: &[u64]) -> Entry
+    requires { ⌜ (n < 256) × (length (now table) ≡ 1024) × (4 ≤ length (now set)) ⌝ }
+    ensures { λ r. ⌜ Placed (setAt (now (set .entry)) 0) (entries (now (table .entry)) n) (now (table .exit)) (r .sets) (r .number) ⌝ }
+{
+    if sets::is_empty(set) {
+        return Entry {
+            number: 256,
+            sets: n,
+        };
+    }
+    let j = sets::find(table, n, set);
+    if j < n {
+        return Entry {
+            number: j as u32,
+            sets: n,
+        };
+    }
+    sets::put_row(table, n, set);
+    Entry {
+        number: n as u32,
+        sets: n + 1,
+    }
+}
+
+// The note of a range behind `count` others. There is room for 2,048; past them nothing is stored.
+fn note(notes: &mut [u32], count: usize, from: u32, first: u32, last: u32, to: u32)
+    requires { ⌜ length (now notes) ≡ 10240 ⌝ }
+    ensures { λ u. ⌜ Written (now (notes .entry)) (5 * count) (from ∷ 1 ∷ first ∷ last ∷ to ∷ []) (now (notes .exit)) (5 * count + 5) ⌝ }
+{
+    if count < 2048 {
+        output::put_record(notes, 5 * count, from, 1, first, last, to);
+    }
+}
+
+// The span from first to last of a set: the set that it leads to gets its place in the table of n sets, and the transition is noted.
+// Answers how many sets the table has then.
+fn visit(
+    s: &[u32],
+    starts: &[u32],
+    closures: &[u64],
+    set: &[u64],
+    from: u32,
+    first: u32,
+    last: u32,
+    table: &mut [u64],
+    n: usize,
+    notes: &mut [u32],
+    count: usize,
+) -> usize
+    requires { ⌜ Tables (now s) (now starts) (now closures) × Canon (stateCount (now s)) (setAt (now set) 0) × (4 ≤ length (now set)) × (n < 256) × (length (now table) ≡ 1024) × (length (now notes) ≡ 10240) ⌝ }
+    ensures { λ r. ⌜ Visited (step (read (now (s .entry))) (setAt (now (set .entry)) 0) first) (entries (now (table .entry)) n) from first last (now (notes .entry)) count (now (table .exit)) (now (notes .exit)) r ⌝ }
+{
+    let mut next = [0u64; 4];
+    words::step(s, starts, closures, set, first, &mut next);
+    let placed = place(table, n, &next);
+    note(notes, count, from, first, last, placed.number);
+    placed.sets
+}
+
+// The spans between the cuts of the ranges that leave a set, ascending: those that a range holds are the parts, the others the holes.
+pub fn partition_ranges(
+    s: &[u32],
+    starts: &[u32],
+    closures: &[u64],
+    lower: u32,
+    upper: u32,
+    set: &[u64],
+    from: u32,
+    table: &mut [u64],
+    sets: usize,
+    notes: &mut [u32],
+    noted: usize,
+) -> Progress
+    requires { ⌜ Tables (now s) (now starts) (now closures) × Canon (stateCount (now s)) (setAt (now set) 0) × (4 ≤ length (now set)) ⌝ }
+    requires { ⌜ (sets < 256) × (length (now table) ≡ 1024) × Canonical (stateCount (now s)) (entries (now table) sets) × (length (now notes) ≡ 10240) × (noted ≤ 1099511627776) ⌝ }
+    ensures { λ r. ⌜ Parted lower upper (read (now (s .entry))) (setAt (now (set .entry)) 0) (entries (now (table .entry)) sets) from (now (notes .entry)) noted (now (table .exit)) (now (notes .exit)) r ⌝ }
+{
+    let top = upper as u64 + 1;
+    let mut a = lower as u64;
+    let mut n = sets;
+    let mut count = noted;
+    while a < top {
+        let next = next_cut(s, starts, set, a, top);
+        n = visit(
+            s,
+            starts,
+            closures,
+            set,
+            from,
+            a as u32,
+            (next - 1) as u32,
+            table,
+            n,
+            notes,
+            count,
+        );
+        if n == 256 {
+            return Progress::Over;
+        }
+        count += 1;
+        a = next;
+    }
+    Progress::Sets(n, count)
+}
+
+// Entry i of the table: its spans.
+fn visit_set(
+    s: &[u32],
+    starts: &[u32],
+    closures: &[u64],
+    lower: u32,
+    upper: u32,
+    i: usize,
+    table: &mut [u64],
+    n: usize,
+    notes: &mut [u32],
+    count: usize,
+) -> Progress
+    requires { ⌜ Tables (now s) (now starts) (now closures) × (i < n) × (n < 256) × (length (now table) ≡ 1024) × Canonical (stateCount (now s)) (entries (now table) n) × (length (now notes) ≡ 10240) × (count ≤ 1099511627776) ⌝ }
+    ensures { λ r. ⌜ Parted lower upper (read (now (s .entry))) (getD (entries (now (table .entry)) n) i []) (entries (now (table .entry)) n) i (now (notes .entry)) count (now (table .exit)) (now (notes .exit)) r ⌝ }
+{
+    let mut set = [0u64; 4];
+    sets::copy_row(&mut set, table, i);
+    partition_ranges(
+        s,
+        starts,
+        closures,
+        lower,
+        upper,
+        &set,
+        i as u32,
+        table,
+        n,
+        notes,
+        count,
+    )
+}
+
+// The note of the sink's loop, which holds all symbols, behind `count` others; answers how many notes there are then.
+fn note_sink(notes: &mut [u32], count: usize, sink: u32, lower: u32, upper: u32) -> usize
+    requires { ⌜ (length (now notes) ≡ 10240) × (count ≤ 1099511627776) ⌝ }
+    ensures { λ r. ⌜ Written (now (notes .entry)) (5 * count) (writeRecords (sinkNotes lower upper sink)) (now (notes .exit)) (5 * r) ⌝ }
+{
+    if lower <= upper {
+        note(notes, count, sink, lower, upper, 256);
+        return count + 1;
+    }
+    count
+}
+
+// The whole table, from the start's closure in its first row on, and the notes of all states, the sink's last.
+pub fn explore(
+    s: &[u32],
+    starts: &[u32],
+    closures: &[u64],
+    lower: u32,
+    upper: u32,
+    table: &mut [u64],
+    notes: &mut [u32],
+) -> Progress
+    requires { ⌜ Tables (now s) (now starts) (now closures) × (setAt (now table) 0 ≡ startSet (read (now s))) × (length (now table) ≡ 1024) × (length (now notes) ≡ 10240) ⌝ }
+    ensures { λ r. ⌜ Explored lower upper (read (now (s .entry))) (now (notes .entry)) (now (table .exit)) (now (notes .exit)) r ⌝ }
+{
+    let mut n: usize = 1;
+    let mut count: usize = 0;
+    let mut i: usize = 0;
+    while i < n {
+        match visit_set(s, starts, closures, lower, upper, i, table, n, notes, count) {
+            Progress::Sets(sets, noted) => {
+                n = sets;
+                count = noted;
+                i += 1;
+            }
+            Progress::Over => return Progress::Over,
+        }
+    }
+    Progress::Sets(n, note_sink(notes, count, n as u32, lower, upper))
+}
