@@ -6,15 +6,15 @@ use mathlib.Core.Path.{_≡_, refl, sym, _∙_, ap}
 use native.Mathlib.Numerals.{add-one}
 use native.Mathlib.Omega.{arith}
 use borrow.Author.Needs.{needs}
-use borrow.Author.Tests.{eq-eqb, ne-eqb}
-use lib.Dec.{eqb}
-use lib.ListN.{length, getD, drop, set, drop-of-length-le}
-use lib.Seq.{sets, set-out}
+use borrow.Author.Tests.{eq-eqb, ne-eqb, ltb-false}
+use lib.Dec.{eqb, ltb}
+use lib.ListN.{length, getD, take, drop, set, drop-of-length-le}
+use lib.Seq.{sets, set-out, sets-eq, take-at, length-take-le}
 use Rattle.lists.proofs.Parts.{drop-at}
 use Rattle.replay.specs.declared.Longer.{Longer}
 use Rattle.replay.specs.declared.Longer.the-variants.{Value, Nothing}
 use Rattle.replay.specs.declared.Numbers.{Numbers}
-use Rattle.replay.specs.declared.Numbers.the-variants.{Malformed}
+use Rattle.replay.specs.declared.Numbers.the-variants.{Stored, TooMany, Malformed}
 use Rattle.replay.specs.Lines.{Line, withDigit, ended, behind, lineFrom, lineAt, told, answer}
 
 -- a number that no digits say, one for which there is no room, and one that is stored
@@ -157,3 +157,37 @@ pub ruleset endLaws = (end-answer, end-stored, needs)
 pub ruleset otherLaws = (other-answer, other-stored, needs)
 
 pub ruleset lineLaws = (line-begun, line-blank, line-digit, few-more, needs)
+
+-- what the answer says of a line that was stored
+pub record Told (room at : ℕ) (l : Line) (n to : ℕ) : Type 0 where
+  pub whole : l .whole ≡ true
+  pub count : n ≡ length (l .numbers)
+  pub place : to ≡ at + l .size
+  pub fits : n ≤ room
+
+pub line-told : (room at n to : ℕ) (l : Line) (r : Numbers) → r ≡ answer room at l → r ≡ Stored n to → Told room at l n to
+unfolding answer
+line-told room at n to l r e f = go (l .whole) (ltb room (length (l .numbers))) refl refl (sym e ∙ f)
+  where
+    go : (w t : Bool) → l .whole ≡ w → ltb room (length (l .numbers)) ≡ t → cond w (cond t TooMany (Stored (length (l .numbers)) (at + l .size))) Malformed ≡ Stored n to
+        → Told room at l n to
+    go true false p q g =
+        let c : n ≡ length (l .numbers) = cc in
+        record { whole = p; count = c; place = cc; fits = omega (arith, ltb-false room (length (l .numbers)) q) }
+    go true true p q g = let z : _≡_ {A = ℕ} 0 1 = cc in absurd (omega arith)
+    go false t p q g = let z : _≡_ {A = ℕ} 0 1 = cc in absurd (omega arith)
+
+-- the numbers of such a line are the first part of the memory
+pub line-part : (room at n to : ℕ) (out : List ℕ) (l : Line) → Told room at l n to → length out ≡ room → take n (sets out 0 (l .numbers)) ≡ l .numbers
+line-part room at n to out l t e =
+    ap (take n) (sets-eq (l .numbers) out 0 (omega (arith, t .count, t .fits))) ∙ take-at (l .numbers) (drop (0 + length (l .numbers)) out) n (sym (t .count))
+
+-- so many of them stand at the front of memory of that length
+module _ (r : Numbers) (at n to : ℕ) (out m : List ℕ) (l : Line) (e : r ≡ answer (length out) at l) (f : r ≡ Stored n to) (k : length m ≡ length out) where
+  pub case-within : n ≤ length m
+  case-within = omega (arith, line-told (length out) at n to l r e f .fits)
+
+  pub case-counted : n ≡ length (take n m)
+  case-counted = sym (length-take-le n m case-within)
+
+pub ruleset caseLaws = (case-within, case-counted, needs)

@@ -102,6 +102,23 @@ pub fn read_line(text: &[u8], at: usize, out: &mut [u32]) -> Numbers
     tell(out.len(), count, i)
 }
 
+// A case: how many numbers it has, or 0 where it could not be read, and the place behind it.
+pub struct Case {
+    pub count: usize,
+    pub to: usize,
+}
+
+// Stores the numbers of the case at the place at.
+pub fn read_case(text: &[u8], at: usize, out: &mut [u32]) -> Case
+    ensures { λ r. ⌜ Counts (r .count) (now (out .exit)) ⌝ }
+{
+    match read_line(text, at, out) {
+        Numbers::Stored(count, to) => Case { count, to },
+        Numbers::TooMany => Case { count: 0, to: at },
+        Numbers::Malformed => Case { count: 0, to: at },
+    }
+}
+
 // The list at the place at of a case: its length stands there, and its elements behind. Empty where the case is too short.
 pub fn list(case: &[u32], at: usize) -> &[u32]
     ensures { λ r. ⌜ now r ≡ listAt (now (case .entry)) at ⌝ }

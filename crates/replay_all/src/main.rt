@@ -10,7 +10,6 @@
 ghost use mathlib.Core.Path.{_≡_};
 ghost use Prim.Native.Nat.{_+_, _<_};
 use libc::STDOUT_FILENO;
-use replay::Numbers;
 use replay::Tally;
 
 mod acceptance;
@@ -45,12 +44,9 @@ fn turn(kind: Kind, text: &[u8], t: Tally) -> Tally
     ensures { λ r. ⌜ r .left + 1 ≡ t .left ⌝ }
 {
     let mut case = [0u32; 4096];
-    let at = t.at;
-    match replay::read_line(text, at, &mut case) {
-        Numbers::Stored(n, to) => t.counted(to, agrees(kind, &case[..n])),
-        Numbers::TooMany => t.counted(at, false),
-        Numbers::Malformed => t.counted(at, false),
-    }
+    let read = replay::read_case(text, t.at, &mut case);
+    let n = read.count;
+    t.counted(read.to, agrees(kind, &case[..n]))
 }
 
 // Replays as many cases as the list announces.
