@@ -1,4 +1,5 @@
 // Test support: reads lines of decimal numbers, takes the lists of a case apart, and counts the cases that agreed.
+use libc::STDOUT_FILENO;
 ghost use mathlib.Core.Bool.{true};
 ghost use mathlib.Core.List.{[]};
 ghost use mathlib.Core.Path.{_≡_};
@@ -196,25 +197,12 @@ impl Tally {
     // The cases that the first line of a list announces.
     pub fn begin(text: &[u8]) -> Tally {
         let mut cases = [0u32; 1];
-        match read_line(text, 0, &mut cases) {
-            Numbers::Stored(_, to) => Tally {
-                left: cases[0],
-                at: to,
-                agreed: 0,
-                differed: 0,
-            },
-            Numbers::TooMany => Tally {
-                left: 0,
-                at: 0,
-                agreed: 0,
-                differed: 0,
-            },
-            Numbers::Malformed => Tally {
-                left: 0,
-                at: 0,
-                agreed: 0,
-                differed: 0,
-            },
+        let first = read_case(text, 0, &mut cases);
+        Tally {
+            left: cases[0],
+            at: first.to,
+            agreed: 0,
+            differed: 0,
         }
     }
 
@@ -230,18 +218,21 @@ impl Tally {
             return self;
         }
         self.differed = std::num::wrapping_add_u64(self.differed, 1);
-        io::write_all(1, b"differs: case ");
-        io::print_decimal(1, std::num::wrapping_add_u64(self.agreed, self.differed));
-        io::write_all(1, b"\n");
+        io::write_all(STDOUT_FILENO, b"case ");
+        io::print_decimal(
+            STDOUT_FILENO,
+            std::num::wrapping_add_u64(self.agreed, self.differed),
+        );
+        io::write_all(STDOUT_FILENO, b" differs\n");
         self
     }
 
     // Prints the counts.
     pub fn print(self) {
-        io::write_all(1, b"agreed ");
-        io::print_decimal(1, self.agreed);
-        io::write_all(1, b", differed ");
-        io::print_decimal(1, self.differed);
-        io::write_all(1, b"\n");
+        io::write_all(STDOUT_FILENO, b"agreed ");
+        io::print_decimal(STDOUT_FILENO, self.agreed);
+        io::write_all(STDOUT_FILENO, b", differed ");
+        io::print_decimal(STDOUT_FILENO, self.differed);
+        io::write_all(STDOUT_FILENO, b"\n");
     }
 }

@@ -50,14 +50,15 @@ fn turn(kind: Kind, text: &[u8], t: Tally) -> Tally
 }
 
 // Replays as many cases as the list announces.
-fn replay_list(kind: Kind, text: &[u8]) {
+fn replay_list(kind: Kind, text: &[u8]) -> Tally {
     let mut t = Tally::begin(text);
     while 0 < t.left {
         t = turn(kind, text, t);
     }
-    t.print();
+    t
 }
 
+// Replays the list in a file, and prints its name and the counts.
 fn replay_file(kind: Kind, name: &[u8]) {
     let file = os::open_read(name);
     if file < 0 {
@@ -67,9 +68,10 @@ fn replay_file(kind: Kind, name: &[u8]) {
     let mut text = io::large_buffer();
     let got = io::read_full(file, &mut text);
     libc::close(file);
+    let t = replay_list(kind, &text[..got]);
     io::write_all(STDOUT_FILENO, name);
     io::write_all(STDOUT_FILENO, b": ");
-    replay_list(kind, &text[..got]);
+    t.print();
 }
 
 fn main() {
