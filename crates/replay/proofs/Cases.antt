@@ -31,10 +31,17 @@ module _ (s : List ℕ) (at : ℕ) where
 
 pub ruleset listLaws = (list-outside, list-long, list-part, needs)
 
--- lists of one length that are the same up to i
+-- lists of which something differs
 pub same-no : (a b : List ℕ) → false ≡ true → a ≡ b
 same-no a b e = absurd (false≢true e)
 
+pub same-length-differs : (a b : List ℕ) → (length a ≡ length b → ⊥) → a ≡ b → false ≡ true
+same-length-differs a b h e = absurd (h (ap length e))
+
+pub same-differs : (a b : List ℕ) (i : ℕ) → (getD a i 0 ≡ getD b i 0 → ⊥) → a ≡ b → false ≡ true
+same-differs a b i h e = absurd (h (ap (λ (l : List ℕ). getD l i 0) e))
+
+-- lists of one length that are the same up to i
 module _ (a b : List ℕ) (i : ℕ) (l : length a ≡ length b) (e : take i a ≡ take i b) where
   pub same-next : i < length a → getD a i 0 ≡ getD b i 0 → take (i + 1) a ≡ take (i + 1) b
   same-next h p = let g : i < length b = omega arith in take-more a i h ∙ ap₂ (λ (v : List ℕ) (x : ℕ). v ++ x ∷ []) e p ∙ sym (take-more b i g)
@@ -42,7 +49,7 @@ module _ (a b : List ℕ) (i : ℕ) (l : length a ≡ length b) (e : take i a �
   pub same-all : length a ≤ i → true ≡ true → a ≡ b
   same-all h t = let g : length b ≤ i = omega arith in sym (take-all i a h) ∙ e ∙ take-all i b g
 
-pub ruleset sameLaws = (same-no, same-next, same-all, needs)
+pub ruleset sameLaws = (same-no, same-length-differs, same-next, same-all, needs)
 
 -- bytes of a list, of which i are stored
 pub bytes-none : (out s : List ℕ) → Written out 0 (take 0 s) out 0

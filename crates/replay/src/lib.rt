@@ -150,7 +150,7 @@ pub fn is_last(case: &[u32], at: usize, x: u32) -> bool
 
 // Whether two lists are the same.
 pub fn same(a: &[u32], b: &[u32]) -> bool
-    ensures { λ r. ⌜ (r ≡ true → now (a .entry) ≡ now (b .entry)) ⌝ }
+    ensures { λ r. ⌜ (r ≡ true → now (a .entry) ≡ now (b .entry)) × (now (a .entry) ≡ now (b .entry) → r ≡ true) ⌝ }
 {
     if a.len() != b.len() {
         return false;

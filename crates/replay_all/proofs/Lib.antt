@@ -1,2 +1,2 @@
 -- The laws that the test program cites.
-mod Sorted
+mod Sheets

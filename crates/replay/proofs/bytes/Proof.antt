@@ -1,3 +1,4 @@
+-- `bytes` meets its contract: each turn stores one byte more.
 use Prim.Native.Nat.{_-_, _≤_}
 use mathlib.Core.Path.{_≡_}
 use lib.ListN.{length, take}
@@ -15,4 +16,6 @@ abbrev μ-loop : tie.MeasureT-loop
 pub bytes-spec : {M : Type 1} → statement M
 bytes-spec =
     tie.close
-    (tie.spec Inv-loop μ-loop (λ c. search byteLaws) (λ c. search byteLaws) (λ c. search byteLaws) (λ c. search byteLaws) (λ c. search byteLaws) (λ c. search byteLaws) (λ c. search byteLaws) (λ c. search byteLaws) (λ c. search byteLaws) (λ c. search byteLaws) (λ c. search byteLaws) (λ c. search byteLaws) (λ c. search byteLaws) (λ c. search byteLaws))
+    (tie.spec Inv-loop μ-loop (λ c. search byteLaws) (λ c. search byteLaws) (λ c. search byteLaws) (λ c. search byteLaws) (λ c. search byteLaws)
+    (λ c. search byteLaws) (λ c. search byteLaws) (λ c. search byteLaws) (λ c. search byteLaws) (λ c. search byteLaws) (λ c. search byteLaws)
+    (λ c. search byteLaws) (λ c. search byteLaws) (λ c. search byteLaws))

@@ -1,3 +1,4 @@
+-- `is_last` meets its contract: the tests are those of the definition.
 use Rattle.lists.proofs.Tests.{tests}
 use Rattle.replay.specs.Cases.{isLast}
 use Rattle.replay.proofs.is_last.Statement.{statement}

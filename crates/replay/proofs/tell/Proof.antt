@@ -4,4 +4,6 @@ use Rattle.replay.proofs.tell.Statement.{statement}
 use Rattle.replay.proofs.tell.Tie as tie
 
 pub tell-spec : {M : Type 1} → statement M
-tell-spec = tie.close (tie.spec (λ c. search tests) (λ c. search tests))
+tell-spec =
+    tie.close
+    (tie.spec (λ c. search tests) (λ c. search tests))
