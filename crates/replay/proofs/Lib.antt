@@ -1,0 +1,3 @@
+-- The laws of lines and cases.
+pub mod Lines
+pub mod Cases

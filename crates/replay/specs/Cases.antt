@@ -1,0 +1,17 @@
+-- The parts of a case: a list is its length and then its elements.
+use Prim.Native.Nat.{ℕ, _+_, _-_}
+use mathlib.Core.Bool.{Bool, false, cond}
+use mathlib.Core.List.{List, []}
+use lib.Dec.{eqb, leb, ltb}
+use lib.ListN.{length, getD, take, drop}
+
+-- the elements of the list at a place; none where the case is too short
+unfoldable pub listAt : List ℕ → ℕ → List ℕ
+listAt s at =
+    cond (leb (length s) at) []
+    (cond (ltb (length s - (at + 1)) (getD s at 0)) []
+    (take (getD s at 0) (drop (at + 1) s)))
+
+-- x stands at the place, and nothing behind it
+unfoldable pub isLast : List ℕ → ℕ → ℕ → Bool
+isLast s at x = cond (leb (length s) at) false (cond (ltb (at + 1) (length s)) false (eqb (getD s at 0) x))

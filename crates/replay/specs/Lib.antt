@@ -1,0 +1,3 @@
+-- What the contracts of the test support cite.
+pub mod Lines
+pub mod Cases

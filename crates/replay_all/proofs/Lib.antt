@@ -1,0 +1,2 @@
+-- The laws that the test program cites.
+mod Sheets

@@ -1,0 +1,30 @@
+// Cases of sheets and of label lists: the number of the fault.
+
+// The words as a list, then the fault's number or 0.
+pub fn sheet(case: &[u32]) -> bool {
+    let words = replay::list(case, 0);
+    let end = 1 + words.len();
+    match sheets::check(words) {
+        sheets::Checked::Accepted => replay::is_last(case, end, 0),
+        sheets::Checked::Refused(r) => replay::is_last(case, end, refusal::input_number(r)),
+    }
+}
+
+// The number of states, the bytes as a list, then the fault's number or 0.
+pub fn label_list(case: &[u32]) -> bool {
+    if case.len() == 0 {
+        return false;
+    }
+    let n = lists::wide(case[0]);
+    let list = replay::list(case, 1);
+    let mut bytes = [0u8; 1024];
+    let k = replay::bytes(list, &mut bytes);
+    if k != list.len() {
+        return false;
+    }
+    let end = 2 + k;
+    match labels::check(n, &bytes[..k]) {
+        labels::Checked::Accepted => replay::is_last(case, end, 0),
+        labels::Checked::Refused(r) => replay::is_last(case, end, refusal::input_number(r)),
+    }
+}

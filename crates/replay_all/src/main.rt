@@ -1,0 +1,84 @@
+// Replays lists of inputs with the answers of the original Rust, and prints for each list how many cases agreed.
+//
+// The lists stand in data/ under the names of their kinds, and were made by
+// compare --emit sheets --seed 1 --count 200
+// compare --emit labels --seed 1 --count 400
+// compare --emit accepts --seed 1 --count 400
+// compare --emit text --seed 1 --count 400
+// compare --emit ranges --seed 1 --count 400
+// compare --emit closures --seed 1 --count 400
+ghost use mathlib.Core.Path.{_≡_};
+ghost use Prim.Native.Nat.{_+_, _<_};
+use libc::STDOUT_FILENO;
+use replay::Tally;
+
+mod acceptance;
+mod closures;
+mod inputs;
+mod symbols;
+
+enum Kind {
+    Sheets,
+    Labels,
+    Accepts,
+    Text,
+    Ranges,
+    Closures,
+}
+
+// Whether the answer in a case is the one that the port gives.
+fn agrees(kind: Kind, case: &[u32]) -> bool {
+    match kind {
+        Kind::Sheets => inputs::sheet(case),
+        Kind::Labels => inputs::label_list(case),
+        Kind::Accepts => acceptance::word(case),
+        Kind::Text => acceptance::text(case),
+        Kind::Ranges => symbols::ranges_of(case),
+        Kind::Closures => closures::of_sheet(case),
+    }
+}
+
+// Replays the next case.
+fn turn(kind: Kind, text: &[u8], t: Tally) -> Tally
+    requires { ⌜ 0 < t .left ⌝ }
+    ensures { λ r. ⌜ r .left + 1 ≡ t .left ⌝ }
+{
+    let mut case = [0u32; 4096];
+    let read = replay::read_case(text, t.at, &mut case);
+    let n = read.count;
+    t.counted(read.to, agrees(kind, &case[..n]))
+}
+
+// Replays as many cases as the list announces.
+fn replay_list(kind: Kind, text: &[u8]) -> Tally {
+    let mut t = Tally::begin(text);
+    while 0 < t.left {
+        t = turn(kind, text, t);
+    }
+    t
+}
+
+// Replays the list in a file, and prints its name and the counts.
+fn replay_file(kind: Kind, name: &[u8]) {
+    let file = os::open_read(name);
+    if file < 0 {
+        os::fail(name);
+        return;
+    }
+    let mut text = io::large_buffer();
+    let got = io::read_full(file, &mut text);
+    libc::close(file);
+    let t = replay_list(kind, &text[..got]);
+    io::write_all(STDOUT_FILENO, name);
+    io::write_all(STDOUT_FILENO, b": ");
+    t.print();
+}
+
+fn main() {
+    replay_file(Kind::Sheets, b"sheets");
+    replay_file(Kind::Labels, b"labels");
+    replay_file(Kind::Accepts, b"accepts");
+    replay_file(Kind::Text, b"text");
+    replay_file(Kind::Ranges, b"ranges");
+    replay_file(Kind::Closures, b"closures");
+}

@@ -1,0 +1,116 @@
+// Cases of ranges: what two have in common, or whether the ranges of a state overlap and the holes that they leave.
+use ranges::Common;
+use sheets::Checked;
+ghost use Prim.Native.Nat.{_≤_};
+ghost use lib.ListN.{length};
+ghost use Rattle.automata.specs.Automaton.{rangesOf};
+ghost use Rattle.automata.specs.Records.{readRecords};
+ghost use Rattle.ranges.specs.Missing.{Sorted};
+ghost use Rattle.sheets.specs.Accepted.{Accepted};
+
+// 0 and the ranges of a state, or 1 and two ranges.
+pub fn ranges_of(case: &[u32]) -> bool {
+    if case.len() == 0 {
+        return false;
+    }
+    if case[0] == 0 {
+        return holes(case);
+    }
+    common(case)
+}
+
+// First and last of two ranges, then their common symbols as a list of two or of none.
+fn common(case: &[u32]) -> bool {
+    if case.len() < 5 {
+        return false;
+    }
+    let expected = replay::list(case, 5);
+    if 6 + expected.len() != case.len() {
+        return false;
+    }
+    match ranges::intersect_ranges(case[1], case[2], case[3], case[4]) {
+        Common::Range(first, last) => {
+            let both = [first, last];
+            replay::same(expected, &both)
+        }
+        Common::Nothing => expected.len() == 0,
+    }
+}
+
+// Stores a sheet of 64 states that has the given ranges from state 0 to states 0, 1 and so on; answers its length, or 0 where there
+// are over 64 ranges.
+fn put_sheet(pairs: &[u32], sheet: &mut [u32]) -> usize
+    requires { ⌜ 388 ≤ length (now sheet) ⌝ }
+    ensures { λ r. ⌜ r ≤ 388 ⌝ }
+{
+    if 128 < pairs.len() {
+        return 0;
+    }
+    output::put_start(sheet, 0, 64);
+    let mut to: u32 = 0;
+    let mut i: usize = 0;
+    let mut at: usize = 68;
+    while 2 <= pairs.len() - i {
+        at = output::put_record(sheet, at, 0, 1, pairs[i], pairs[i + 1], to);
+        to += 1;
+        i += 2;
+    }
+    output::put_word(sheet, 67, to);
+    at
+}
+
+// The ranges as firsts and lasts in turn, then whether they overlap, then the holes that they leave.
+fn holes(case: &[u32]) -> bool {
+    let pairs = replay::list(case, 1);
+    let mut words = [0u32; 388];
+    let n = put_sheet(pairs, &mut words);
+    let sheet = &words[0..n];
+    match sheets::check(sheet) {
+        Checked::Accepted => holes_of(sheet, case, 2 + pairs.len()),
+        Checked::Refused(_) => false,
+    }
+}
+
+// Whether the listed holes are those that the ranges of the run leave.
+fn are_holes(run: &[u32], expected: &[u32]) -> bool
+    requires { ⌜ Sorted (rangesOf (readRecords (now run))) ⌝ }
+{
+    if 320 < run.len() {
+        return false;
+    }
+    let mut found = [0u32; 130];
+    let n = ranges::missing_ranges(run, 0, 4294967295, &mut found);
+    if 65 < n {
+        return false;
+    }
+    let end = 2 * n;
+    replay::same(expected, &found[0..end])
+}
+
+// Whether x is 1 where the test holds, and 0 where it does not.
+fn is_answer(x: u32, holds: bool) -> bool {
+    if holds {
+        return x == 1;
+    }
+    x == 0
+}
+
+// Whether the case has at the place at what the ranges of state 0 give.
+fn holes_of(sheet: &[u32], case: &[u32], at: usize) -> bool
+    requires { ⌜ Accepted (now sheet) ⌝ }
+{
+    if case.len() <= at {
+        return false;
+    }
+    let expected = replay::list(case, at + 1);
+    if at + 2 + expected.len() != case.len() {
+        return false;
+    }
+    let mut starts = [0u32; 257];
+    sheets::run_starts(sheet, &mut starts);
+    let run = sheets::run(sheet, &starts, 0);
+    if is_answer(case[at], ranges::has_overlapping_ranges(run)) {
+        return are_holes(run, expected);
+    }
+    false
+}

@@ -1,0 +1,2 @@
+-- The answer for the bytes of a sheet and a series.
+pub mod Series
