@@ -25,7 +25,7 @@ fn fault(n: u32, m: u32) -> u32
 {
     let mut sheet = [0u32; 10506];
     output::put_start(&mut sheet, 0, n);
-    let end = put_records(&mut sheet, lists::wide(n) + 3, m);
+    let end = put_records(&mut sheet, n as usize + 3, m);
     match sheets::check(&sheet[0..end]) {
         Checked::Accepted => 0,
         Checked::Refused(r) => refusal::input_number(r),

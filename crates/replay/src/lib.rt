@@ -11,6 +11,13 @@ ghost use Rattle.lists.specs.Written.{Written};
 ghost use Rattle.replay.specs.Lines.{withDigit, ended, told, answer, lineAt};
 ghost use Rattle.replay.specs.Cases.{listAt, isLast};
 
+// A 32-bit word as a size or an index.
+pub fn wide(x: u32) -> usize
+    ensures { λ r. ⌜ r ≡ x ⌝ }
+{
+    x as usize
+}
+
 // A number with one more digit, if the byte is a digit and the number is below 2^32.
 enum Longer {
     Value(u32),
@@ -127,7 +134,7 @@ pub fn list(case: &[u32], at: usize) -> &[u32]
     if case.len() <= at {
         return &case[..0];
     }
-    let n = lists::wide(case[at]);
+    let n = wide(case[at]);
     let first = at + 1;
     if case.len() - first < n {
         return &case[..0];

@@ -15,7 +15,7 @@ fn is_row(rows: &[u64], p: usize, members: &[u32]) -> bool
             if members.len() <= i {
                 return false;
             }
-            if lists::wide(members[i]) != q {
+            if replay::wide(members[i]) != q {
                 return false;
             }
             i += 1;
@@ -50,7 +50,7 @@ fn closures_of(sheet: &[u32], case: &[u32]) -> bool
 {
     let mut rows = [0u64; 1024];
     words::state_closures(sheet, &mut rows);
-    let n = lists::wide(sheet[2]);
+    let n = replay::wide(sheet[2]);
     are_rows(&rows, n, case, 1 + sheet.len())
 }
 

@@ -15,7 +15,7 @@ pub fn label_list(case: &[u32]) -> bool {
     if case.len() == 0 {
         return false;
     }
-    let n = lists::wide(case[0]);
+    let n = replay::wide(case[0]);
     let list = replay::list(case, 1);
     let mut bytes = [0u8; 1024];
     let k = replay::bytes(list, &mut bytes);
