@@ -8,6 +8,10 @@ ghost use lib.ListN.{length};
 ghost use Rattle.lists.specs.Written.{Written};
 use refusal::Refusal;
 
+mod ordered;
+
+pub use ordered::insert_record;
+
 // The answer of an operation with two outputs: how many words the sheet takes and how many bytes the labels, or a refusal.
 pub enum Made {
     Lengths(usize, usize),
