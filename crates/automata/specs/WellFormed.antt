@@ -1,6 +1,6 @@
 -- What document 01 asks of an automaton: words in bounds, and transitions strictly ascending by their five words.
 use Prim.Native.Nat.{ℕ, _≤_, _<_}
-use mathlib.Core.List.{List, [], _∷_}
+use mathlib.Core.List.{List, _∷_}
 use mathlib.Core.Path.{_≡_}
 use lib.ListN.{length, getD}
 use Rattle.lists.specs.Lists.{_∈_, Ascending}

@@ -1,6 +1,6 @@
 -- Membership, tests of all elements, and order in lists.
 use Prim.Native.Nat.{ℕ, zero, suc}
-use mathlib.Core.Bool.{Bool, true, false, cond, _||_}
+use mathlib.Core.Bool.{Bool, false, cond, _||_}
 use mathlib.Core.List.{List, [], _∷_, List·Memᴰ}
 
 abbrev pub _∈_ : {A : Type 0} → A → List A → Type 0

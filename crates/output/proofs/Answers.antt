@@ -1,23 +1,21 @@
 -- What the answers of an operation say of its outputs: the laws by which operations are proved.
-use Prim.Native.Nat.{ℕ, suc, _+_, _≤_}
-use mathlib.Core.Bool.{Bool, true, false, cond, _||_}
-use mathlib.Core.List.{List, [], _∷_, _++_}
-use mathlib.Core.Logic.{_⊎_, inl, inr, ⊎-elim}
-use mathlib.Core.Path.{_≡_, refl, sym, _∙_, ap}
+use Prim.Native.Nat.{ℕ, _≤_}
+use mathlib.Core.Bool.{Bool, true, false, _||_}
+use mathlib.Core.List.{List}
+use mathlib.Core.Logic.{⊎-elim}
+use mathlib.Core.Path.{_≡_, sym, _∙_}
 use native.Mathlib.Omega.{arith}
 use borrow.Author.Tests.{ltb-false}
 use lib.Dec.{ltb}
 use lib.ListN.{length}
-use lib.Seq.{sets}
 use Rattle.lists.specs.Written.{Written}
 use Rattle.lists.proofs.Tests.{test, or-cases, or-false}
-use Rattle.automata.specs.Automaton.{Automaton}
 use Rattle.labels.specs.Labels.{writeLabels}
 use Rattle.refusal.specs.Answer.{Answer, refused, given}
 use Rattle.sheets.specs.Sheet.{write}
 use Rattle.output.specs.declared.Made.the-variants.{Lengths}
 use Rattle.output.specs.Made.{outputOf}
-use Rattle.output.specs.Output.{Pattern, outputs, roomFirst, sheetSize, labelsSize}
+use Rattle.output.specs.Output.{Pattern, outputs, roomFirst}
 
 -- a sheet and its labels written at the fronts of the outputs
 pub made-given : (o l o′ l′ : List ℕ) (w b : ℕ) (P : Pattern) → Written o 0 (write (P .automaton)) o′ w → Written l 0 (writeLabels (P .labels)) l′ b → outputOf (Lengths w b) o′ l′ ≡ outputs o l (given P)

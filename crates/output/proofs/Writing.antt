@@ -1,10 +1,9 @@
 -- The laws by which the writing functions are proved.
 use Prim.Native.Nat.{ℕ, suc, _+_}
 use mathlib.Core.List.{List, [], _∷_}
-use mathlib.Core.Path.{_≡_, refl, sym, ap}
+use mathlib.Core.Path.{_≡_, refl}
 use native.Mathlib.Omega.{arith}
 use lib.ListN.{set}
-use lib.Seq.{sets}
 use Rattle.lists.specs.Written.{Written}
 
 -- five stores, one behind the other

@@ -3,6 +3,5 @@ pub mod Cuts
 pub mod Missing
 pub mod Overlap
 pub mod Sorting
-pub mod Samples
 pub mod Runs
 pub mod Writing

@@ -1,7 +1,7 @@
 -- The laws by which the check is proved: each says what one more word, record or section does.
 use Prim.Native.Nat.{ℕ, zero, suc, _+_, _-_, _*_, _≤_, _<_}
 use mathlib.Core.Path.{_≡_, refl, sym, ap, _∙_}
-use mathlib.Core.Bool.{Bool, true, false, not, cond, _&&_, _||_}
+use mathlib.Core.Bool.{Bool, true, false, cond, _||_}
 use mathlib.Core.List.{List, [], _∷_}
 use native.Mathlib.Nat.{add-sub-cancel-left}
 use native.Mathlib.Numerals.{add-one, sub-one}
@@ -12,7 +12,6 @@ use lib.Dec.{leb, ltb, eqb}
 use lib.ListN.{length, getD, take, drop, drop-of-length-le, length-drop, length-take}
 use Rattle.lists.proofs.Parts.{drop-at, part-all}
 use Rattle.lists.proofs.Tests.{tests}
-use Rattle.automata.specs.Automaton.{Transition}
 use Rattle.automata.specs.Ordered.{less}
 use Rattle.automata.specs.Records.{wordsOf, readRecords, recordAt}
 use Rattle.automata.proofs.Records.{records-at, records-end, part-record}

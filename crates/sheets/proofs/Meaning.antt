@@ -1,19 +1,17 @@
 -- Sheets and automata: an accepted sheet reads as a well-formed automaton, and each of reading and writing undoes the other.
-use Prim.Native.Nat.{ℕ, zero, suc, _+_, _-_, _*_, _≤_, _<_}
-use mathlib.Core.Bool.{Bool, true, false, cond, not, _&&_, _||_, true≢false}
+use Prim.Native.Nat.{ℕ, zero, suc, _+_, _*_, _≤_, _<_}
+use mathlib.Core.Bool.{Bool, true, false, not, _&&_, true≢false}
 use mathlib.Core.List.{List, [], _∷_, _++_, List·Memᴰ·head, List·Memᴰ·tail}
-use mathlib.Core.Logic.{_⊎_, inl, inr, ⊎-elim}
+use mathlib.Core.Logic.{⊎-elim}
 use mathlib.Core.Path.{_≡_, refl, sym, ap, ap₂, _∙_, subst}
-use native.Mathlib.Nat.{add-sub-cancel-left}
-use native.Mathlib.Numerals.{add-one}
 use native.Mathlib.Omega.{arith}
-use borrow.Author.Tests.{ltb-true, ltb-false, leb-true, leb-false, eqb-true, eqb-false, lt-ltb, le-ltb, le-leb, lt-leb, eq-eqb, ne-eqb}
+use borrow.Author.Tests.{ltb-false, leb-true, leb-false, eqb-true, le-ltb, le-leb, lt-leb, eq-eqb, ne-eqb}
 use lib.Dec.{leb, ltb, eqb}
 use lib.ListN.{length, getD, take, drop, length-append, length-drop, length-take, take-append-drop}
-use lib.Seq.{drop-cons, drop-drop, take-at, drop-at, getD-at, getD-take, getD-drop, length-take-le}
+use lib.Seq.{drop-cons, drop-drop, take-at, drop-at}
 use Rattle.lists.specs.Lists.{_∈_, Ascending, none, more}
-use Rattle.lists.proofs.Tests.{test, or-cases, and-parts, and-both, or-left, or-right, or-false, cond-no, cond-yes}
-use Rattle.automata.specs.Automaton.{Transition, Automaton, InBounds}
+use Rattle.lists.proofs.Tests.{test, and-parts, and-both, or-false, cond-no, cond-yes}
+use Rattle.automata.specs.Automaton.{Transition, Automaton}
 use Rattle.automata.specs.Records.{wordsOf, readRecords, writeRecords}
 use Rattle.automata.specs.Ordered.{less}
 use Rattle.automata.specs.WellFormed.{Before, Sound, WellFormed, Fits}

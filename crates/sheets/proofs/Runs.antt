@@ -1,8 +1,8 @@
 -- The records of an accepted sheet that leave one state are a run: laws of `below`, and what the table of starts gives.
 use Prim.Native.Nat.{ℕ, zero, suc, _+_, _-_, _*_, _≤_, _<_}
-use mathlib.Core.Bool.{Bool, true, false, cond}
-use mathlib.Core.List.{List, [], _∷_, _++_, List·Memᴰ·head, List·Memᴰ·tail, nil≢cons, head-eq-of-cons-eq}
-use mathlib.Core.Logic.{_⊎_, inl, inr, ⊎-elim}
+use mathlib.Core.Bool.{true, false}
+use mathlib.Core.List.{List, [], _∷_, _++_, nil≢cons, head-eq-of-cons-eq}
+use mathlib.Core.Logic.{⊎-elim}
 use mathlib.Core.Path.{_≡_, refl, sym, ap, ap₂, _∙_, subst}
 use native.Mathlib.Numerals.{add-one}
 use native.Mathlib.Omega.{arith}
@@ -17,7 +17,7 @@ use Rattle.lists.proofs.Parts.{part-all, sets-one}
 use Rattle.lists.proofs.Tests.{test}
 use Rattle.automata.specs.Automaton.{Transition, leaving}
 use Rattle.automata.specs.Records.{readRecords, writeRecords, recordAt}
-use Rattle.automata.specs.WellFormed.{Lex, here, later, Before, WellFormed}
+use Rattle.automata.specs.WellFormed.{here, later, Before}
 use Rattle.automata.proofs.Records.{records-at, records-end, read-drop, read-take, write-read, length-read}
 use Rattle.sheets.specs.Sheet.{stateCount, recordCount, recordsAt, read}
 use Rattle.sheets.specs.Accepted.{Accepted}

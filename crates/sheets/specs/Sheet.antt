@@ -1,7 +1,7 @@
 -- The sheet of document 01 as words, and what it means: three sections, each after its count. Start: 1, the start index.
 -- States: n, then n accept words. Transitions: m, then m records of five words.
 use Prim.Native.Nat.{ℕ, _+_}
-use mathlib.Core.List.{List, [], _∷_, _++_}
+use mathlib.Core.List.{List, _∷_, _++_}
 use lib.ListN.{length, getD, take, drop}
 use Rattle.automata.specs.Automaton.{Automaton}
 use Rattle.automata.specs.Records.{readRecords, writeRecords}

@@ -1,12 +1,12 @@
 -- Reading a text, and the answers of acceptance: the laws by which the public entries are proved.
-use Prim.Native.Nat.{ℕ, _≤_, _<_}
+use Prim.Native.Nat.{ℕ, _≤_}
 use mathlib.Core.Bool.{Bool, true, false, false≢true}
 use mathlib.Core.List.{List, [], _∷_}
 use mathlib.Core.Path.{_≡_, refl, sym, _∙_, ap, subst}
 use borrow.Author.Needs.{needs}
 use lib.ListN.{length, getD, drop, drop-of-length-le}
 use Rattle.refusal.specs.declared.InputRefusal.{InputRefusal}
-use Rattle.refusal.specs.Answer.{Answer, refused, given}
+use Rattle.refusal.specs.Answer.{refused, given}
 use Rattle.refusal.specs.Number.{inputNumber}
 use Rattle.sets.specs.Sets.{Set, Canon, isEmpty}
 use Rattle.sets.specs.BitSet.{setAt}
@@ -22,7 +22,7 @@ use Rattle.sheets.proofs.Checking.{sheet-passed, sheet-refused}
 use Rattle.sheets.proofs.Meaning.{read-well}
 use Rattle.utf8.specs.declared.Step.{Step}
 use Rattle.utf8.specs.declared.Step.the-variants.{Point, End, Malformed}
-use Rattle.utf8.specs.Utf8.{Front, end, front, Decoded, malformed, points, cons, decode, wellformed, stepAt}
+use Rattle.utf8.specs.Utf8.{end, front, Decoded, malformed, points, cons, decode, wellformed, stepAt}
 use Rattle.utf8.proofs.Decode.{decode-end, end-decode, malformed-decode, point-decode, point-within, point-less}
 use Rattle.utf8.proofs.Wellformed.{wellformed-points, point-wellformed}
 use Rattle.words.specs.Simulation.{step, simulate, startSet, kindOf, kind}

@@ -1,15 +1,15 @@
 -- The closure of a state is what epsilons reach, by runs.
-use Prim.Native.Nat.{ℕ, zero, suc, _+_, _≤_, _<_}
+use Prim.Native.Nat.{ℕ, zero, suc, _≤_, _<_}
 use mathlib.Core.Bool.{Bool, true, false, cond, _||_}
-use mathlib.Core.List.{List, [], _∷_, _++_, map}
-use mathlib.Core.Logic.{_⊎_, inl, inr, ⊎-elim, _↔_}
-use mathlib.Core.Path.{_≡_, refl, sym, ap, subst}
+use mathlib.Core.List.{List, [], _++_}
+use mathlib.Core.Logic.{_⊎_, inl, inr, ⊎-elim}
+use mathlib.Core.Path.{_≡_, refl, sym, subst}
 use native.Mathlib.Nat.{eq-or-lt-of-le, le-refl}
 use native.Mathlib.Omega.{arith}
 use borrow.Author.Tests.{eq-eqb, eqb-true}
 use lib.Dec.{eqb}
 use lib.ListN.{getD, List·getD-map}
-use Rattle.lists.specs.Lists.{_∈_, any, tabulate}
+use Rattle.lists.specs.Lists.{any, tabulate}
 use Rattle.lists.proofs.Lists.{any-out, any-in, tabulate-at}
 use Rattle.lists.proofs.Tests.{test, or-cases, or-left, or-right, and-both, and-parts}
 use Rattle.automata.specs.Automaton.{Transition, Automaton, Run, stay, skip, read, InBounds}

@@ -1,24 +1,23 @@
 -- The laws by which the closures are proved: the table's rows get their own numbers, then the targets of epsilons, then Warshall's rounds.
-use Prim.Native.Nat.{ℕ, zero, suc, _+_, _-_, _*_, _≤_, _<_}
-use mathlib.Core.Bool.{Bool, true, false, cond, _&&_, _||_}
+use Prim.Native.Nat.{ℕ, suc, _+_, _-_, _*_, _≤_, _<_}
+use mathlib.Core.Bool.{true, false, _||_}
 use mathlib.Core.List.{List, [], _∷_, List·Memᴰ·head, List·Memᴰ·tail}
-use mathlib.Core.Logic.{_⊎_, inl, inr, ⊎-elim}
+use mathlib.Core.Logic.{⊎-elim}
 use mathlib.Core.Path.{_≡_, refl, sym, _∙_, ap, subst, subst⁻¹}
 use native.Mathlib.Nat.{eq-or-lt-of-le}
-use native.Mathlib.Numerals.{add-one}
 use native.Mathlib.Omega.{arith}
 use borrow.Author.Needs.{needs}
 use borrow.Author.Tests.{eq-eqb, eqb-true, ne-eqb, eqb-false}
 use lib.Dec.{eqb}
 use lib.ListN.{length, getD, take, drop, replicate, length-replicate}
-use Rattle.lists.specs.Lists.{_∈_, any, tabulate}
+use Rattle.lists.specs.Lists.{any, tabulate}
 use Rattle.lists.proofs.Lists.{any-out, tabulate-ext}
 use Rattle.lists.proofs.Parts.{part-all}
 use Rattle.lists.proofs.Tests.{test, true-same, and-parts}
-use Rattle.automata.specs.Automaton.{Transition, Automaton, InBounds}
+use Rattle.automata.specs.Automaton.{Transition, InBounds}
 use Rattle.automata.specs.Records.{readRecords, recordAt}
 use Rattle.automata.proofs.Records.{records-at, records-end, part-record}
-use Rattle.sets.specs.Sets.{Set, has, pick, Canon}
+use Rattle.sets.specs.Sets.{has, Canon}
 use Rattle.sets.specs.BitSet.{setAt, entries}
 use Rattle.sets.specs.Closure.{closed}
 use Rattle.sets.specs.Words.{insertAt, closeRows}

@@ -1,24 +1,21 @@
 -- The laws by which a step is proved: gathering record by record, and member by member.
-use Prim.Native.Nat.{ℕ, zero, suc, _+_, _-_, _*_, _≤_, _<_}
-use mathlib.Core.Bool.{Bool, true, false, cond, _&&_, _||_}
+use Prim.Native.Nat.{ℕ, _+_, _-_, _*_, _≤_, _<_}
+use mathlib.Core.Bool.{Bool, true, false, _&&_, _||_}
 use mathlib.Core.List.{List, [], _∷_, List·Memᴰ·head, List·Memᴰ·tail}
-use mathlib.Core.Logic.{_⊎_, inl, inr, ⊎-elim}
 use mathlib.Core.Path.{_≡_, refl, sym, _∙_, ap, subst}
 use native.Mathlib.Omega.{arith}
 use borrow.Author.Needs.{needs}
-use borrow.Author.Tests.{eq-eqb, eqb-true, lt-leb, le-leb, ne-eqb}
-use lib.Dec.{eqb, leb}
+use borrow.Author.Tests.{eq-eqb, lt-leb, le-leb, ne-eqb}
 use lib.ListN.{length, getD, take, drop}
-use Rattle.lists.specs.Lists.{_∈_, any, keep}
-use Rattle.lists.proofs.Lists.{any-in, any-out, any-ext, keep-in, keep-out, drop-mem}
-use Rattle.lists.proofs.Tests.{true-same, and-both, and-parts}
-use Rattle.automata.specs.Automaton.{Transition, Automaton, InBounds, holds, leaving}
+use Rattle.lists.specs.Lists.{_∈_, any}
+use Rattle.lists.proofs.Lists.{any-ext}
+use Rattle.automata.specs.Automaton.{Transition, holds}
 use Rattle.automata.specs.Records.{readRecords, recordAt}
 use Rattle.automata.proofs.Records.{records-at, records-end, part-record}
 use Rattle.sets.specs.Sets.{Set, has, pick, Canon}
 use Rattle.sets.specs.BitSet.{setAt}
 use Rattle.sets.specs.Words.{unionAt}
-use Rattle.sets.proofs.Sets.{picked, pick-out, has-pick, pick-ext, mem-has, has-mem}
+use Rattle.sets.proofs.Sets.{has-pick, pick-ext}
 use Rattle.sets.proofs.BitSet.{at-canon}
 use Rattle.sets.proofs.Stores.{unioned}
 use Rattle.words.specs.Gather.{withAll, takes, gathered, Targets}

@@ -8,3 +8,4 @@ pub mod Epsilons
 pub mod Stepping
 pub mod Reading
 pub mod Answers
+pub mod Theorems

@@ -1,5 +1,5 @@
 -- Reading a word symbol by symbol: the laws by which acceptance is proved.
-use Prim.Native.Nat.{ℕ, zero, suc, _+_, _-_, _*_, _≤_, _<_}
+use Prim.Native.Nat.{ℕ, _+_, _*_, _≤_, _<_}
 use mathlib.Core.Bool.{Bool, true, false, _&&_, false≢true}
 use mathlib.Core.List.{List, [], _∷_}
 use mathlib.Core.Path.{_≡_, refl, sym, _∙_, ap, subst}
@@ -12,7 +12,7 @@ use Rattle.lists.specs.Lists.{any}
 use Rattle.lists.proofs.Lists.{keep-none}
 use Rattle.lists.proofs.Parts.{drop-at}
 use Rattle.automata.specs.Automaton.{Automaton, holds}
-use Rattle.sets.specs.Sets.{Set, has, pick, Canon, isEmpty}
+use Rattle.sets.specs.Sets.{Set, has, Canon, isEmpty}
 use Rattle.sets.specs.BitSet.{setAt, entries}
 use Rattle.sets.specs.Words.{putAt}
 use Rattle.sets.proofs.Sets.{no-member, pick-out, empty-yes, has-nil}

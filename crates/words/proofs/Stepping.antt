@@ -1,18 +1,18 @@
 -- A step, member by member: the laws by which `step` is proved.
-use Prim.Native.Nat.{ℕ, zero, suc, _+_, _-_, _*_, _≤_, _<_}
-use mathlib.Core.Bool.{Bool, true, false, cond, _&&_, _||_, false≢true}
+use Prim.Native.Nat.{ℕ, _+_, _*_, _≤_, _<_}
+use mathlib.Core.Bool.{true, _&&_, _||_}
 use mathlib.Core.List.{List, [], _∷_}
-use mathlib.Core.Logic.{_⊎_, inl, inr, ⊎-elim}
-use mathlib.Core.Path.{_≡_, refl, sym, _∙_, ap, subst}
+use mathlib.Core.Logic.{⊎-elim}
+use mathlib.Core.Path.{_≡_, refl, sym, _∙_, ap}
 use native.Mathlib.Omega.{arith}
 use borrow.Author.Needs.{needs}
 use borrow.Author.Tests.{eq-eqb, eqb-true}
-use lib.Dec.{eqb, leb}
+use lib.Dec.{eqb}
 use lib.ListN.{length, getD}
-use Rattle.lists.specs.Lists.{_∈_, any, keep}
+use Rattle.lists.specs.Lists.{any}
 use Rattle.lists.proofs.Lists.{any-in, any-out, any-ext, keep-in, keep-out}
 use Rattle.lists.proofs.Tests.{test, true-same, and-both, and-parts}
-use Rattle.automata.specs.Automaton.{Transition, Automaton, InBounds, holds, leaving}
+use Rattle.automata.specs.Automaton.{Automaton, InBounds, holds, leaving}
 use Rattle.automata.specs.Records.{readRecords, writeRecords}
 use Rattle.automata.proofs.Records.{read-write}
 use Rattle.sets.specs.Sets.{Set, has, pick, Canon, membersFrom, nextMember}
@@ -22,12 +22,11 @@ use Rattle.sets.proofs.Sets.{has-pick, pick-ext, pick-canon, mem-has, has-mem, 
 use Rattle.sets.proofs.BitSet.{at-canon, entry-at}
 use Rattle.sets.proofs.Stores.{cleared}
 use Rattle.sets.proofs.Members.{visit-start, visit-has, visit-next, from-end}
-use Rattle.sheets.specs.Accepted.{Accepted}
-use Rattle.sheets.specs.Runs.{Indexed, RunAt}
+use Rattle.sheets.specs.Runs.{RunAt}
 use Rattle.sheets.specs.Sheet.{stateCount, read}
 use Rattle.sheets.proofs.Meaning.{read-well}
 use Rattle.sheets.proofs.Runs.{run-at}
-use Rattle.words.specs.Simulation.{closures, closure, outgoing, step}
+use Rattle.words.specs.Simulation.{closure, outgoing, step}
 use Rattle.words.specs.Gather.{takes, reaches, gathered, Targets, Tables, withReached, withAll}
 use Rattle.words.proofs.Visiting.{member-here, member-later}
 use Rattle.words.proofs.Gather.{all-none, all-cons, all-one}

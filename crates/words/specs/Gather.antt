@@ -1,10 +1,10 @@
 -- What the code of a step gathers: the closures of the targets of transitions, in a set that it holds in four words.
-use Prim.Native.Nat.{ℕ, _+_, _*_, _≤_, _<_}
+use Prim.Native.Nat.{ℕ, _+_, _*_, _≤_}
 use mathlib.Core.Bool.{Bool, _&&_, _||_}
 use mathlib.Core.List.{List}
 use mathlib.Core.Path.{_≡_}
 use lib.Dec.{eqb}
-use lib.ListN.{length, getD}
+use lib.ListN.{length}
 use Rattle.lists.specs.Lists.{_∈_, any}
 use Rattle.automata.specs.Automaton.{Transition, Automaton, holds, leaving}
 use Rattle.sets.specs.Sets.{Set, has, pick}

@@ -1,5 +1,5 @@
 -- `kind_of` meets its contract: `kind`, with the accept words of the members from `q` on, gives the least.
-use Prim.Native.Nat.{_-_, _≤_}
+use Prim.Native.Nat.{_-_}
 use mathlib.Core.Path.{_≡_}
 use Rattle.sets.specs.Sets.{membersFrom, nextMember}
 use Rattle.sets.specs.BitSet.{setAt}

@@ -1,5 +1,5 @@
 -- `step` meets its contract: what is in `next`, with what the members from `q` on reach, is the step.
-use Prim.Native.Nat.{_-_, _≤_}
+use Prim.Native.Nat.{_-_}
 use mathlib.Core.Path.{_≡_}
 use lib.ListN.{length}
 use Rattle.sets.specs.Sets.{membersFrom, nextMember}

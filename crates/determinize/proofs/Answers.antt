@@ -1,0 +1,83 @@
+-- The three answers, and that each answer tells which of them it is.
+use Prim.Native.Nat.{ℕ, _≤_, _<_}
+use mathlib.Core.List.{List}
+use mathlib.Core.Logic.{⊎-elim}
+use mathlib.Core.Path.{_≡_, refl, _∙_, ap}
+use native.Mathlib.Omega.{arith}
+use borrow.Author.Tests.{lt-ltb, le-ltb, ltb-true, ltb-false}
+use lib.Dec.{ltb}
+use lib.ListN.{length}
+use Rattle.lists.proofs.Tests.{test}
+use Rattle.automata.specs.Automaton.{Automaton}
+use Rattle.automata.specs.WellFormed.{mostTransitions}
+use Rattle.sets.specs.Sets.{Set}
+use Rattle.refusal.specs.Answer.{refused, given}
+use Rattle.determinize.specs.Determinize.{Found, over, found, table, built, limited, answerOf, determinize}
+
+module _ (lo hi : ℕ) (A : Automaton) where
+  -- the three answers
+  pub answer-over : table lo hi A ≡ over → determinize lo hi A ≡ refused 21
+  unfolding determinize answerOf
+  answer-over e = ap (answerOf lo hi A) e
+
+  module _ (T : List Set) (e : table lo hi A ≡ found T) where
+    pub answer-many : mostTransitions < length (built lo hi A T .transitions) → determinize lo hi A ≡ refused 22
+    unfolding determinize answerOf limited
+    answer-many h = ap (answerOf lo hi A) e ∙ rw (lt-ltb _ _ h)
+
+    pub answer-given : length (built lo hi A T .transitions) ≤ mostTransitions → determinize lo hi A ≡ given (built lo hi A T)
+    unfolding determinize answerOf limited
+    answer-given h = ap (answerOf lo hi A) e ∙ rw (le-ltb mostTransitions (length (built lo hi A T .transitions)) h)
+
+  -- which of them it is
+  pub data Outcome : Type 0 where
+    too-many-sets : table lo hi A ≡ over → determinize lo hi A ≡ refused 21 → Outcome
+    too-many-transitions : (T : List Set) → table lo hi A ≡ found T → mostTransitions < length (built lo hi A T .transitions) → determinize lo hi A ≡ refused 22 → Outcome
+    fits : (T : List Set) → table lo hi A ≡ found T → length (built lo hi A T .transitions) ≤ mostTransitions → determinize lo hi A ≡ given (built lo hi A T) → Outcome
+
+  pub outcome : Outcome
+  outcome = go (table lo hi A) refl
+    where
+      go : (f : Found) → table lo hi A ≡ f → Outcome
+      go over e = too-many-sets e (answer-over e)
+      go (found T) e =
+          let n = length (built lo hi A T .transitions) in
+          ⊎-elim (λ t. let h = ltb-true mostTransitions n t in too-many-transitions T e h (answer-many T e h)) (λ t. let h = ltb-false mostTransitions n t in fits T e h (answer-given T e h))
+          (test (ltb mostTransitions n))
+
+  -- an automaton that was given comes from a finished table, with few enough transitions
+  pub record Built (D : Automaton) : Type 0 where
+    pub sets : List Set
+    pub whole : table lo hi A ≡ found sets
+    pub is : D ≡ built lo hi A sets
+    pub few : length (D .transitions) ≤ mostTransitions
+
+  pub made-built : (D : Automaton) → determinize lo hi A ≡ given D → Built D
+  made-built D p = go outcome
+    where
+      go : Outcome → Built D
+      go (too-many-sets e q) = let z : _≡_ {A = ℕ} 0 1 = cc in absurd (omega arith)
+      go (too-many-transitions T e h q) = let z : _≡_ {A = ℕ} 0 1 = cc in absurd (omega arith)
+      go (fits T e h q) = let r : D ≡ built lo hi A T = cc in record { sets = T; whole = e; is = r; few = rw r h }
+
+  pub refused-over : determinize lo hi A ≡ refused 21 → table lo hi A ≡ over
+  refused-over p = go outcome
+    where
+      go : Outcome → table lo hi A ≡ over
+      go (too-many-sets e q) = e
+      go (too-many-transitions T e h q) = let z : _≡_ {A = ℕ} 21 22 = cc in absurd (omega arith)
+      go (fits T e h q) = let z : _≡_ {A = ℕ} 0 1 = cc in absurd (omega arith)
+
+  -- 22 is given to a finished table with too many transitions
+  pub record Many : Type 0 where
+    pub sets : List Set
+    pub whole : table lo hi A ≡ found sets
+    pub many : mostTransitions < length (built lo hi A sets .transitions)
+
+  pub refused-many : determinize lo hi A ≡ refused 22 → Many
+  refused-many p = go outcome
+    where
+      go : Outcome → Many
+      go (too-many-sets e q) = let z : _≡_ {A = ℕ} 21 22 = cc in absurd (omega arith)
+      go (too-many-transitions T e h q) = record { sets = T; whole = e; many = h }
+      go (fits T e h q) = let z : _≡_ {A = ℕ} 0 1 = cc in absurd (omega arith)

@@ -1,0 +1,120 @@
+-- Laws on lists that hold for lists of anything: members of a list of images, ascending and distinct lists, and counting by members.
+use Prim.Native.Nat.{ℕ, zero, suc, _+_, _≤_, _<_}
+use mathlib.Core.Bool.{Bool, true, false, cond, not, _&&_, _||_}
+use mathlib.Core.List.{List, [], _∷_, _++_, map, List·Memᴰ·head, List·Memᴰ·tail, List·Memᴰ·not-nil, List·Memᴰ·cases-cons, List·Memᴰ·append-cases, List·Memᴰ·eq-of-singleton, Memᴰ·cast}
+use mathlib.Core.Logic.{⊎-elim}
+use mathlib.Core.Path.{_≡_, refl, sym, _∙_, ap, subst}
+use native.Mathlib.Omega.{arith}
+use lib.ListN.{getD, length}
+use Rattle.lists.specs.Lists.{_∈_, keep, Ascending, Distinct}
+use Rattle.lists.proofs.Lists.{keep-none, keep-out}
+use Rattle.lists.proofs.Tests.{test}
+
+pub map-out : {X Y : Type 0} (f : X → Y) (l : List X) (y : Y) → y ∈ map f l → (x : X) × x ∈ l × (y ≡ f x)
+map-out f [] y m = elim m [ ]
+map-out f (x ∷ l) y m =
+    ⊎-elim (λ e. (x, List·Memᴰ·head refl, e)) (λ k. let r = map-out f l y k in (r .0, List·Memᴰ·tail (r .1), r .2)) (List·Memᴰ·cases-cons m)
+
+pub map-in : {X Y : Type 0} (f : X → Y) {x : X} {l : List X} → x ∈ l → f x ∈ map f l
+map-in f (List·Memᴰ·head e) = List·Memᴰ·head (ap f e)
+map-in f (List·Memᴰ·tail m) = List·Memᴰ·tail (map-in f m)
+
+pub at-in : {X : Type 0} (l : List X) (j : ℕ) (d : X) → j < length l → getD l j d ∈ l
+at-in [] j d h = absurd (omega arith)
+at-in (x ∷ l) zero d h = List·Memᴰ·head refl
+at-in (x ∷ l) (suc j) d h = List·Memᴰ·tail (at-in l j d (omega arith))
+
+pub keep-ext : {X : Type 0} (f g : X → Bool) (l : List X) → ((x : X) → x ∈ l → f x ≡ g x) → keep f l ≡ keep g l
+unfolding keep
+keep-ext f g [] h = refl
+keep-ext f g (x ∷ l) h = rw (h x (List·Memᴰ·head refl), keep-ext f g l (λ y m. h y (List·Memᴰ·tail m)))
+
+pub keep-and : {X : Type 0} (f g : X → Bool) (l : List X) → keep (λ x. f x && g x) l ≡ keep g (keep f l)
+unfolding keep
+keep-and f g [] = refl
+keep-and f g (x ∷ l) = go (f x) (keep-and f g l)
+  where
+    go : (b : Bool) → keep (λ x. f x && g x) l ≡ keep g (keep f l)
+        → cond (b && g x) (x ∷ keep (λ x. f x && g x) l) (keep (λ x. f x && g x) l) ≡ keep g (cond b (x ∷ keep f l) (keep f l))
+    go true e = rw e
+    go false e = e
+
+module _ {X : Type 0} {R : X → X → Type 0} where
+  pub ascending-map : {Y : Type 0} {Q : Y → Y → Type 0} (f : X → Y) → ((x y : X) → R x y → Q (f x) (f y)) → {l : List X} → Ascending R l → Ascending Q (map f l)
+  ascending-map f h Ascending.none = Ascending.none
+  ascending-map {Q = Q} f h {l = x ∷ l} (Ascending.more g a) =
+      Ascending.more (λ y m. let r = map-out f l y m in subst (λ z. Q (f x) z) (sym (r .2)) (h x (r .0) (g (r .0) (r .1)))) (ascending-map f h a)
+
+  pub ascending-append : {l m : List X} → Ascending R l → Ascending R m → ((x y : X) → x ∈ l → y ∈ m → R x y) → Ascending R (l ++ m)
+  ascending-append Ascending.none b h = b
+  ascending-append {l = x ∷ l} (Ascending.more g a) b h =
+      Ascending.more (λ y k. ⊎-elim (λ k. g y k) (λ k. h x y (List·Memᴰ·head refl) k) (List·Memᴰ·append-cases l k))
+      (ascending-append a b (λ x y k. h x y (List·Memᴰ·tail k)))
+
+  pub ascending-keep : (f : X → Bool) {l : List X} → Ascending R l → Ascending R (keep f l)
+  unfolding keep
+  ascending-keep f Ascending.none = Ascending.none
+  ascending-keep f {l = x ∷ l} (Ascending.more g a) = go (f x) (ascending-keep f a)
+    where
+      go : (b : Bool) → Ascending R (keep f l) → Ascending R (cond b (x ∷ keep f l) (keep f l))
+      go true k = Ascending.more (λ y m. g y (keep-out f y l m .0)) k
+      go false k = k
+
+  -- two tests, where no element that passes g stands before one that passes f
+  pub keep-either : (f g : X → Bool) → ((x : X) → f x ≡ true → g x ≡ false) → ((x y : X) → R x y → g x ≡ true → f y ≡ false)
+      → {l : List X} → Ascending R l → keep (λ x. f x || g x) l ≡ keep f l ++ keep g l
+  unfolding keep
+  keep-either f g d o Ascending.none = refl
+  keep-either f g d o {l = x ∷ l} (Ascending.more h a) =
+      let ih = keep-either f g d o a in
+      ⊎-elim (λ (p : f x ≡ true). rw (p, d x p) (ap (λ k. x ∷ k) ih))
+      (λ (p : f x ≡ false).
+      ⊎-elim (λ (q : g x ≡ true). rw (p, q) (ap (λ k. x ∷ k) (ih ∙ ap (λ k. k ++ keep g l) (none q)) ∙ sym (ap (λ k. k ++ (x ∷ keep g l)) (none q))))
+      (λ (q : g x ≡ false). rw (p, q) ih)
+      (test (g x)))
+      (test (f x))
+    where
+      none : g x ≡ true → keep f l ≡ []
+      none q = keep-none f l (λ y m. o x y (h y m) q)
+
+-- those that pass and those that don't
+pub count-keep : {X : Type 0} (f : X → Bool) (l : List X) → length (keep f l) + length (keep (λ x. not (f x)) l) ≡ length l
+unfolding keep
+count-keep f [] = refl
+count-keep f (x ∷ l) = go (f x) (count-keep f l)
+  where
+    go : (b : Bool) → length (keep f l) + length (keep (λ x. not (f x)) l) ≡ length l
+        → length (cond b (x ∷ keep f l) (keep f l)) + length (cond (not b) (x ∷ keep (λ x. not (f x)) l) (keep (λ x. not (f x)) l)) ≡ suc (length l)
+    go true h = omega arith
+    go false h = omega arith
+
+module _ {X : Type 0} where
+  pub distinct-end : (x : X) (l : List X) → Distinct l → (x ∈ l → ⊥) → Distinct (l ++ x ∷ [])
+  distinct-end x [] Distinct.none f = Distinct.more (λ m. List·Memᴰ·not-nil m) Distinct.none
+  distinct-end x (y ∷ l) (Distinct.more g d) f =
+      Distinct.more (λ m. ⊎-elim g (λ k. f (List·Memᴰ·head (sym (List·Memᴰ·eq-of-singleton k)))) (List·Memᴰ·append-cases l m))
+      (distinct-end x l d (λ m. f (List·Memᴰ·tail m)))
+
+  -- a list without one of its members
+  unfoldable pub without : {x : X} {l : List X} → x ∈ l → List X
+  without {l = y ∷ l} (List·Memᴰ·head e) = l
+  without {l = y ∷ l} (List·Memᴰ·tail m) = y ∷ without m
+
+  pub without-length : {x : X} {l : List X} (m : x ∈ l) → length l ≡ suc (length (without m))
+  unfolding without
+  without-length (List·Memᴰ·head e) = refl
+  without-length (List·Memᴰ·tail m) = ap suc (without-length m)
+
+  pub without-in : {x : X} {l : List X} (m : x ∈ l) (y : X) → y ∈ l → (y ≡ x → ⊥) → y ∈ without m
+  unfolding without
+  without-in {l = z ∷ l} (List·Memᴰ·head e) y k n = ⊎-elim (λ (q : y ≡ z). absurd (n (q ∙ sym e))) (λ k. k) (List·Memᴰ·cases-cons k)
+  without-in {l = z ∷ l} (List·Memᴰ·tail m) y k n = ⊎-elim (λ q. List·Memᴰ·head q) (λ k. List·Memᴰ·tail (without-in m y k n)) (List·Memᴰ·cases-cons k)
+
+  -- distinct elements that are all members of a list are no more than its elements
+  pub distinct-length : (k l : List X) → Distinct k → ((x : X) → x ∈ k → x ∈ l) → length k ≤ length l
+  distinct-length [] l d h = omega arith
+  distinct-length (x ∷ k) l (Distinct.more f d) h =
+      let m = h x (List·Memᴰ·head refl) in
+      let n = without-length m in
+      let p = distinct-length k (without m) d (λ y i. without-in m y (h y (List·Memᴰ·tail i)) (λ q. f (Memᴰ·cast (sym q) i))) in
+      omega arith

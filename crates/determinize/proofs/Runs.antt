@@ -1,0 +1,151 @@
+-- Runs of the result follow the simulation: a word's run ends in the state that stands for the set at the word's end.
+use Prim.Native.Nat.{ℕ, zero, suc, _≤_, _<_}
+use mathlib.Core.Bool.{true, false}
+use mathlib.Core.List.{List, [], _∷_, List·Memᴰ·head}
+use mathlib.Core.Logic.{⊎-elim, _↔_}
+use mathlib.Core.Path.{_≡_, refl, sym, _∙_, ap, subst}
+use native.Mathlib.Omega.{arith}
+use borrow.Author.Tests.{eqb-true, leb-true, ltb-true, ltb-false}
+use lib.Dec.{eqb, leb, ltb}
+use lib.ListN.{getD, length, List·getD-eq-default}
+use Rattle.lists.specs.Lists.{_∈_, Distinct}
+use Rattle.lists.proofs.Lists.{keep-out}
+use Rattle.lists.proofs.Tests.{test, and-parts}
+use Rattle.automata.specs.Automaton.{Transition, Automaton, Run, stay, skip, read, Accepts, Word, none, more, InBounds, holds, carries}
+use Rattle.sets.specs.Sets.{Set, has, index}
+use Rattle.sets.proofs.Tables.{at-index}
+use Rattle.words.specs.Simulation.{closure, outgoing, step, simulate, startSet, kindOf, kind}
+use Rattle.words.proofs.Closures.{join, closure-sound, closure-complete}
+use Rattle.words.proofs.Simulation.{simulate-sound, simulate-complete, closure-shut, accepts-kind}
+use Rattle.words.proofs.Kind.{kindOf-some, kindOf-least}
+use Rattle.determinize.specs.Determinize.{found, table, states, transitionOf, built}
+use Rattle.determinize.proofs.Lists.{at-in}
+use Rattle.determinize.proofs.Spans.{cut-stretch, cut-alike}
+use Rattle.determinize.proofs.Steps.{step-alike}
+use Rattle.determinize.proofs.Tables.{index-le}
+use Rattle.determinize.proofs.Finished.{table-start, table-closed, table-all}
+use Rattle.determinize.proofs.Result.{states-at, length-states, origin, accept-built, one-built}
+
+zero-both : (a b : ℕ) → a ≤ 0 → (0 < b → 0 < a) → a ≡ b
+zero-both a zero h f = omega arith
+zero-both a (suc b) h f = absurd (let g = f (omega arith) in omega arith)
+
+-- distinct sets stand at different places
+distinct-at : (T : List Set) → Distinct T → (i j : ℕ) → i < length T → j < length T → getD T i [] ≡ getD T j [] → i ≡ j
+distinct-at [] d i j a b e = absurd (omega arith)
+distinct-at (S ∷ T) d zero zero a b e = refl
+distinct-at (S ∷ T) (Distinct.more f d) zero (suc j) a b e = absurd (f (rw e (at-in T j [] (omega arith))))
+distinct-at (S ∷ T) (Distinct.more f d) (suc i) zero a b e = absurd (f (rw (sym e) (at-in T i [] (omega arith))))
+distinct-at (S ∷ T) (Distinct.more f d) (suc i) (suc j) a b e = ap suc (distinct-at T d i j (omega arith) (omega arith) e)
+
+module _ (lo hi : ℕ) (A : Automaton) (ok : InBounds A) (T : List Set) (e : table lo hi A ≡ found T) where
+  abbrev D : Automaton
+  D = built lo hi A T
+
+  -- what a transition of the result says of the sets
+  pub record TransitionFacts (d : Transition) : Type 0 where
+    pub is-range : d .kind ≡ 1
+    pub from-lt : d .from < D .size
+    pub to-lt : d .to < D .size
+    pub low : lo ≤ d .first
+    pub full : d .first ≤ d .last
+    pub high : d .last ≤ hi
+    pub to-at : (x : ℕ) → d .first ≤ x → x ≤ d .last → getD T (d .to) [] ≡ step A (getD T (d .from) []) x
+
+  pub transition-facts : (d : Transition) → d ∈ D .transitions → TransitionFacts d
+  unfolding built transitionOf
+  transition-facts d m =
+      let r = origin lo hi A T 0 (states T) d m in
+      let s = r .span in
+      let n : r .place < suc (length T) = rw (length-states T) at (r .near) in
+      let f : d .from ≡ r .place = ap (λ x. x .from) (r .is) ∙ omega arith in
+      let S = getD T (d .from) [] in
+      let p : getD (states T) (r .place) [] ≡ S = states-at T (r .place) ∙ ap (λ k. getD T k []) (sym f) in
+      let i = rw p at (r .in) in
+      let v = cut-stretch lo hi (outgoing A S) s i in
+      let t : d .to ≡ index (step A S (s .low)) T = ap (λ x. x .to) (r .is) ∙ ap (λ R. index (step A R (s .low)) T) p in
+      let z = index-le (step A S (s .low)) T in
+      let a : d .first ≡ s .low = ap (λ x. x .first) (r .is) in
+      let b : d .last ≡ s .high = ap (λ x. x .last) (r .is) in
+      record {
+        is-range = ap (λ x. x .kind) (r .is);
+        from-lt = omega arith;
+        to-lt = omega arith;
+        low = omega (arith, v .above);
+        full = omega (arith, v .full);
+        high = omega (arith, v .below);
+        to-at = λ x l u.
+            ap (λ k. getD T k []) t ∙ at-index T _ (table-closed lo hi A ok T e (d .from) (s .low) (v .above) (omega (arith, v .full, v .below)))
+            ∙ sym (step-alike A S x (s .low) (cut-alike lo hi (outgoing A S) s i x (omega arith) (omega arith)));
+      }
+
+  pub built-bounds : InBounds D
+  built-bounds = record { starts = unfold built in omega arith; froms = λ d m. transition-facts d m .from-lt; tos = λ d m. transition-facts d m .to-lt }
+
+  run-set : {j k : ℕ} {w : List ℕ} → Run D j w k → getD T k [] ≡ simulate A (getD T j []) w
+  unfolding simulate
+  run-set stay = refl
+  run-set (skip d m f c r) = let z = transition-facts d m .is-range in absurd (omega arith)
+  run-set {j} {k} (read {a} {w} d m f c l u r) =
+      run-set r ∙ ap (λ S. simulate A S w) (transition-facts d m .to-at a l u ∙ ap (λ i. step A (getD T i []) a) f)
+
+  run-on : {w : List ℕ} → Word lo hi w → (j : ℕ) → j < D .size → (k : ℕ) × Run D j w k
+  unfolding carries holds
+  run-on none j h = (j, stay)
+  run-on (more {a} l u r) j h =
+      let o = one-built lo hi A T j a h l u in
+      let d = o .0 in
+      let m = keep-out (carries j a) d (D .transitions) (rw (o .1) (List·Memᴰ·head refl)) in
+      let c = and-parts (eqb (d .from) j) _ (m .1) in
+      let b = and-parts (eqb (d .kind) 1) _ (c .1) in
+      let i = and-parts (leb (d .first) a) _ (b .1) in
+      let t = run-on r (d .to) (transition-facts d (m .0) .to-lt) in
+      (t .0, read d (m .0) (eqb-true _ _ (c .0)) (eqb-true _ _ (b .0)) (leb-true _ _ (i .0)) (leb-true _ _ (i .1)) (t .1))
+
+  -- a run from the start ends at the set of its word
+  run-end : {k : ℕ} {w : List ℕ} → Run D (D .start) w k → getD T k [] ≡ simulate A (startSet A) w
+  unfolding built
+  run-end {w = w} r = run-set r ∙ ap (λ S. simulate A S w) (table-start lo hi A ok T e)
+
+  end-kind : {k : ℕ} {w : List ℕ} → Run D (D .start) w k → getD (D .accept) k 0 ≡ kind A w
+  unfolding kind
+  end-kind {k} r = accept-built lo hi A T k ∙ ap (kindOf A) (run-end r)
+
+  pub words-kept : (w : List ℕ) → Word lo hi w → Accepts D w ↔ Accepts A w
+  words-kept w v = (
+    λ a. accepts-kind A ok w .1 (rw (end-kind (a .1)) at (a .2)),
+    λ a.
+        let r = run-on v (D .start) (built-bounds .starts) in
+        (r .0, r .1, rw (end-kind (r .1)) (accepts-kind A ok w .0 a)),
+  )
+
+  pub kind-kept : (w : List ℕ) → Word lo hi w → kind D w ≡ kind A w
+  unfolding kind startSet
+  kind-kept w v =
+      let S = simulate D (closure D (D .start)) w in
+      let s = built-bounds .starts in
+      let r = run-on v (D .start) s in
+      let m : has (r .0) S ≡ true = simulate-complete D built-bounds (r .1) _ (closure-shut D built-bounds (D .start) s) (closure-complete D built-bounds s stay) in
+      ⊎-elim
+      (λ (t : ltb 0 (kindOf D S) ≡ true).
+      let h = kindOf-some D S (ltb-true 0 _ t) in
+      let c = simulate-sound D built-bounds _ w (h .0) (h .1) in
+      sym (h .2) ∙ end-kind (join (closure-sound D built-bounds (D .start) (c .0) s (c .1)) (c .2)))
+      (λ (t : ltb 0 (kindOf D S) ≡ false).
+      let z : kindOf D S ≤ 0 = ltb-false 0 _ t in
+      let y : 0 < getD (D .accept) (r .0) 0 → 0 < kindOf D S = λ p. kindOf-least D S (r .0) m p .0 in
+      zero-both _ (getD (D .accept) (r .0) 0) z y ∙ end-kind (r .1))
+      (test (ltb 0 (kindOf D S)))
+
+  -- a word leads to every state but the sink
+  pub state-reached : (j : ℕ) → j < length T → (w : List ℕ) × Word lo hi w × Run D (D .start) w j
+  state-reached j h =
+      let g = table-all lo hi A ok T e .good in
+      let m = at-in T j [] h in
+      let x = g .reached _ m in
+      let r = run-on (x .1) (D .start) (built-bounds .starts) in
+      let k = r .0 in
+      let q : getD T k [] ≡ getD T j [] = run-end (r .1) ∙ x .2 in
+      let l : k < length T =
+      ⊎-elim (λ t. ltb-true k (length T) t) (λ t. absurd (g .nonempty _ m (sym q ∙ List·getD-eq-default T [] (ltb-false k (length T) t)))) (test (ltb k (length T))) in
+      (x .0, x .1, subst (λ k. Run D (D .start) (x .0) k) (distinct-at T (g .distinct) k j l h q) (r .1))

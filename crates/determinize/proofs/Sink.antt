@@ -1,0 +1,100 @@
+-- Where the transitions lead: those of the parts to the sets of the parts, those of the holes to the sink, and the sink's loop to itself.
+use Prim.Native.Nat.{ℕ, suc, _-_, _≤_, _<_}
+use mathlib.Core.Bool.{true, false, not}
+use mathlib.Core.List.{List, [], _∷_, map}
+use mathlib.Core.Logic.{⊎-elim, _↔_}
+use mathlib.Core.Path.{_≡_, refl, sym, _∙_, ap}
+use native.Mathlib.Nat.{eq-or-lt-of-le}
+use native.Mathlib.Omega.{arith}
+use borrow.Author.Tests.{not-true}
+use lib.Dec.{eqb}
+use lib.ListN.{getD, length, List·getD-eq-default}
+use Rattle.lists.specs.Lists.{_∈_, any}
+use Rattle.lists.proofs.Lists.{keep-out}
+use Rattle.lists.proofs.Tests.{test}
+use Rattle.automata.specs.Automaton.{Automaton, InBounds, holds, leaving}
+use Rattle.sets.specs.Sets.{Set, index}
+use Rattle.sets.proofs.Tables.{index-in, index-lt}
+use Rattle.words.specs.Simulation.{outgoing, step, kindOf}
+use Rattle.ranges.specs.Span.{Span}
+use Rattle.ranges.specs.Cuts.{nextCut, cutAll}
+use Rattle.ranges.specs.Missing.{covered, missing}
+use Rattle.ranges.proofs.Cuts.{cut-step, cut-end}
+use Rattle.determinize.specs.Partition.{Part, partOf, partition}
+use Rattle.determinize.specs.Determinize.{found, table, transitionOf, transitionsOf, built}
+use Rattle.determinize.proofs.Lists.{map-in}
+use Rattle.determinize.proofs.Spans.{cut-stretch}
+use Rattle.determinize.proofs.Parts.{part-out}
+use Rattle.determinize.proofs.Steps.{step-free, step-held, outgoing-nil, step-nil}
+use Rattle.determinize.proofs.Tables.{index-le}
+use Rattle.determinize.proofs.Finished.{table-closed, table-all}
+use Rattle.determinize.proofs.Result.{leaving-built, accept-built}
+
+-- without ranges there is one span
+pub cut-nothing : (lo hi : ℕ) → lo ≤ hi → cutAll lo hi [] ≡ record { low = lo; high = hi } ∷ []
+unfolding nextCut
+cut-nothing lo hi h =
+    let z : suc hi - 1 ≡ hi = omega arith in
+    cut-step hi [] lo h ∙ rw (z, cut-end hi [] (suc hi) (omega arith))
+
+module _ (lo hi : ℕ) (A : Automaton) (ok : InBounds A) (T : List Set) (e : table lo hi A ≡ found T) where
+  -- the empty set is not in the table
+  pub sink-index : index [] T ≡ length T
+  sink-index =
+      ⊎-elim (λ (q : index [] T ≡ length T). q) (λ (l : index [] T < length T). absurd (table-all lo hi A ok T e .good .nonempty [] (index-in [] T l) refl))
+      (eq-or-lt-of-le (index-le [] T))
+
+  -- a symbol leads to the sink exactly if no range of the set holds it
+  pub holes-sink : (j x : ℕ) → lo ≤ x → x ≤ hi → (index (step A (getD T j []) x) T ≡ length T) ↔ (any (holds x) (outgoing A (getD T j [])) ≡ false)
+  holes-sink j x l u =
+      let S = getD T j [] in
+      let R = step A S x in (
+        λ q.
+            ⊎-elim
+            (λ (t : any (holds x) (outgoing A S) ≡ true).
+            absurd
+            (⊎-elim (λ (z : R ≡ []). step-held A ok S x t z) (λ (m : R ∈ T). let k = index-lt R m in omega arith)
+            (table-closed lo hi A ok T e j x l u)))
+            (λ t. t)
+            (test (any (holds x) (outgoing A S))),
+        λ f. rw (step-free A S x f) sink-index,
+      )
+
+  abbrev D : Automaton
+  D = built lo hi A T
+
+  span-in : (j : ℕ) → j < D .size → (s : Span) → s ∈ cutAll lo hi (outgoing A (getD T j [])) → transitionOf A T j (getD T j []) s ∈ D .transitions
+  unfolding leaving transitionsOf
+  span-in j h s m =
+      let S = getD T j [] in
+      keep-out (λ e. eqb (e .from) j) (transitionOf A T j S s) (D .transitions) (rw (leaving-built lo hi A T j h) (map-in (transitionOf A T j S) m)) .0
+
+  -- the transitions of a state's parts and holes
+  pub part-transition : (j : ℕ) → j < D .size → (p : Part) → p ∈ partition (A .size) lo hi (outgoing A (getD T j []))
+      → (record { from = j; kind = 1; first = p .low; last = p .high; to = index (step A (getD T j []) (p .low)) T }) ∈ D .transitions
+  unfolding transitionOf partOf
+  part-transition j h p m =
+      let r = part-out (A .size) lo hi (outgoing A (getD T j [])) p m in
+      rw (r .is) (span-in j h (r .span) (r .in))
+
+  pub hole-transition : (j : ℕ) → j < D .size → (s : Span) → s ∈ missing lo hi (outgoing A (getD T j []))
+      → (record { from = j; kind = 1; first = s .low; last = s .high; to = length T }) ∈ D .transitions
+  unfolding transitionOf missing covered
+  hole-transition j h s m =
+      let S = getD T j [] in
+      let k = keep-out (λ s. not (covered (outgoing A S) s)) s (cutAll lo hi (outgoing A S)) m in
+      let v = cut-stretch lo hi (outgoing A S) s (k .0) in
+      rw (sym (holes-sink j (s .low) (v .above) (omega (arith, v .full, v .below)) .1 (not-true _ (k .1)))) (span-in j h s (k .0))
+
+  pub sink-loop : lo ≤ hi → leaving D (length T) ≡ record { from = length T; kind = 1; first = lo; last = hi; to = length T } ∷ []
+  unfolding transitionsOf transitionOf
+  sink-loop h =
+      let n = length T in
+      leaving-built lo hi A T n (unfold built in omega arith)
+      ∙ ap (transitionsOf lo hi A T n) (List·getD-eq-default T [] (omega arith))
+      ∙ ap (map (transitionOf A T n [])) (ap (cutAll lo hi) (outgoing-nil A) ∙ cut-nothing lo hi h)
+      ∙ ap (λ k. record { from = n; kind = 1; first = lo; last = hi; to = k } ∷ []) (ap (λ R. index R T) (step-nil A lo) ∙ sink-index)
+
+  pub sink-rejects : getD (D .accept) (length T) 0 ≡ 0
+  unfolding kindOf
+  sink-rejects = accept-built lo hi A T (length T) ∙ ap (kindOf A) (List·getD-eq-default T [] (omega arith))

@@ -1,0 +1,123 @@
+-- The spans between cuts, one by one: each begins at lo or at a cut, and goes up to the next cut.
+use Prim.Native.Nat.{ℕ, zero, suc, _-_, _≤_, _<_}
+use mathlib.Core.Bool.{Bool, true, false, cond}
+use mathlib.Core.List.{List, [], _∷_, List·Memᴰ·head, List·Memᴰ·cases-cons}
+use mathlib.Core.Logic.{_⊎_, inl, inr, ⊎-elim}
+use mathlib.Core.Path.{_≡_, refl, _∙_}
+use native.Mathlib.Omega.{arith}
+use borrow.Author.Tests.{leb-true, ltb-true}
+use lib.Dec.{leb, ltb}
+use Rattle.lists.specs.Lists.{_∈_, keep, Ascending}
+use Rattle.lists.proofs.Lists.{keep-out}
+use Rattle.lists.proofs.Tests.{test, and-parts}
+use Rattle.automata.specs.Automaton.{Transition, holds}
+use Rattle.ranges.specs.Span.{Span, inside}
+use Rattle.ranges.specs.Cuts.{nextCut, spans, cutAll}
+use Rattle.ranges.proofs.Cuts.{next-le, next-gt, next-is, next-cuts, next-alike, cut-one}
+use Rattle.determinize.specs.Partition.{Cut}
+
+-- the first has a symbol, and the second lies above it
+abbrev pub Ahead : Span → Span → Type 0
+Ahead s t = (s .low ≤ s .high) × (s .high < t .low)
+
+module _ (top : ℕ) (es : List Transition) where
+  -- from a on, below top
+  pub record Stretch (a : ℕ) (s : Span) : Type 0 where
+    pub above : a ≤ s .low
+    pub begins : (s .low ≡ a) ⊎ Cut es (s .low)
+    pub ends : suc (s .high) ≡ nextCut (s .low) top es
+    pub full : s .low ≤ s .high
+    pub below : s .high < top
+
+  stretch-first : (a : ℕ) → a < top → Stretch a (record { low = a; high = nextCut a top es - 1 })
+  stretch-first a h =
+      let l = next-gt a top es h in
+      let u = next-le a top es in
+      record { above = omega arith; begins = inl refl; ends = omega arith; full = omega arith; below = omega arith }
+
+  stretch-later : (a : ℕ) (s : Span) → a < top → Stretch (nextCut a top es) s → Stretch a s
+  stretch-later a s h r =
+      let l = next-gt a top es h in
+      let b : (s .low ≡ a) ⊎ Cut es (s .low) =
+      ⊎-elim
+      (λ (e : s .low ≡ nextCut a top es).
+      ⊎-elim (λ (q : nextCut a top es ≡ top). let f = r .full in let u = r .below in absurd (omega arith))
+      (λ c. inr (c .0, c .1, ⊎-elim (λ q. inl (e ∙ q)) (λ q. inr (e ∙ q)) (c .2)))
+      (next-is a top es))
+      inr (r .begins) in
+      record { above = omega (arith, r .above); begins = b; ends = r .ends; full = r .full; below = r .below }
+
+  stretches : (n a : ℕ) (s : Span) → s ∈ spans n a top es → Stretch a s
+  unfolding spans
+  stretches zero a s m = elim m [ ]
+  stretches (suc n) a s m = go (ltb a top) refl m (stretches n (nextCut a top es) s)
+    where
+      b : ℕ
+      b = nextCut a top es
+
+      go : (t : Bool) → ltb a top ≡ t → s ∈ cond t (record { low = a; high = b - 1 } ∷ spans n b top es) [] → (s ∈ spans n b top es → Stretch b s) → Stretch a s
+      go true e m ih =
+          let h = ltb-true a top e in
+          ⊎-elim (λ (q : s ≡ record { low = a; high = b - 1 }). rw q (stretch-first a h)) (λ m. stretch-later a s h (ih m)) (List·Memᴰ·cases-cons m)
+      go false e m ih = elim m [ ]
+
+  spans-ascend : (n a : ℕ) → Ascending Ahead (spans n a top es)
+  unfolding spans
+  spans-ascend zero a = Ascending.none
+  spans-ascend (suc n) a =
+      ⊎-elim
+      (λ (t : ltb a top ≡ true).
+      let b = nextCut a top es in
+      let l = next-gt a top es (ltb-true _ _ t) in
+      let f : (s : Span) → s ∈ spans n b top es → Ahead (record { low = a; high = b - 1 }) s = λ s m. let k = stretches n b s m .above in (omega arith, omega arith) in
+      rw t (Ascending.more f (spans-ascend n b)))
+      (λ (t : ltb a top ≡ false). rw t Ascending.none)
+      (test (ltb a top))
+
+module _ (lo hi : ℕ) (es : List Transition) where
+  pub cut-stretch : (s : Span) → s ∈ cutAll lo hi es → Stretch (suc hi) es lo s
+  unfolding cutAll
+  cut-stretch s m = stretches (suc hi) es (suc hi - lo) lo s m
+
+  pub cut-ascend : Ascending Ahead (cutAll lo hi es)
+  unfolding cutAll
+  cut-ascend = spans-ascend (suc hi) es (suc hi - lo) lo
+
+  -- a span ends before a cut or at hi, and no cut lies inside it
+  pub cut-ends : (s : Span) → s ∈ cutAll lo hi es → (s .high ≡ hi) ⊎ Cut es (suc (s .high))
+  cut-ends s m =
+      let r = cut-stretch s m in
+      ⊎-elim (λ (q : nextCut (s .low) (suc hi) es ≡ suc hi). inl (omega (arith, r .ends)))
+      (λ c. inr (c .0, c .1, ⊎-elim (λ q. inl (r .ends ∙ q)) (λ q. inr (r .ends ∙ q)) (c .2)))
+      (next-is (s .low) (suc hi) es)
+
+  pub cut-uncut : (s : Span) → s ∈ cutAll lo hi es → (c : ℕ) → Cut es c → s .low < c → s .high < c
+  cut-uncut s m c (e, i, k) l =
+      let n = nextCut (s .low) (suc hi) es in
+      let f = cut-stretch s m .ends in
+      let z = next-cuts (s .low) (suc hi) i in
+      ⊎-elim
+      (λ (q : c ≡ e .first). ⊎-elim (λ (h : e .first ≤ s .low). absurd (omega arith)) (λ (h : n ≤ e .first). omega arith) (z .0))
+      (λ (q : c ≡ suc (e .last)). ⊎-elim (λ (h : suc (e .last) ≤ s .low). absurd (omega arith)) (λ (h : n ≤ suc (e .last)). omega arith) (z .1))
+      k
+
+  -- the ranges don't tell two symbols of a span apart
+  pub cut-alike : (s : Span) → s ∈ cutAll lo hi es → (x : ℕ) → s .low ≤ x → x ≤ s .high → (e : Transition) → e ∈ es → holds x e ≡ holds (s .low) e
+  cut-alike s m x l u = let r = cut-stretch s m in next-alike (s .low) (suc hi) es x l (omega (arith, r .ends))
+
+  -- the span that holds a symbol
+  pub record Containing (a : ℕ) : Type 0 where
+    pub span : Span
+    pub «in» : span ∈ cutAll lo hi es
+    pub low : span .low ≤ a
+    pub high : a ≤ span .high
+    pub only : keep (inside a) (cutAll lo hi es) ≡ span ∷ []
+
+  pub containing : (a : ℕ) → lo ≤ a → a ≤ hi → Containing a
+  unfolding inside
+  containing a l u =
+      let r = cut-one hi es lo a l u in
+      let s = r .0 in
+      let m = keep-out (inside a) s (cutAll lo hi es) (rw (r .1) (List·Memᴰ·head refl)) in
+      let i = and-parts (leb (s .low) a) _ (m .1) in
+      record { span = s; «in» = m .0; low = leb-true _ _ (i .0); high = leb-true _ _ (i .1); only = r .1 }

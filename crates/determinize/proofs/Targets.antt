@@ -1,0 +1,86 @@
+-- The sets to which a set leads: under each symbol one of them or nothing, and met span by span.
+use Prim.Native.Nat.{ℕ, suc, _≤_, _<_}
+use mathlib.Core.Bool.{true, false}
+use mathlib.Core.List.{List, [], _∷_, _++_, map, map-map}
+use mathlib.Core.Logic.{_⊎_, inl, inr, ⊎-elim}
+use mathlib.Core.Path.{_≡_, refl, sym, _∙_, ap}
+use native.Mathlib.Omega.{arith}
+use Rattle.lists.specs.Lists.{_∈_, any, keep}
+use Rattle.lists.proofs.Lists.{keep-in, keep-out}
+use Rattle.lists.proofs.Tests.{test}
+use Rattle.automata.specs.Automaton.{Transition, Automaton, Word, none, more, holds}
+use Rattle.sets.specs.Sets.{Set}
+use Rattle.words.specs.Simulation.{outgoing, step, startSet}
+use Rattle.ranges.specs.Span.{Span}
+use Rattle.ranges.specs.Cuts.{nextCut, cutAll}
+use Rattle.ranges.specs.Missing.{covered}
+use Rattle.ranges.proofs.Cuts.{cut-end, cut-step}
+use Rattle.determinize.specs.Partition.{partOf, partition}
+use Rattle.determinize.specs.Determinize.{targets, add, meet}
+use Rattle.determinize.specs.Reached.{Reached}
+use Rattle.determinize.proofs.Lists.{map-in, map-out}
+use Rattle.determinize.proofs.Spans.{cut-stretch, cut-alike, containing}
+use Rattle.determinize.proofs.Steps.{step-alike, step-free, simulate-end}
+use Rattle.determinize.proofs.Tables.{add-empty}
+
+word-end : {lo hi a : ℕ} {w : List ℕ} → Word lo hi w → lo ≤ a → a ≤ hi → Word lo hi (w ++ a ∷ [])
+word-end none l u = more l u none
+word-end (more p q r) l u = more p q (word-end r l u)
+
+-- the sets to which the spans from a to hi lead, those without a target too
+unfoldable pub spanTargets : ℕ → ℕ → Automaton → Set → List Set
+spanTargets a hi A S = map (λ s. step A S (s .low)) (cutAll a hi (outgoing A S))
+
+module _ (lo hi : ℕ) (A : Automaton) where
+  pub reach-step : (S : Set) (a : ℕ) → lo ≤ a → a ≤ hi → Reached lo hi A S → Reached lo hi A (step A S a)
+  reach-step S a l u r = (r .0 ++ a ∷ [], word-end (r .1) l u, simulate-end A (startSet A) (r .0) a ∙ ap (λ R. step A R a) (r .2))
+
+  module _ (S : Set) where
+    es : List Transition
+    es = outgoing A S
+
+    targets-held : targets lo hi A S ≡ map (λ s. step A S (s .low)) (keep (covered es) (cutAll lo hi es))
+    unfolding targets partition partOf es
+    targets-held = map-map (λ p. step A S (p .low)) (partOf (A .size) es) (keep (covered es) (cutAll lo hi es))
+
+    pub targets-reached : Reached lo hi A S → (R : Set) → R ∈ targets lo hi A S → Reached lo hi A R
+    unfolding es
+    targets-reached r R m =
+        let t = map-out _ _ R (rw targets-held at m) in
+        let s = t .0 in
+        let v = cut-stretch lo hi es s (keep-out (covered es) s (cutAll lo hi es) (t .1) .0) in
+        rw (t .2) (reach-step S (s .low) (v .above) (omega (arith, v .full, v .below)) r)
+
+    pub targets-in : (a : ℕ) → lo ≤ a → a ≤ hi → (step A S a ≡ []) ⊎ (step A S a ∈ targets lo hi A S)
+    unfolding es covered
+    targets-in a l u =
+        let h = containing lo hi es a l u in
+        let s = h .span in
+        let q : step A S a ≡ step A S (s .low) = step-alike A S a (s .low) (cut-alike lo hi es s (h .in) a (h .low) (h .high)) in
+        ⊎-elim (λ (t : any (holds (s .low)) es ≡ true). inr (rw (q, targets-held) (map-in (λ s. step A S (s .low)) (keep-in (covered es) (h .in) t))))
+        (λ (t : any (holds (s .low)) es ≡ false). inl (q ∙ step-free A S (s .low) t))
+        (test (any (holds (s .low)) es))
+
+    -- a hole leads to nothing
+    meet-held : (l : List Span) (T : List Set) → meet (map (λ s. step A S (s .low)) (keep (covered es) l)) T ≡ meet (map (λ s. step A S (s .low)) l) T
+    unfolding keep meet es covered
+    meet-held [] T = refl
+    meet-held (s ∷ l) T =
+        ⊎-elim (λ (t : any (holds (s .low)) es ≡ true). rw t (meet-held l (add (step A S (s .low)) T)))
+        (λ (t : any (holds (s .low)) es ≡ false).
+        rw t (meet-held l T ∙ ap (meet (map (λ s. step A S (s .low)) l)) (sym (ap (λ R. add R T) (step-free A S (s .low) t) ∙ add-empty T))))
+        (test (any (holds (s .low)) es))
+
+    -- the parts are met span by span
+    pub meet-start : (T : List Set) → meet (targets lo hi A S) T ≡ meet (spanTargets lo hi A S) T
+    unfolding spanTargets es
+    meet-start T = ap (λ l. meet l T) targets-held ∙ meet-held (cutAll lo hi es) T
+
+    pub meet-step : (a : ℕ) (T : List Set) → a ≤ hi
+        → meet (spanTargets a hi A S) T ≡ meet (spanTargets (nextCut a (suc hi) (outgoing A S)) hi A S) (add (step A S a) T)
+    unfolding spanTargets meet
+    meet-step a T h = ap (λ l. meet (map (λ s. step A S (s .low)) l) T) (cut-step hi (outgoing A S) a h)
+
+    pub meet-end : (a : ℕ) (T : List Set) → hi < a → meet (spanTargets a hi A S) T ≡ T
+    unfolding spanTargets meet
+    meet-end a T h = ap (λ l. meet (map (λ s. step A S (s .low)) l) T) (cut-end hi (outgoing A S) a h)

@@ -1,0 +1,128 @@
+-- What is proved of determinizing, for every automaton whose states are in bounds. An accepted sheet reads as such an automaton, and as a
+-- well-formed one. `lo` and `hi` are the least and the greatest symbol.
+use Prim.Native.Nat.{ℕ, suc, _+_, _≤_, _<_}
+use mathlib.Core.List.{List, [], _∷_}
+use mathlib.Core.Logic.{_↔_}
+use mathlib.Core.Path.{_≡_, refl, sym, _∙_}
+use native.Mathlib.Omega.{arith}
+use lib.ListN.{length}
+use Rattle.lists.specs.Lists.{keep}
+use Rattle.lists.proofs.Lists.{keep-out}
+use Rattle.automata.specs.Automaton.{Transition, Automaton, Run, Accepts, Word, InBounds, carries}
+use Rattle.automata.specs.WellFormed.{WellFormed, Fits}
+use Rattle.sets.specs.Sets.{Set}
+use Rattle.sheets.specs.Fault.{fault}
+use Rattle.sheets.specs.Sheet.{read, write}
+use Rattle.sheets.proofs.Meaning.{read-write-sheet, write-accepted}
+use Rattle.words.specs.Simulation.{outgoing, kind}
+use Rattle.ranges.specs.Missing.{missing, Holes}
+use Rattle.ranges.proofs.Missing.{missing-holes}
+use Rattle.refusal.specs.Answer.{refused, given}
+use Rattle.determinize.specs.Partition.{partition, Parts}
+use Rattle.determinize.specs.Determinize.{found, over, table, built, determinize}
+use Rattle.determinize.specs.Deterministic.{Deterministic, Sink}
+use Rattle.determinize.specs.Reached.{MoreThan, AllReached, degrees, MoreTransitions}
+use Rattle.determinize.proofs.Parts.{parts-exact}
+use Rattle.determinize.proofs.Finished.{table-few, over-exact}
+use Rattle.determinize.proofs.Result.{one-built}
+use Rattle.determinize.proofs.Runs.{transition-facts, words-kept, kind-kept, state-reached}
+use Rattle.determinize.proofs.Written.{write-room, built-well-formed}
+use Rattle.determinize.proofs.Sink.{sink-loop, sink-rejects}
+use Rattle.determinize.proofs.Counts.{listed-states, listed-transitions, many-exact}
+use Rattle.determinize.proofs.Answers.{Outcome, too-many-sets, too-many-transitions, fits, outcome, Built, made-built, refused-over, refused-many, answer-over}
+
+module _ (lo hi : ℕ) (A : Automaton) (ok : InBounds A) where
+  -- the parts and the holes of a set are those of document 01
+  pub determinize-parts : (S : Set) → Parts lo hi (outgoing A S) (partition (A .size) lo hi (outgoing A S))
+  determinize-parts S =
+      parts-exact (A .size) lo hi (outgoing A S) (unfold outgoing in λ e m. ok .tos e (keep-out _ e (A .transitions) m .0))
+
+  pub determinize-holes : WellFormed A → (S : Set) → Holes lo hi (outgoing A S) (missing lo hi (outgoing A S))
+  determinize-holes w S = missing-holes lo hi (outgoing A S) (unfold outgoing in λ e m. w .sound e (keep-out _ e (A .transitions) m .0) .full)
+
+  module _ (D : Automaton) (e : determinize lo hi A ≡ given D) where
+    by : Built lo hi A D
+    by = made-built lo hi A D e
+
+    -- the words are kept, and their kinds
+    pub determinize-words : (w : List ℕ) → Word lo hi w → Accepts D w ↔ Accepts A w
+    determinize-words w v = rw (by .is) (words-kept lo hi A ok (by .sets) (by .whole) w v)
+
+    pub determinize-kinds : (w : List ℕ) → Word lo hi w → kind D w ≡ kind A w
+    determinize-kinds w v = rw (by .is) (kind-kept lo hi A ok (by .sets) (by .whole) w v)
+
+    -- every symbol between the ends has exactly one transition in every state, and there are no epsilons
+    pub determinize-one : (j x : ℕ) → j < D .size → lo ≤ x → x ≤ hi → (d : Transition) × (keep (carries j x) (D .transitions) ≡ d ∷ [])
+    determinize-one = rw (by .is) (one-built lo hi A (by .sets))
+
+    pub determinize-deterministic : Deterministic lo hi D
+    determinize-deterministic =
+        let l = transition-facts lo hi A ok (by .sets) (by .whole) in
+        rw (by .is)
+        (record { ranges = λ d m. l d m .is-range; above = λ d m. l d m .low; below = λ d m. l d m .high; one = one-built lo hi A (by .sets) })
+
+    -- a word leads to every state but the last, and the last is the sink
+    pub determinize-reached : (j : ℕ) → suc j < D .size → (w : List ℕ) × Word lo hi w × Run D (D .start) w j
+    unfolding built
+    determinize-reached j h = rw (by .is) (state-reached lo hi A ok (by .sets) (by .whole) j (let k = rw (by .is) at h in omega (arith, k)))
+
+    pub determinize-sink : lo ≤ hi → Sink lo hi D
+    determinize-sink h =
+        rw (by .is)
+        (record {
+          state = length (by .sets);
+          last = unfold built in refl;
+          loops = sink-loop lo hi A ok (by .sets) (by .whole) h;
+          rejects = sink-rejects lo hi A ok (by .sets) (by .whole);
+        })
+
+    -- the states and the transitions, counted in any list of the nonempty sets that words reach
+    pub determinize-states : (U : List Set) → AllReached lo hi A U → D .size ≡ length U + 1
+    determinize-states U u = rw (by .is) (listed-states lo hi A ok (by .sets) (by .whole) U u)
+
+    pub determinize-transitions : lo ≤ hi → (U : List Set) → AllReached lo hi A U → length (D .transitions) ≡ degrees lo hi A U + 1
+    determinize-transitions h U u = rw (by .is) (listed-transitions lo hi A ok (by .sets) (by .whole) h U u)
+
+    -- the result is written as an accepted sheet
+    pub determinize-wellformed : WellFormed A → WellFormed D
+    determinize-wellformed w = rw (by .is) (built-well-formed lo hi A w (by .sets) (by .whole))
+
+    pub determinize-fits : Fits D
+    unfolding built
+    determinize-fits = record { few-states = rw (by .is) (omega (arith, table-few lo hi A ok (by .sets) (by .whole))); few-transitions = by .few }
+
+    pub determinize-written : WellFormed A → fault (write D) ≡ 0
+    determinize-written w = write-accepted D (determinize-wellformed w) determinize-fits
+
+    pub determinize-read : WellFormed A → read (write D) ≡ D
+    determinize-read w = read-write-sheet D (determinize-wellformed w .accepts)
+
+    pub determinize-room : WellFormed A → length (write D) ≤ 10500
+    determinize-room w = write-room D (determinize-wellformed w .accepts) determinize-fits
+
+  -- the exact conditions of the refusals
+  pub refused-21 : (determinize lo hi A ≡ refused 21) ↔ MoreThan 255 lo hi A
+  refused-21 = (λ e. over-exact lo hi A ok .0 (refused-over lo hi A e), λ m. answer-over lo hi A (over-exact lo hi A ok .1 m))
+
+  found-few : {T : List Set} → table lo hi A ≡ found T → MoreThan 255 lo hi A → ⊥
+  found-few {T} e m = let c : found T ≡ over = sym e ∙ over-exact lo hi A ok .1 m in let z : _≡_ {A = ℕ} 0 1 = cc in absurd (omega arith)
+
+  pub refused-22 : (determinize lo hi A ≡ refused 22) ↔ ((MoreThan 255 lo hi A → ⊥) × MoreTransitions 2048 lo hi A)
+  refused-22 = (
+    λ e. let r = refused-many lo hi A e in (found-few (r .whole), many-exact lo hi A ok (r .sets) (r .whole) .0 (r .many)),
+    λ m. go (m .0) (m .1) (outcome lo hi A),
+  )
+    where
+      go : (MoreThan 255 lo hi A → ⊥) → MoreTransitions 2048 lo hi A → Outcome lo hi A → determinize lo hi A ≡ refused 22
+      go n m (too-many-sets e q) = absurd (n (over-exact lo hi A ok .0 e))
+      go n m (too-many-transitions T e h q) = q
+      go n m (fits T e h q) = let k = many-exact lo hi A ok T e .1 m in absurd (omega arith)
+
+  -- an automaton is given where neither holds
+  pub determinize-given : (MoreThan 255 lo hi A → ⊥) → (MoreTransitions 2048 lo hi A → ⊥) → (D : Automaton) × (determinize lo hi A ≡ given D)
+  determinize-given n k = go (outcome lo hi A)
+    where
+      go : Outcome lo hi A → (D : Automaton) × (determinize lo hi A ≡ given D)
+      go (too-many-sets e q) = absurd (n (over-exact lo hi A ok .0 e))
+      go (too-many-transitions T e h q) = absurd (k (many-exact lo hi A ok T e .0 h))
+      go (fits T e h q) = (built lo hi A T, q)

@@ -1,0 +1,64 @@
+-- The result can be written as a sheet: it is well-formed where the input is, and its transitions ascend.
+use Prim.Native.Nat.{ℕ, suc, _≤_}
+use mathlib.Core.List.{List, [], _∷_}
+use mathlib.Core.Logic.{⊎-elim}
+use mathlib.Core.Path.{_≡_, refl, _∙_}
+use native.Mathlib.Omega.{arith}
+use borrow.Author.Tests.{ltb-true, ltb-false}
+use lib.Dec.{ltb}
+use lib.ListN.{getD, length, length-append, length-map}
+use Rattle.lists.specs.Lists.{Ascending}
+use Rattle.lists.proofs.Tests.{test}
+use Rattle.automata.specs.Automaton.{Automaton}
+use Rattle.automata.specs.Records.{writeRecords}
+use Rattle.automata.specs.WellFormed.{greatestAccept, Lex, Before, WellFormed, Fits}
+use Rattle.automata.proofs.Records.{length-write}
+use Rattle.sets.specs.Sets.{Set}
+use Rattle.sheets.specs.Sheet.{write}
+use Rattle.words.specs.Simulation.{outgoing, kindOf}
+use Rattle.words.proofs.Kind.{kindOf-some}
+use Rattle.determinize.specs.Determinize.{found, table, states, transitionOf, transitionsOf, transitionsFrom, built}
+use Rattle.determinize.proofs.Lists.{ascending-map, ascending-append}
+use Rattle.determinize.proofs.Spans.{Ahead, cut-ascend}
+use Rattle.determinize.proofs.Result.{length-states, from-of, from-above, accept-built}
+use Rattle.determinize.proofs.Runs.{transition-facts, built-bounds}
+
+module _ (lo hi : ℕ) (A : Automaton) (T : List Set) where
+  transitions-ascend : (j : ℕ) (Ss : List Set) → Ascending Before (transitionsFrom lo hi A T j Ss)
+  unfolding transitionsFrom transitionsOf transitionOf
+  transitions-ascend j [] = Ascending.none
+  transitions-ascend j (S ∷ Ss) =
+      ascending-append
+      (ascending-map {R = Ahead} (transitionOf A T j S) (λ s t h. Lex.later refl (Lex.later refl (Lex.here (omega (arith, h .0, h .1))))) (cut-ascend lo hi (outgoing A S)))
+      (transitions-ascend (suc j) Ss)
+      (λ d c m n. let f = from-of lo hi A T j S d m in let g = from-above lo hi A T (suc j) Ss c n in Lex.here (omega arith))
+
+-- the sheet of an automaton within the limits fits an output of 10,500 words
+pub write-room : (A : Automaton) → length (A .accept) ≡ A .size → Fits A → length (write A) ≤ 10500
+write-room A h f =
+    omega (
+      arith,
+      length-append (A .accept) (length (A .transitions) ∷ writeRecords (A .transitions)),
+      length-write (A .transitions),
+      f .few-states,
+      f .few-transitions,
+    )
+
+-- an accept word of a set is one of its members'
+kindOf-most : (A : Automaton) → ((q : ℕ) → getD (A .accept) q 0 ≤ greatestAccept) → (S : Set) → kindOf A S ≤ greatestAccept
+kindOf-most A h S =
+    ⊎-elim (λ t. let r = kindOf-some A S (ltb-true 0 (kindOf A S) t) in let k = h (r .0) in omega (arith, r .2)) (λ t. let k = ltb-false 0 (kindOf A S) t in omega arith)
+    (test (ltb 0 (kindOf A S)))
+
+pub built-well-formed : (lo hi : ℕ) (A : Automaton) → WellFormed A → (T : List Set) → table lo hi A ≡ found T → WellFormed (built lo hi A T)
+built-well-formed lo hi A w T e =
+    record {
+      states = built-bounds lo hi A (w .states) T e;
+      accepts = unfold built in length-map (states T) (kindOf A) ∙ length-states T;
+      accept-words = λ q. rw (accept-built lo hi A T q) (kindOf-most A (w .accept-words) (getD T q []));
+      sound = λ d m.
+          let r = transition-facts lo hi A (w .states) T e d m in
+          let k = r .is-range in
+          record { known = omega arith; full = r .full; blank = λ z. absurd (omega arith) };
+      ascends = unfold built in transitions-ascend lo hi A T 0 (states T);
+    }

@@ -1,0 +1,83 @@
+-- Determinizing (document 01, "Determinizing"): the table of the nonempty sets that words reach, and the automaton made from it. `lo` and `hi` are
+-- the least and the greatest symbol.
+use Prim.Native.Nat.{ℕ, zero, suc}
+use mathlib.Core.Bool.{cond}
+use mathlib.Core.List.{List, [], _∷_, _++_, map}
+use lib.Dec.{ltb}
+use lib.ListN.{getD, length}
+use Rattle.automata.specs.Automaton.{Transition, Automaton}
+use Rattle.automata.specs.WellFormed.{mostStates, mostTransitions}
+use Rattle.sets.specs.Sets.{Set, index}
+use Rattle.words.specs.Simulation.{outgoing, step, startSet, kindOf}
+use Rattle.ranges.specs.Span.{Span}
+use Rattle.ranges.specs.Cuts.{cutAll}
+use Rattle.refusal.specs.Answer.{Answer, refused, given}
+use Rattle.determinize.specs.Partition.{partition}
+
+-- the sets to which the parts of S lead, parts ascending
+unfoldable pub targets : ℕ → ℕ → Automaton → Set → List Set
+targets lo hi A S = map (λ p. step A S (p .low)) (partition (A .size) lo hi (outgoing A S))
+
+-- a nonempty set that the table lacks goes to its end
+unfoldable pub add : Set → List Set → List Set
+add [] T = T
+add (q ∷ S) T = cond (ltb (index (q ∷ S) T) (length T)) T (T ++ (q ∷ S) ∷ [])
+
+-- the table after some sets are met, one after the other
+unfoldable pub meet : List Set → List Set → List Set
+meet [] T = T
+meet (S ∷ Ss) T = meet Ss (add S T)
+
+-- the finished table, or none because it has too many sets
+pub data Found : Type 0 where
+  over : Found
+  found : List Set → Found
+
+-- the entries of the table are the queue: entry i is next, and n entries may still be taken
+unfoldable pub explore : ℕ → ℕ → Automaton → ℕ → ℕ → List Set → Found
+explore lo hi A zero i T = over
+explore lo hi A (suc n) i T =
+    let more = explore lo hi A n (suc i) (meet (targets lo hi A (getD T i [])) T) in
+    cond (ltb i (length T)) more (found T)
+
+-- the nonempty sets that words reach, from the start's closure on; `over` where they and the sink are more than 256
+unfoldable pub table : ℕ → ℕ → Automaton → Found
+table lo hi A = explore lo hi A mostStates 0 (startSet A ∷ [])
+
+-- The states of the result are the sets of the table, and the empty set for the sink, which is the last. The table doesn't have the empty set, so
+-- that the index of the empty set is the sink.
+unfoldable pub states : List Set → List Set
+states T = T ++ [] ∷ []
+
+-- state j, which is the set S, has a transition for each span between cuts. No range leaves the sink, so that it has one for all symbols.
+unfoldable pub transitionOf : Automaton → List Set → ℕ → Set → Span → Transition
+transitionOf A T j S s = record { from = j; kind = 1; first = s .low; last = s .high; to = index (step A S (s .low)) T }
+
+unfoldable pub transitionsOf : ℕ → ℕ → Automaton → List Set → ℕ → Set → List Transition
+transitionsOf lo hi A T j S = map (transitionOf A T j S) (cutAll lo hi (outgoing A S))
+
+-- the transitions of the states from j on, which are the sets Ss
+unfoldable pub transitionsFrom : ℕ → ℕ → Automaton → List Set → ℕ → List Set → List Transition
+transitionsFrom lo hi A T j [] = []
+transitionsFrom lo hi A T j (S ∷ Ss) = transitionsOf lo hi A T j S ++ transitionsFrom lo hi A T (suc j) Ss
+
+-- the automaton of a finished table
+unfoldable pub built : ℕ → ℕ → Automaton → List Set → Automaton
+built lo hi A T = record {
+  size = suc (length T);
+  start = 0;
+  accept = map (kindOf A) (states T);
+  transitions = transitionsFrom lo hi A T 0 (states T);
+}
+
+-- 22 where there are too many transitions
+unfoldable pub limited : Automaton → Answer Automaton
+limited D = cond (ltb mostTransitions (length (D .transitions))) (refused 22) (given D)
+
+-- 21 where there are too many sets
+unfoldable pub answerOf : ℕ → ℕ → Automaton → Found → Answer Automaton
+answerOf lo hi A over = refused 21
+answerOf lo hi A (found T) = limited (built lo hi A T)
+
+unfoldable pub determinize : ℕ → ℕ → Automaton → Answer Automaton
+determinize lo hi A = answerOf lo hi A (table lo hi A)

@@ -1,0 +1,6 @@
+-- Determinizing: parts, the table of sets and the result, and what words reach.
+pub mod Partition
+pub mod Determinize
+pub mod Deterministic
+pub mod Reached
+pub mod Kinds

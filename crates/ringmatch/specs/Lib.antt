@@ -1,0 +1,2 @@
+-- The replies of the C functions.
+pub mod Reply

@@ -1,0 +1,2 @@
+-- The starred samples of document 01.
+pub mod Starred
