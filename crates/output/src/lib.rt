@@ -68,3 +68,18 @@ pub fn put_record(
     out[at + 4] = to;
     at + 5
 }
+
+// Words at a place; the place behind them.
+pub fn put_words(out: &mut [u32], at: usize, words: &[u32]) -> usize
+    requires { ⌜ at + length (now words) ≤ length (now out) ⌝ }
+    ensures { λ r. ⌜ Written (now (out .entry)) at (now (words .entry)) (now (out .exit)) r ⌝ }
+{
+    let mut end = at;
+    let mut i = 0;
+    while i < words.len() {
+        out[end] = words[i];
+        end += 1;
+        i += 1;
+    }
+    end
+}

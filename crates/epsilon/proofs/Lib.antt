@@ -1,0 +1,3 @@
+-- The laws of epsilon elimination.
+pub mod Members
+pub mod Runs

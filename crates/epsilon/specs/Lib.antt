@@ -1,0 +1,2 @@
+-- Epsilon elimination.
+pub mod Eliminate
