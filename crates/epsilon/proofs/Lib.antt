@@ -1,3 +1,4 @@
 -- The laws of epsilon elimination.
 pub mod Members
 pub mod Runs
+pub mod Storing

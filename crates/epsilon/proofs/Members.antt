@@ -15,7 +15,7 @@ use Rattle.automata.proofs.Ordered.{inOrder-in, inOrder-out}
 use Rattle.sets.specs.Sets.{has}
 use Rattle.sets.proofs.Sets.{mem-has, has-mem}
 use Rattle.words.specs.Simulation.{closure}
-use Rattle.epsilon.specs.Eliminate.{leavingFrom, movedTo, closureRanges, eliminated}
+use Rattle.epsilon.specs.Eliminate.{leavingFrom, movedTo, rangesFrom, closureRanges, allStates, eliminated}
 
 -- membership
 map-in : {X Y : Type 0} (f : X → Y) {x : X} {xs : List X} → x ∈ xs → f x ∈ map f xs
@@ -69,7 +69,7 @@ moved-out A p q e h m =
 
 module _ (A : Automaton) where
   pub eliminated-out : (e : Transition) → e ∈ eliminated A .transitions → (e .from < A .size) × Comes A (e .from) e
-  unfolding eliminated closureRanges
+  unfolding eliminated allStates closureRanges rangesFrom
   eliminated-out e m =
       let r = flat-out (closureRanges A) e _ (inOrder-out e _ m) in
       let t = tabulate-out (A .size) (λ p. p) (r .0) (r .1) in
@@ -79,7 +79,7 @@ module _ (A : Automaton) where
       (omega (arith, t .1, t .2), subst (λ (p : ℕ). Comes A p e) (sym q) c)
 
   pub eliminated-in : (p : ℕ) (d : Transition) → p < A .size → d ∈ A .transitions → d .kind ≡ 1 → has (d .from) (closure A p) ≡ true → leavingFrom p d ∈ eliminated A .transitions
-  unfolding eliminated closureRanges movedTo leaving rangesOf
+  unfolding eliminated allStates closureRanges rangesFrom movedTo leaving rangesOf
   eliminated-in p d l m k h =
       inOrder-in
       (flat-in (closureRanges A) (tabulate-in (A .size) (λ p. p) p l)

@@ -1,2 +1,3 @@
 -- Epsilon elimination.
 pub mod Eliminate
+pub mod Storing
