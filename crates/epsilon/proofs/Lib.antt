@@ -2,3 +2,4 @@
 pub mod Members
 pub mod Runs
 pub mod Storing
+pub mod Writing

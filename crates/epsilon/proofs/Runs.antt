@@ -14,7 +14,7 @@ use Rattle.words.specs.Simulation.{closure, startSet, kindOf, kind}
 use Rattle.words.proofs.Closures.{join, closure-sound, closure-complete, run-bound}
 use Rattle.words.proofs.Kind.{kindOf-least, kindOf-some}
 use Rattle.words.proofs.Simulation.{simulate-sound, simulate-complete, closure-shut}
-use Rattle.epsilon.specs.Eliminate.{leavingFrom, eliminated}
+use Rattle.epsilon.specs.Eliminate.{leavingFrom, closureKinds, eliminated}
 use Rattle.epsilon.proofs.Members.{Comes, eliminated-out, eliminated-in}
 
 -- epsilons behind a run
@@ -102,7 +102,7 @@ module _ (A : Automaton) (ok : InBounds A) where
   end-kept r = run-bound (eliminated A) states-kept (ok .starts) r
 
   accept-at : (q : ℕ) → q < A .size → getD (eliminated A .accept) q 0 ≡ kindOf A (closure A q)
-  unfolding eliminated
+  unfolding eliminated closureKinds
   accept-at q l = tabulate-at (A .size) (λ p. kindOf A (closure A p)) q 0 l
 
   -- a run that the eliminated automaton accepts by is one to a state that accepts, by the same word

@@ -38,7 +38,7 @@ use Rattle.words.specs.Simulation.{closure}
 use Rattle.words.proofs.Closures.{closure-canon}
 use Rattle.words.proofs.Visiting.{member-here, member-later}
 use Rattle.epsilon.specs.Eliminate.{leavingFrom, movedTo, rangesFrom, closureRanges, allStates}
-use Rattle.epsilon.specs.Storing.{Room, Stored, Left}
+use Rattle.epsilon.specs.Storing.{Room, Stored, Left, ClosuresOf}
 
 -- putting in order what is partly in order
 order-again : (xs ys : List Transition) → inOrder (inOrder xs ++ ys) ≡ inOrder (xs ++ ys)
@@ -151,7 +151,7 @@ module _ (buf run : List ℕ) (end p at : ℕ) (es : List Transition) (l : Left 
 pub ruleset runLaws = (run-begins, run-room, run-ended, run-next, run-over, needs)
 
 -- a closure, member by member; v is the row of p in the table of closures
-module _ (s starts c : List ℕ) (t : Tables s starts c) (p : ℕ) (l : p < stateCount s) where
+module _ (s c : List ℕ) (t : ClosuresOf s c) (p : ℕ) (l : p < stateCount s) where
   pub row-inside : 4 * p + 4 ≤ length c
   row-inside = omega (arith, t .long, t .accepted .few-states)
 
@@ -163,14 +163,25 @@ module _ (s starts c : List ℕ) (t : Tables s starts c) (p : ℕ) (l : p < stat
     pub row-canon : Canon (stateCount s) (setAt v 0)
     row-canon = subst (Canon (stateCount s)) (sym row-closure) (closure-canon (read s) (read-well s (t .accepted) .states) p l)
 
+pub tables-closures : (s starts c : List ℕ) → Tables s starts c → ClosuresOf s c
+tables-closures s starts c t = record { accepted = t .accepted; long = t .long; closed = t .closed }
+
+module _ (s starts c : List ℕ) (t : Tables s starts c) (p : ℕ) (l : p < stateCount s) where
+  pub row-known : 4 * p + 4 ≤ length c
+  row-known = row-inside s c (tables-closures s starts c t) p l
+
+  module _ (old v : List ℕ) (e : v ≡ putAt old 0 c (4 * p)) (o : 4 ≤ length old) where
+    known : setAt v 0 ≡ closure (read s) p
+    known = row-closure s c (tables-closures s starts c t) p l old v e o
+
     pub closure-begins : (buf : List ℕ) (end q : ℕ) → Room buf end → q ≡ nextMember (setAt v 0) 0 → Left buf end (rangesFrom (read s) p (membersFrom q (setAt v 0))) (recordsIn buf 0 end ++ closureRanges (read s) p)
     unfolding closureRanges
     closure-begins buf end q r h =
-        let i : membersFrom q (setAt v 0) ≡ closure (read s) p = visit-start (setAt v 0) (at-canon v 0) q h ∙ row-closure in
+        let i : membersFrom q (setAt v 0) ≡ closure (read s) p = visit-start (setAt v 0) (at-canon v 0) q h ∙ known in
         subst (λ (S : Set). Left buf end (rangesFrom (read s) p S) (recordsIn buf 0 end ++ rangesFrom (read s) p (closure (read s) p))) (sym i) (left-begin buf end [] (rangesFrom (read s) p (closure (read s) p)) r)
 
     pub closure-run : (q : ℕ) → q ≡ nextMember (setAt v 0) q → q < 256 → RunAt s starts q
-    closure-run q h b = run-at s (t .accepted) starts q (t .indexed) (has-below (stateCount s) (setAt v 0) row-canon q (visit-has (setAt v 0) (at-canon v 0) q h b))
+    closure-run q h b = run-at s (t .accepted) starts q (t .indexed) (has-below (stateCount s) (setAt v 0) (row-canon s c (tables-closures s starts c t) p l old v e o) q (visit-has (setAt v 0) (at-canon v 0) q h b))
 
 module _ (s v : List ℕ) (p : ℕ) (buf : List ℕ) (end q : ℕ) (es : List Transition) (l : Left buf end (rangesFrom (read s) p (membersFrom q (setAt v 0))) es) where
   pub closure-ended : 256 ≤ q → Stored buf end es
@@ -194,7 +205,7 @@ module _ (s v : List ℕ) (p : ℕ) (buf : List ℕ) (end q : ℕ) (es : List Tr
     pub closure-next : (x : ℕ) → x ≡ nextMember (setAt v 0) (q + 1) → next ≤ 10240 → Left m next (rangesFrom (read s) p (membersFrom x (setAt v 0))) es
     closure-next x i = left-next buf end es _ _ (run-split x i) m next run-added
 
-pub ruleset closureLaws = (row-inside, closure-begins, closure-run, closure-ended, closure-room, closure-over, closure-next, member-here, member-later, needs)
+pub ruleset closureLaws = (row-known, closure-begins, closure-run, closure-ended, closure-room, closure-over, closure-next, member-here, member-later, needs)
 
 -- all states, one after the other
 module _ (s : List ℕ) where

@@ -1,12 +1,19 @@
--- The memory in which the transitions are gathered in order: room for 2,049 records, one more than a sheet may have.
+-- What the code has in its local memory: the closures, and the transitions that it gathers in order, with room for 2,049
+-- records, one more than a sheet may have.
 use Prim.Native.Nat.{ℕ, _≤_, _<_}
 use mathlib.Core.List.{List, _++_}
 use mathlib.Core.Path.{_≡_}
 use lib.ListN.{length}
 use Rattle.automata.specs.Automaton.{Transition}
 use Rattle.automata.specs.Ordered.{inOrder}
+use Rattle.automata.specs.Records.{writeRecords}
 use Rattle.automata.specs.WellFormed.{mostTransitions}
 use Rattle.output.specs.Ordered.{Listed, recordsIn}
+use Rattle.sets.specs.BitSet.{entries}
+use Rattle.sheets.specs.Accepted.{Accepted}
+use Rattle.sheets.specs.Sheet.{stateCount, read}
+use Rattle.words.specs.Simulation.{closures}
+use Rattle.epsilon.specs.Eliminate.{eliminated}
 
 -- the words before end are records in order, and one more has room
 pub record Room (buf : List ℕ) (end : ℕ) : Type 0 where
@@ -24,3 +31,14 @@ pub record Stored (buf : List ℕ) (end : ℕ) (es : List Transition) : Type 0 w
 pub record Left (buf : List ℕ) (end : ℕ) (rest es : List Transition) : Type 0 where
   pub room : Room buf end
   pub left : inOrder (recordsIn buf 0 end ++ rest) ≡ inOrder es
+
+-- the table c has the closures of the accepted sheet s
+pub record ClosuresOf (s c : List ℕ) : Type 0 where
+  pub accepted : Accepted s
+  pub long : length c ≡ 1024
+  pub closed : entries c (stateCount s) ≡ closures (read s)
+
+-- the words are the transitions of the eliminated automaton, and are few enough
+pub record TransitionsOf (s words : List ℕ) : Type 0 where
+  pub few : length (eliminated (read s) .transitions) ≤ mostTransitions
+  pub whole : words ≡ writeRecords (eliminated (read s) .transitions)

@@ -2,17 +2,24 @@
 // ranges are gathered in order in local memory, and nothing is written to an output before it is known that they are few enough.
 ghost use mathlib.Core.List.{[], _∷_, _++_, flatMap};
 ghost use mathlib.Core.Path.{_≡_};
-ghost use Prim.Native.Nat.{_+_, _*_, _≤_, _<_};
+ghost use Prim.Native.Nat.{_+_, _≤_, _<_};
 ghost use lib.ListN.{length};
-ghost use Rattle.lists.specs.Lists.{tabulate};
 ghost use Rattle.lists.specs.Written.{Written};
 ghost use Rattle.automata.specs.Records.{recordAt, readRecords};
+ghost use Rattle.labels.specs.Labels.{labelsFault, readLabels};
+ghost use Rattle.output.specs.Made.{outputOf};
 ghost use Rattle.output.specs.Ordered.{recordsIn};
-ghost use Rattle.sheets.specs.Sheet.{stateCount, read};
+ghost use Rattle.output.specs.Output.{outputs, roomFirst, labelsFirst};
+ghost use Rattle.sheets.specs.Accepted.{Accepted};
+ghost use Rattle.sheets.specs.Sheet.{stateCount, read, write};
+ghost use Rattle.words.specs.Epsilons.{Fresh};
 ghost use Rattle.words.specs.Gather.{Tables};
 ghost use Rattle.words.specs.Simulation.{closure, kindOf};
-ghost use Rattle.epsilon.specs.Eliminate.{movedTo, closureRanges, allStates, eliminated};
-ghost use Rattle.epsilon.specs.Storing.{Room, Stored};
+ghost use Rattle.epsilon.specs.Eliminate.{movedTo, closureRanges, closureKinds, allStates, eliminated, limited, eliminateAnswer};
+ghost use Rattle.epsilon.specs.Storing.{Room, Stored, ClosuresOf, TransitionsOf};
+use output::Made;
+use refusal::Refusal;
+use refusal::StateRefusal;
 
 // The record r as one of state p into its place, if it is a range. Like the functions below it answers the place behind the records.
 fn add_range(r: &[u32], p: u32, buf: &mut [u32], end: usize) -> usize
@@ -84,4 +91,52 @@ fn add_closures(s: &[u32], starts: &[u32], closures: &[u64], buf: &mut [u32]) ->
         p += 1;
     }
     e
+}
+
+// The closures of the sheet's states, and the ranges of them all.
+fn gather(s: &[u32], closures: &mut [u64], buf: &mut [u32]) -> usize
+    requires { ⌜ Accepted (now s) × Fresh (now closures) × (length (now buf) ≡ 10245) ⌝ }
+    ensures { λ e. ⌜ ClosuresOf (now (s .entry)) (now (closures .exit)) × Stored (now (buf .exit)) e (flatMap (closureRanges (read (now (s .entry)))) (allStates (read (now (s .entry))))) ⌝ }
+{
+    let mut starts = [0u32; 257];
+    sheets::run_starts(s, &mut starts);
+    words::state_closures(s, closures);
+    add_closures(s, &starts, closures, buf)
+}
+
+// The accept word of the closure of p.
+fn closure_kind(s: &[u32], closures: &[u64], p: u32) -> u32
+    requires { ⌜ ClosuresOf (now s) (now closures) × (p < stateCount (now s)) ⌝ }
+    ensures { λ r. ⌜ r ≡ kindOf (read (now (s .entry))) (closure (read (now (s .entry))) p) ⌝ }
+{
+    let mut row = [0u64; 4];
+    sets::copy_row(&mut row, closures, p as usize);
+    words::kind_of(s, &row)
+}
+
+// The accept words of all states at a place; the place behind them.
+fn put_accepts(s: &[u32], closures: &[u64], out: &mut [u32], at: usize) -> usize
+    requires { ⌜ ClosuresOf (now s) (now closures) × (at + stateCount (now s) ≤ length (now out)) ⌝ }
+    ensures { λ r. ⌜ Written (now (out .entry)) at (closureKinds (read (now (s .entry))) (stateCount (now (s .entry)))) (now (out .exit)) r ⌝ }
+{
+    let n = s[2];
+    let mut end = at;
+    let mut p: u32 = 0;
+    while p < n {
+        let kind = closure_kind(s, closures, p);
+        end = output::put_word(out, end, kind);
+        p += 1;
+    }
+    end
+}
+
+// The sheet whose records are these words; its length.
+fn put_sheet(s: &[u32], closures: &[u64], records: &[u32], out: &mut [u32]) -> usize
+    requires { ⌜ ClosuresOf (now s) (now closures) × TransitionsOf (now s) (now records) × (10500 ≤ length (now out)) ⌝ }
+    ensures { λ r. ⌜ Written (now (out .entry)) 0 (write (eliminated (read (now (s .entry))))) (now (out .exit)) r ⌝ }
+{
+    let first = output::put_start(out, s[1], s[2]);
+    let count = put_accepts(s, closures, out, first);
+    let behind = output::put_word(out, count, (records.len() / 5) as u32);
+    output::put_words(out, behind, records)
 }
