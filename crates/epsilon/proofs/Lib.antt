@@ -3,3 +3,4 @@ pub mod Members
 pub mod Runs
 pub mod Storing
 pub mod Writing
+pub mod Answers

@@ -16,7 +16,7 @@ ghost use Rattle.words.specs.Epsilons.{Fresh};
 ghost use Rattle.words.specs.Gather.{Tables};
 ghost use Rattle.words.specs.Simulation.{closure, kindOf};
 ghost use Rattle.epsilon.specs.Eliminate.{movedTo, closureRanges, closureKinds, allStates, eliminated, limited, eliminateAnswer};
-ghost use Rattle.epsilon.specs.Storing.{Room, Stored, ClosuresOf, TransitionsOf};
+ghost use Rattle.epsilon.specs.Storing.{Room, Stored, ClosuresOf, TransitionsOf, Ready};
 use output::Made;
 use refusal::Refusal;
 use refusal::StateRefusal;
@@ -139,4 +139,43 @@ fn put_sheet(s: &[u32], closures: &[u64], records: &[u32], out: &mut [u32]) -> u
     let count = put_accepts(s, closures, out, first);
     let behind = output::put_word(out, count, (records.len() / 5) as u32);
     output::put_words(out, behind, records)
+}
+// Eliminates the epsilons of an accepted sheet with an accepted list of labels.
+fn eliminate_accepted(s: &[u32], labels: &[u8], out: &mut [u32], names: &mut [u8]) -> Made
+    requires { ⌜ Ready (now s) (now out) (now names) × (labelsFault (stateCount (now s)) (now labels) ≡ 0) ⌝ }
+    ensures { λ r. ⌜ outputOf r (now (out .exit)) (now (names .exit)) ≡ outputs (now (out .entry)) (now (names .entry)) (limited (eliminated (read (now (s .entry)))) (readLabels (now (labels .entry)))) ⌝ }
+{
+    let mut closures = [0u64; 1024];
+    let mut buf = [0u32; 10245];
+    let end = gather(s, &mut closures, &mut buf);
+    if 10240 < end {
+        return Made::Refused(Refusal::State(StateRefusal::Transitions));
+    }
+    let length = put_sheet(s, &closures, &buf[0..end], out);
+    let bytes = labels::copy_all(names, labels);
+    Made::Lengths(length, bytes)
+}
+
+// Eliminates the epsilons of an accepted sheet.
+fn eliminate_checked(s: &[u32], labels: &[u8], out: &mut [u32], names: &mut [u8]) -> Made
+    requires { ⌜ Ready (now s) (now out) (now names) ⌝ }
+    ensures { λ r. ⌜ outputOf r (now (out .exit)) (now (names .exit)) ≡ outputs (now (out .entry)) (now (names .entry)) (labelsFirst (stateCount (now (s .entry))) (now (labels .entry)) (limited (eliminated (read (now (s .entry)))) (readLabels (now (labels .entry))))) ⌝ }
+{
+    match labels::check(s[2] as usize, labels) {
+        labels::Checked::Accepted => eliminate_accepted(s, labels, out, names),
+        labels::Checked::Refused(r) => Made::Refused(Refusal::Input(r)),
+    }
+}
+
+// The same states and start, each with the ranges and the acceptance of its closure; the labels are kept.
+pub fn epsilon_eliminate(s: &[u32], labels: &[u8], out: &mut [u32], names: &mut [u8]) -> Made
+    ensures { λ r. ⌜ outputOf r (now (out .exit)) (now (names .exit)) ≡ outputs (now (out .entry)) (now (names .entry)) (roomFirst (now (out .entry)) (now (names .entry)) (eliminateAnswer (now (s .entry)) (now (labels .entry)))) ⌝ }
+{
+    if output::lacks_room(out, names) {
+        return Made::Refused(Refusal::State(StateRefusal::OutputLength));
+    }
+    match sheets::check(s) {
+        sheets::Checked::Accepted => eliminate_checked(s, labels, out, names),
+        sheets::Checked::Refused(r) => Made::Refused(Refusal::Input(r)),
+    }
 }
