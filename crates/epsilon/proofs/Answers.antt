@@ -2,7 +2,7 @@
 use Prim.Native.Nat.{ℕ, _-_, _≤_, _<_}
 use mathlib.Core.Bool.{Bool, true, false, _||_}
 use mathlib.Core.List.{List, flatMap}
-use mathlib.Core.Path.{_≡_, sym, _∙_, ap, subst}
+use mathlib.Core.Path.{_≡_, sym, _∙_, ap}
 use native.Mathlib.Omega.{arith}
 use borrow.Author.Needs.{needs}
 use borrow.Author.Tests.{lt-ltb, le-ltb}
@@ -10,7 +10,6 @@ use lib.Dec.{ltb}
 use lib.ListN.{length, take, drop, length-replicate}
 use Rattle.lists.specs.Written.{Written}
 use Rattle.lists.proofs.Written.{written-length}
-use Rattle.automata.specs.Automaton.{Automaton}
 use Rattle.automata.specs.WellFormed.{mostTransitions}
 use Rattle.labels.specs.Checked as labelCheck
 use Rattle.labels.specs.Labels.{labelsFault, readLabels, writeLabels, LabelList, labelCount}
@@ -20,8 +19,8 @@ use Rattle.labels.proofs.Labels.{label-list, count-read}
 use Rattle.output.specs.Made.{outputOf}
 use Rattle.output.specs.Output.{Output, Pattern, outputs, roomFirst, labelsFirst}
 use Rattle.output.specs.declared.Made.the-variants.{Lengths, Refused}
-use Rattle.output.proofs.Answers.{made-given, made-refused, labels-accepted, labels-passed, labels-refused, room-lacking, room-enough, room-words, room-bytes}
-use Rattle.refusal.specs.Answer.{Answer, refused, given}
+use Rattle.output.proofs.Answers.{made-given, made-refused, labels-passed, labels-refused, room-lacking, room-enough, room-words, room-bytes}
+use Rattle.refusal.specs.Answer.{Answer}
 use Rattle.refusal.specs.declared.InputRefusal.{InputRefusal}
 use Rattle.refusal.specs.declared.Refusal.the-variants.{Input, State}
 use Rattle.refusal.specs.declared.StateRefusal.the-variants.{OutputLength, Transitions}

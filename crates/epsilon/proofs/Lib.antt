@@ -4,3 +4,5 @@ pub mod Runs
 pub mod Storing
 pub mod Writing
 pub mod Answers
+pub mod Numbers
+pub mod Theorems

@@ -1,16 +1,14 @@
 -- The transitions of an eliminated automaton: each is a range of the closure of the state that it leaves.
-use Prim.Native.Nat.{ℕ, zero, suc, _+_, _<_}
+use Prim.Native.Nat.{ℕ, zero, suc, _<_}
 use mathlib.Core.Bool.{true}
-use mathlib.Core.List.{List, [], _∷_, _++_, map, flatMap, List·Memᴰ·head, List·Memᴰ·tail, List·Memᴰ·append-cases, Memᴰ·append-left, Memᴰ·append-right}
-use mathlib.Core.Logic.{_⊎_, inl, inr, ⊎-elim}
+use mathlib.Core.List.{List, [], _∷_, map, flatMap, List·Memᴰ·head, List·Memᴰ·tail, List·Memᴰ·append-cases, Memᴰ·append-left, Memᴰ·append-right}
+use mathlib.Core.Logic.{⊎-elim}
 use mathlib.Core.Path.{_≡_, refl, sym, _∙_, ap, subst}
 use native.Mathlib.Omega.{arith}
 use borrow.Author.Tests.{eq-eqb, eqb-true}
-use lib.Dec.{eqb}
 use Rattle.lists.specs.Lists.{_∈_, tabulate}
 use Rattle.lists.proofs.Lists.{keep-in, keep-out}
 use Rattle.automata.specs.Automaton.{Transition, Automaton, leaving, rangesOf}
-use Rattle.automata.specs.Ordered.{inOrder}
 use Rattle.automata.proofs.Ordered.{inOrder-in, inOrder-out}
 use Rattle.sets.specs.Sets.{has}
 use Rattle.sets.proofs.Sets.{mem-has, has-mem}

@@ -6,7 +6,7 @@ use mathlib.Core.Logic.{_↔_}
 use mathlib.Core.Path.{_≡_, refl, sym, _∙_, ap, subst}
 use native.Mathlib.Omega.{arith}
 use lib.ListN.{getD}
-use Rattle.lists.specs.Lists.{_∈_, tabulate}
+use Rattle.lists.specs.Lists.{_∈_}
 use Rattle.lists.proofs.Lists.{tabulate-at}
 use Rattle.automata.specs.Automaton.{Transition, Automaton, Run, stay, skip, read, Accepts, InBounds}
 use Rattle.sets.specs.Sets.{has}
@@ -15,7 +15,7 @@ use Rattle.words.proofs.Closures.{join, closure-sound, closure-complete, run-bo
 use Rattle.words.proofs.Kind.{kindOf-least, kindOf-some}
 use Rattle.words.proofs.Simulation.{simulate-sound, simulate-complete, closure-shut}
 use Rattle.epsilon.specs.Eliminate.{leavingFrom, closureKinds, eliminated}
-use Rattle.epsilon.proofs.Members.{Comes, eliminated-out, eliminated-in}
+use Rattle.epsilon.proofs.Members.{eliminated-out, eliminated-in}
 
 -- epsilons behind a run
 join-end : {A : Automaton} {p q r : ℕ} {w : List ℕ} → Run A p w q → Run A q [] r → Run A p w r
@@ -101,7 +101,7 @@ module _ (A : Automaton) (ok : InBounds A) where
   unfolding eliminated
   end-kept r = run-bound (eliminated A) states-kept (ok .starts) r
 
-  accept-at : (q : ℕ) → q < A .size → getD (eliminated A .accept) q 0 ≡ kindOf A (closure A q)
+  pub accept-at : (q : ℕ) → q < A .size → getD (eliminated A .accept) q 0 ≡ kindOf A (closure A q)
   unfolding eliminated closureKinds
   accept-at q l = tabulate-at (A .size) (λ p. kindOf A (closure A p)) q 0 l
 

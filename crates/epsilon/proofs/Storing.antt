@@ -1,23 +1,22 @@
 -- Gathering transitions in order: the laws by which the loops are proved.
-use Prim.Native.Nat.{ℕ, zero, suc, _+_, _-_, _*_, _≤_, _<_}
+use Prim.Native.Nat.{ℕ, _+_, _-_, _*_, _≤_, _<_}
 use mathlib.Core.Bool.{Bool, true, false, cond}
 use mathlib.Core.List.{List, [], _∷_, _++_, map, flatMap, append-nil, append-assoc, List·Memᴰ·append-cases, Memᴰ·append-left, Memᴰ·append-right}
-use mathlib.Core.Logic.{_⊎_, inl, inr, ⊎-elim}
+use mathlib.Core.Logic.{⊎-elim}
 use mathlib.Core.Path.{_≡_, refl, sym, _∙_, ap, subst}
 use native.Mathlib.Omega.{arith}
 use borrow.Author.Needs.{needs}
 use borrow.Author.Tests.{eq-eqb, ne-eqb}
 use lib.Dec.{eqb}
 use lib.ListN.{length, getD, take, drop, drop-of-length-le}
-use Rattle.lists.specs.Lists.{_∈_, keep, tabulate}
+use Rattle.lists.specs.Lists.{keep, tabulate}
 use Rattle.lists.specs.Written.{Written}
 use Rattle.lists.proofs.Lists.{tabulate-at, length-tabulate}
 use Rattle.lists.proofs.Parts.{drop-at}
 use Rattle.lists.proofs.Written.{written-length}
-use Rattle.automata.specs.Automaton.{Transition, Automaton, leaving, rangesOf}
+use Rattle.automata.specs.Automaton.{Transition, leaving, rangesOf}
 use Rattle.automata.specs.Ordered.{insert, inOrder}
 use Rattle.automata.specs.Records.{readRecords, writeRecords, recordAt}
-use Rattle.automata.specs.WellFormed.{mostTransitions}
 use Rattle.automata.proofs.Ordered.{inOrder-in, inOrder-out, inOrder-ext, inOrder-same, inOrder-more, inOrder-grows}
 use Rattle.automata.proofs.Records.{records-at, records-end, part-record, read-write}
 use Rattle.output.specs.Ordered.{Listed, recordsIn}

@@ -1,12 +1,12 @@
 -- Writing the sheet of an eliminated automaton: the laws by which the functions that write are proved.
 use Prim.Native.Nat.{ℕ, _+_, _*_, _/_, _≤_, _<_}
 use mathlib.Core.List.{List, [], _∷_, _++_}
-use mathlib.Core.Path.{_≡_, sym, _∙_, ap, ap₂, subst}
+use mathlib.Core.Path.{_≡_, _∙_, ap, ap₂, subst}
 use native.Mathlib.Nat.{le-antisymm}
 use native.Mathlib.Numerals.{add-one}
 use native.Mathlib.Omega.{arith}
 use borrow.Author.Needs.{needs}
-use lib.ListN.{length, getD, take, length-append}
+use lib.ListN.{length, getD}
 use mir.Syntax.{w32}
 use mir.Val.{Fits}
 use Rattle.lists.specs.Lists.{tabulate}
@@ -14,13 +14,11 @@ use Rattle.lists.specs.Written.{Written}
 use Rattle.lists.proofs.Lists.{tabulate-end, length-tabulate}
 use Rattle.lists.proofs.Written.{written-none, written-append, written-length}
 use Rattle.automata.specs.Automaton.{Transition}
-use Rattle.automata.specs.Records.{writeRecords}
 use Rattle.automata.proofs.Records.{length-write}
 use Rattle.sets.specs.BitSet.{setAt}
 use Rattle.sets.specs.Words.{putAt}
 use Rattle.sheets.specs.Sheet.{stateCount, read, write}
 use Rattle.words.specs.Simulation.{closure, kindOf}
-use Rattle.words.proofs.Epsilons.{fresh}
 use Rattle.words.proofs.Reading.{begin-tables}
 use Rattle.epsilon.specs.Eliminate.{closureKinds, eliminated}
 use Rattle.epsilon.specs.Storing.{ClosuresOf, TransitionsOf}
