@@ -109,9 +109,9 @@ fn closure_kind(s: &[u32], closures: &[u64], p: u32) -> u32
     requires { ⌜ ClosuresOf (now s) (now closures) × (p < stateCount (now s)) ⌝ }
     ensures { λ r. ⌜ r ≡ kindOf (read (now (s .entry))) (closure (read (now (s .entry))) p) ⌝ }
 {
-    let mut row = [0u64; 4];
-    sets::copy_row(&mut row, closures, p as usize);
-    words::kind_of(s, &row)
+    let mut set = [0u64; 4];
+    sets::copy_row(&mut set, closures, p as usize);
+    words::kind_of(s, &set)
 }
 
 // The accept words of all states at a place; the place behind them.
