@@ -1,3 +1,4 @@
 -- The laws of outputs.
 pub mod Writing
 pub mod Answers
+pub mod Inserting

@@ -1,3 +1,4 @@
 -- The outputs of operations.
 pub mod Output
 pub mod Made
+pub mod Ordered

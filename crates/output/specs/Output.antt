@@ -3,11 +3,11 @@
 use Prim.Native.Nat.{ℕ}
 use mathlib.Core.Bool.{cond}
 use mathlib.Core.List.{List}
-use lib.Dec.{ltb}
+use lib.Dec.{eqb, ltb}
 use lib.ListN.{length}
 use lib.Seq.{sets}
 use Rattle.automata.specs.Automaton.{Automaton}
-use Rattle.labels.specs.Labels.{writeLabels}
+use Rattle.labels.specs.Labels.{writeLabels, labelsFault}
 use Rattle.refusal.specs.Answer.{Answer, refused, given}
 use Rattle.sheets.specs.Sheet.{write}
 
@@ -47,3 +47,7 @@ labelsSize = 16642
 -- 20 where an output is too short, or else the answer a
 unfoldable pub roomFirst : {X : Type 0} → List ℕ → List ℕ → Answer X → Answer X
 roomFirst o l a = cond (ltb (length o) sheetSize) (refused 20) (cond (ltb (length l) labelsSize) (refused 20) a)
+
+-- the fault of b as the labels of n states, or else the answer a
+unfoldable pub labelsFirst : {X : Type 0} → ℕ → List ℕ → Answer X → Answer X
+labelsFirst n b a = cond (eqb (labelsFault n b) 0) a (refused (labelsFault n b))

@@ -8,6 +8,10 @@ ghost use lib.ListN.{length};
 ghost use Rattle.lists.specs.Written.{Written};
 use refusal::Refusal;
 
+mod ordered;
+
+pub use ordered::insert_record;
+
 // The answer of an operation with two outputs: how many words the sheet takes and how many bytes the labels, or a refusal.
 pub enum Made {
     Lengths(usize, usize),
@@ -63,4 +67,19 @@ pub fn put_record(
     out[at + 3] = last;
     out[at + 4] = to;
     at + 5
+}
+
+// Words at a place; the place behind them.
+pub fn put_words(out: &mut [u32], at: usize, words: &[u32]) -> usize
+    requires { ⌜ at + length (now words) ≤ length (now out) ⌝ }
+    ensures { λ r. ⌜ Written (now (out .entry)) at (now (words .entry)) (now (out .exit)) r ⌝ }
+{
+    let mut end = at;
+    let mut i = 0;
+    while i < words.len() {
+        out[end] = words[i];
+        end += 1;
+        i += 1;
+    }
+    end
 }

@@ -91,7 +91,8 @@ orElse-stop : (f g : ℕ) → (f ≡ 0 → ⊥) → orElse f g ≡ f
 orElse-stop zero g h = absurd (h refl)
 orElse-stop (suc f) g h = refl
 
-refused-some : (r : InputRefusal) → inputNumber r ≡ 0 → ⊥
+-- a refusal's number is not 0
+pub refused-some : (r : InputRefusal) → inputNumber r ≡ 0 → ⊥
 refused-some SheetLength h = omega arith
 refused-some Start h = omega arith
 refused-some Counts h = omega arith

@@ -1,0 +1,10 @@
+-- `gather` meets its contract: the tables are those of the sheet.
+use Rattle.epsilon.proofs.Writing.{gatherLaws}
+use Rattle.epsilon.proofs.gather.Statement.{statement}
+use Rattle.epsilon.proofs.gather.Tie as tie
+
+pub gather-spec : {M : Type 1} → statement M
+gather-spec =
+    tie.close
+    (tie.spec (λ c. search gatherLaws) (λ c κs. search gatherLaws) (λ c κs. search gatherLaws) (λ c. search gatherLaws)
+    (λ c κs. search gatherLaws) (λ c. search gatherLaws) (λ c. search gatherLaws) (λ c. search gatherLaws))
