@@ -1,0 +1,5 @@
+-- The laws of totality and complement.
+pub mod Left
+pub mod Merging
+pub mod Runs
+pub mod States

@@ -1,0 +1,165 @@
+// `is_nfa`, `totalize` and `complement`. Every pass reads each record of the sheet once: the holes of a state are found in one pass over its run,
+// and its records and holes are written in one pass over both.
+ghost use mathlib.Core.List.{[], _∷_, _++_, map};
+ghost use mathlib.Core.Path.{_≡_};
+ghost use Prim.Native.Nat.{_+_, _*_, _≤_, _<_};
+ghost use lib.ListN.{length, drop};
+ghost use Rattle.lists.specs.Written.{Written};
+ghost use Rattle.automata.specs.Automaton.{rangesOf};
+ghost use Rattle.automata.specs.Ordered.{inOrder};
+ghost use Rattle.automata.specs.Records.{readRecords, writeRecords};
+ghost use Rattle.labels.specs.Labels.{labelsFault, readLabels};
+ghost use Rattle.output.specs.Made.{outputOf};
+ghost use Rattle.output.specs.Output.{outputs, roomFirst};
+ghost use Rattle.ranges.specs.Missing.{Sorted};
+ghost use Rattle.sheets.specs.Sheet.{stateCount, read, write};
+ghost use Rattle.totality.specs.Totality.{states, hasEpsilon, isNfaAt, isNfa, holeTo, filled, flipped, totalized};
+ghost use Rattle.totality.specs.Merging.{readSpans, leading, Mergeable, merged, Whole, acceptWord, turned, holesIn, filledIn, Ready};
+ghost use Rattle.totality.specs.Answers.{answerOf, isNfaAnswer, inputsFault, inputsNumber, limited, totalPattern, complementPattern, totalizeAnswer, complementAnswer};
+use output::Made;
+use refusal::InputRefusal;
+use refusal::Refusal;
+use refusal::StateRefusal;
+
+// The answer of `is_nfa`.
+pub enum Nfa {
+    Is(bool),
+    Refused(InputRefusal),
+}
+
+// What the inputs and outputs of an operation are before it begins.
+pub enum Inputs {
+    Good,
+    Refused(Refusal),
+}
+
+// Whether an epsilon stands in the run.
+fn has_epsilon(run: &[u32]) -> bool
+    ensures { λ r. ⌜ r ≡ hasEpsilon (readRecords (now (run .entry))) ⌝ }
+{
+    let mut at: usize = 0;
+    while 5 <= run.len() - at {
+        if run[at + 1] == 0 {
+            return true;
+        }
+        at += 5;
+    }
+    false
+}
+
+// Whether the records of one state have an epsilon, an overlap or a hole from lower to upper.
+fn is_nfa_run(run: &[u32], lower: u32, upper: u32, holes: &mut [u32]) -> bool
+    requires { ⌜ Sorted (rangesOf (readRecords (now run))) × (2 * length (now run) + 10 ≤ 5 * length (now holes)) ⌝ }
+    ensures { λ r. ⌜ r ≡ isNfaAt lower upper (readRecords (now (run .entry))) ⌝ }
+{
+    if has_epsilon(run) {
+        return true;
+    }
+    if ranges::has_overlapping_ranges(run) {
+        return true;
+    }
+    0 < ranges::missing_ranges(run, lower, upper, holes)
+}
+
+// Whether some state has an epsilon, an overlap or a hole from lower to upper.
+fn is_nfa_sheet(s: &[u32], starts: &[u32], lower: u32, upper: u32, holes: &mut [u32]) -> bool
+    requires { ⌜ Ready (now s) (now starts) (now holes) ⌝ }
+    ensures { λ r. ⌜ r ≡ isNfa lower upper (read (now (s .entry))) ⌝ }
+{
+    let n = s[2];
+    let mut q: u32 = 0;
+    while q < n {
+        if is_nfa_run(sheets::run(s, starts, q), lower, upper, holes) {
+            return true;
+        }
+        q += 1;
+    }
+    false
+}
+
+// The number of holes of all states.
+fn count_holes(s: &[u32], starts: &[u32], lower: u32, upper: u32, holes: &mut [u32]) -> usize
+    requires { ⌜ Ready (now s) (now starts) (now holes) ⌝ }
+    ensures { λ r. ⌜ r ≡ length (holesIn lower upper (read (now (s .entry))) (states (stateCount (now (s .entry))))) ⌝ }
+{
+    let n = s[2];
+    let mut count: usize = 0;
+    let mut q: u32 = 0;
+    while q < n {
+        count += ranges::missing_ranges(sheets::run(s, starts, q), lower, upper, holes);
+        q += 1;
+    }
+    count
+}
+
+// Copies the words to at. Like the functions below it answers the place behind what it wrote.
+fn copy_words(out: &mut [u32], at: usize, words: &[u32]) -> usize
+    requires { ⌜ at + length (now words) ≤ length (now out) ⌝ }
+    ensures { λ r. ⌜ Written (now (out .entry)) at (now (words .entry)) (now (out .exit)) r ⌝ }
+{
+    let mut end = at;
+    let mut i = 0;
+    while i < words.len() {
+        out[end] = words[i];
+        end += 1;
+        i += 1;
+    }
+    end
+}
+
+// The place behind the records from i on that come before a hole that begins at low.
+fn records_before(run: &[u32], i: usize, low: u32) -> usize
+    requires { ⌜ i ≤ length (now run) ⌝ }
+    ensures { λ r. ⌜ (r ≡ i + 5 * leading low (readRecords (drop i (now (run .entry))))) × (r ≤ length (now (run .entry))) ⌝ }
+{
+    let mut k = i;
+    while 5 <= run.len() - k {
+        if low < run[k + 2] {
+            return k;
+        }
+        k += 5;
+    }
+    k
+}
+
+// Writes the records of the run and the holes of its state q, led to the sink, in order: the records before each hole, and then the hole.
+fn put_merged(
+    run: &[u32],
+    holes: &[u32],
+    q: u32,
+    sink: u32,
+    out: &mut [u32],
+    at: usize,
+) -> usize
+    requires { ⌜ Mergeable sink q (readRecords (now run)) (readSpans (now holes)) × Whole (now run) ⌝ }
+    requires { ⌜ at + length (writeRecords (merged sink q (now run) (now holes))) ≤ length (now out) ⌝ }
+    ensures { λ r. ⌜ Written (now (out .entry)) at (writeRecords (merged sink q (now (run .entry)) (now (holes .entry)))) (now (out .exit)) r ⌝ }
+{
+    let mut end = at;
+    let mut i: usize = 0;
+    let mut j: usize = 0;
+    while 2 <= holes.len() - j {
+        let k = records_before(run, i, holes[j]);
+        end = copy_words(out, end, &run[i..k]);
+        end = output::put_record(out, end, q, 1, holes[j], holes[j + 1], sink);
+        i = k;
+        j += 2;
+    }
+    copy_words(out, end, &run[i..])
+}
+
+// Writes the records of the run of the state q with its holes from lower to upper.
+fn put_filled(
+    run: &[u32],
+    q: u32,
+    sink: u32,
+    lower: u32,
+    upper: u32,
+    holes: &mut [u32],
+    out: &mut [u32],
+    at: usize,
+) -> usize
+{
+    let k = ranges::missing_ranges(run, lower, upper, holes);
+    put_merged(run, &holes[..2 * k], q, sink, out, at)
+}
