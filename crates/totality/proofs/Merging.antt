@@ -9,7 +9,7 @@ use borrow.Author.Needs.{needs}
 use borrow.Author.Tests.{leb-true, leb-false, le-leb, lt-leb}
 use lib.Dec.{leb}
 use lib.ListN.{length, getD, take, drop, length-drop, length-take}
-use lib.Seq.{drop-drop, getD-drop}
+use lib.Seq.{drop-drop, getD-drop, length-take-le}
 use Rattle.lists.specs.Lists.{_∈_, Ascending, none, more}
 use Rattle.lists.specs.Written.{Written}
 use Rattle.lists.proofs.Tests.{test}
@@ -136,3 +136,80 @@ spans-end s j h = short (drop j s) (simp length-drop h)
     short [] h = refl
     short (a ∷ []) h = refl
     short (a ∷ b ∷ s) h = absurd (omega arith)
+
+-- the words of the first k records
+front-words : (k : ℕ) (s : List ℕ) → 5 * k ≤ length s → take (5 * k) s ≡ writeRecords (take k (readRecords s))
+front-words k s h = sym (write-read k (take (5 * k) s) (length-take-le (5 * k) s h)) ∙ ap writeRecords (read-take k s)
+
+-- a state's records from i on and its holes from j on are left to write
+module _ (sink q : ℕ) (run holes : List ℕ) (i j : ℕ) (w : Whole (drop i run)) (m : Mergeable sink q (readRecords (drop i run)) (readSpans (drop j holes))) where
+  -- no hole is left
+  module _ (h : length holes - j < 2) where
+    merged-end : writeRecords (merged sink q (drop i run) (drop j holes)) ≡ take (length run - i) (drop i run) ++ []
+    unfolding merged
+    merged-end =
+        let es = readRecords (drop i run) in
+        rw (spans-end holes j h, append-nil es, inOrder-same es (m .records), write-read (length es) (drop i run) w, part-all i run, append-nil (drop i run))
+
+  -- k is the place behind the records before the next hole
+  module _ (h : 2 ≤ length holes - j) (k : ℕ) (e : k ≡ i + 5 * leading (getD holes j 0) (readRecords (drop i run))) (f : k ≤ length run) where
+    n : ℕ
+    n = leading (getD holes j 0) (readRecords (drop i run))
+
+    rest-records : readRecords (drop k run) ≡ drop n (readRecords (drop i run))
+    unfolding n
+    rest-records = rw e (ap readRecords (sym (drop-drop (5 * n) i run)) ∙ read-drop n (drop i run))
+
+    merge-whole : Whole (drop k run)
+    unfolding n
+    merge-whole = omega (arith, ap length rest-records, length-drop n (readRecords (drop i run)), length-drop k run, length-drop i run, w)
+
+    merge-mergeable : Mergeable sink q (readRecords (drop k run)) (readSpans (drop (j + 2) holes))
+    merge-mergeable = rw rest-records (drop-records sink q n (readRecords (drop i run)) (less-holes sink q (rw (spans-at holes j h) at m)))
+
+    merged-at : writeRecords (merged sink q (drop i run) (drop j holes)) ≡ take (k - i) (drop i run) ++ (q ∷ 1 ∷ getD holes j 0 ∷ getD holes (j + 1) 0 ∷ sink ∷ writeRecords (merged sink q (drop k run) (drop (j + 2) holes)))
+    unfolding merged n writeRecords
+    merged-at =
+        let es = readRecords (drop i run) in
+        let s : Span = record { low = getD holes j 0; high = getD holes (j + 1) 0 } in
+        let hs = readSpans (drop (j + 2) holes) in
+        let d : k - i ≡ 5 * n = omega arith in
+        let r : Mergeable sink q es (s ∷ hs) = rw (spans-at holes j h) at m in
+        rw (spans-at holes j h, merge-hole sink q es s hs r, write-append (take n es) (holeTo sink q s ∷ inOrder (drop n es ++ map (holeTo sink q) hs)), rest-records, d)
+        (ap (λ l. l ++ writeRecords (holeTo sink q s ∷ inOrder (drop n es ++ map (holeTo sink q) hs))) (sym (front-words n (drop i run) (omega (arith, length-drop i run)))))
+
+module _ (o₀ : List ℕ) (at : ℕ) (all o : List ℕ) (end : ℕ) (sink q : ℕ) (run holes : List ℕ) (i j : ℕ) (l : Left o₀ at all o end (writeRecords (merged sink q (drop i run) (drop j holes)))) (w : Whole (drop i run)) (m : Mergeable sink q (readRecords (drop i run)) (readSpans (drop j holes))) where
+  module _ (h : length holes - j < 2) where
+    pub rest-room : at + length all ≤ length o₀ → end + length (take (length run - i) (drop i run)) ≤ length o
+    rest-room r = left-room o₀ at all o end _ l (take (length run - i) (drop i run)) [] (merged-end sink q run holes i j w m h) r
+
+    pub rest-done : (o′ : List ℕ) (end′ : ℕ) → Written o end (take (length run - i) (drop i run)) o′ end′ → Written o₀ at all o′ end′
+    rest-done o′ end′ v = left-done o₀ at all o′ end′ [] (left-next o₀ at all o end _ l (take (length run - i) (drop i run)) [] (merged-end sink q run holes i j w m h) o′ end′ v) refl
+
+  module _ (h : 2 ≤ length holes - j) (k : ℕ) (e : k ≡ i + 5 * leading (getD holes j 0) (readRecords (drop i run))) (f : k ≤ length run) where
+    hole : List ℕ
+    hole = q ∷ 1 ∷ getD holes j 0 ∷ getD holes (j + 1) 0 ∷ sink ∷ []
+
+    pub next-whole : Whole (drop k run)
+    next-whole = merge-whole sink q run holes i j w m h k e f
+
+    pub next-mergeable : Mergeable sink q (readRecords (drop k run)) (readSpans (drop (j + 2) holes))
+    next-mergeable = merge-mergeable sink q run holes i j w m h k e f
+
+    pub records-room : at + length all ≤ length o₀ → end + length (take (k - i) (drop i run)) ≤ length o
+    records-room r = left-room o₀ at all o end _ l (take (k - i) (drop i run)) _ (merged-at sink q run holes i j w m h k e f) r
+
+    module _ (o₁ : List ℕ) (end₁ : ℕ) (v : Written o end (take (k - i) (drop i run)) o₁ end₁) where
+      with-hole : Left o₀ at all o₁ end₁ (hole ++ writeRecords (merged sink q (drop k run) (drop (j + 2) holes)))
+      unfolding hole
+      with-hole = left-next o₀ at all o end _ l (take (k - i) (drop i run)) _ (merged-at sink q run holes i j w m h k e f) o₁ end₁ v
+
+      pub hole-room : at + length all ≤ length o₀ → end₁ + 5 ≤ length o₁
+      unfolding hole
+      hole-room r = left-room o₀ at all o₁ end₁ _ with-hole hole _ refl r
+
+      pub hole-next : (o₂ : List ℕ) (end₂ : ℕ) → Written o₁ end₁ (q ∷ 1 ∷ getD holes j 0 ∷ getD holes (j + 1) 0 ∷ sink ∷ []) o₂ end₂ → Left o₀ at all o₂ end₂ (writeRecords (merged sink q (drop k run) (drop (j + 2) holes)))
+      unfolding hole
+      hole-next o₂ end₂ u = left-next o₀ at all o₁ end₁ _ with-hole hole _ refl o₂ end₂ u
+
+pub ruleset mergeLaws = (left-start, rest-room, rest-done, next-whole, next-mergeable, records-room, hole-room, hole-next, needs)

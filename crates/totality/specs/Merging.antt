@@ -13,7 +13,7 @@ use Rattle.automata.specs.WellFormed.{Before}
 use Rattle.ranges.specs.Span.{Span}
 use Rattle.sheets.specs.Accepted.{Accepted}
 use Rattle.sheets.specs.Runs.{Indexed}
-use Rattle.totality.specs.Totality.{states, holesOf, holeTo, filled, otherWord, flipped}
+use Rattle.totality.specs.Totality.{holesOf, holeTo, otherWord, flipped}
 
 -- the spans of a list of words; a word left over is none
 unfoldable pub readSpans : List ℕ → List Span
@@ -34,7 +34,7 @@ pub record Mergeable (sink q : ℕ) (es : List Transition) (hs : List Span) : Ty
   pub sooner : (e : Transition) (h : Span) → e ∈ es → h ∈ hs → e .first ≤ h .low → Before e (holeTo sink q h)
 
 -- the records of a run of the state q and the spans of holes, led to the sink, in order
-abbrev pub merged : ℕ → ℕ → List ℕ → List ℕ → List Transition
+unfoldable pub merged : ℕ → ℕ → List ℕ → List ℕ → List Transition
 merged sink q run holes = inOrder (readRecords run ++ map (holeTo sink q) (readSpans holes))
 
 -- the words are those of whole records
@@ -54,10 +54,6 @@ turned false A = A
 -- the holes of some states
 unfoldable pub holesIn : ℕ → ℕ → Automaton → List ℕ → List Span
 holesIn lo hi A qs = flatMap (λ q. holesOf lo hi (leaving A q)) qs
-
--- the transitions of some states with their holes
-unfoldable pub filledIn : ℕ → ℕ → Automaton → List ℕ → List Transition
-filledIn lo hi A qs = flatMap (λ q. filled lo hi (A .size) q (leaving A q)) qs
 
 -- an accepted sheet, where its runs begin, and room for the holes of a run
 pub record Ready (s starts holes : List ℕ) : Type 0 where

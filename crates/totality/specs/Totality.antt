@@ -27,9 +27,12 @@ hasEpsilon es = any (λ e. eqb (e .kind) 0) es
 unfoldable pub isNfaAt : ℕ → ℕ → List Transition → Bool
 isNfaAt lo hi es = hasEpsilon es || (overlapping (rangesOf es) || ltb 0 (length (holesOf lo hi es)))
 
--- those of some state have
+-- those of one of the states qs have
+unfoldable pub isNfaIn : ℕ → ℕ → Automaton → List ℕ → Bool
+isNfaIn lo hi A qs = any (λ q. isNfaAt lo hi (leaving A q)) qs
+
 unfoldable pub isNfa : ℕ → ℕ → Automaton → Bool
-isNfa lo hi A = any (λ q. isNfaAt lo hi (leaving A q)) (states (A .size))
+isNfa lo hi A = isNfaIn lo hi A (states (A .size))
 
 -- a hole of the state q, led to the sink
 abbrev pub holeTo : ℕ → ℕ → Span → Transition
@@ -39,15 +42,21 @@ holeTo sink q s = record { from = q; kind = 1; first = s .low; last = s .high; t
 unfoldable pub filled : ℕ → ℕ → ℕ → ℕ → List Transition → List Transition
 filled lo hi sink q es = inOrder (es ++ map (holeTo sink q) (holesOf lo hi es))
 
+-- those of the states qs
+unfoldable pub filledIn : ℕ → ℕ → Automaton → List ℕ → List Transition
+filledIn lo hi A qs = flatMap (λ q. filled lo hi (A .size) q (leaving A q)) qs
+
+-- the sink's transition to itself
+abbrev pub loopOn : ℕ → ℕ → ℕ → Transition
+loopOn lo hi sink = record { from = sink; kind = 1; first = lo; last = hi; to = sink }
+
 -- the sink is added as the last state: it rejects, and loops on all symbols
 unfoldable pub totalized : ℕ → ℕ → Automaton → Automaton
 totalized lo hi A = record {
   size = A .size + 1;
   start = A .start;
   accept = A .accept ++ 0 ∷ [];
-  transitions =
-      flatMap (λ q. filled lo hi (A .size) q (leaving A q)) (states (A .size))
-      ++ record { from = A .size; kind = 1; first = lo; last = hi; to = A .size } ∷ [];
+  transitions = filledIn lo hi A (states (A .size)) ++ loopOn lo hi (A .size) ∷ [];
 }
 
 -- a rejecting state accepts, and an accepting one rejects
