@@ -160,11 +160,11 @@ module _ (sink q : ℕ) (run holes : List ℕ) (i j : ℕ) (w : Whole (drop i ru
     unfolding n
     rest-records = rw e (ap readRecords (sym (drop-drop (5 * n) i run)) ∙ read-drop n (drop i run))
 
-    merge-whole : Whole (drop k run)
+    pub merge-whole : Whole (drop k run)
     unfolding n
     merge-whole = omega (arith, ap length rest-records, length-drop n (readRecords (drop i run)), length-drop k run, length-drop i run, w)
 
-    merge-mergeable : Mergeable sink q (readRecords (drop k run)) (readSpans (drop (j + 2) holes))
+    pub merge-mergeable : Mergeable sink q (readRecords (drop k run)) (readSpans (drop (j + 2) holes))
     merge-mergeable = rw rest-records (drop-records sink q n (readRecords (drop i run)) (less-holes sink q (rw (spans-at holes j h) at m)))
 
     merged-at : writeRecords (merged sink q (drop i run) (drop j holes)) ≡ take (k - i) (drop i run) ++ (q ∷ 1 ∷ getD holes j 0 ∷ getD holes (j + 1) 0 ∷ sink ∷ writeRecords (merged sink q (drop k run) (drop (j + 2) holes)))
@@ -190,12 +190,6 @@ module _ (o₀ : List ℕ) (at : ℕ) (all o : List ℕ) (end : ℕ) (sink q : �
     hole : List ℕ
     hole = q ∷ 1 ∷ getD holes j 0 ∷ getD holes (j + 1) 0 ∷ sink ∷ []
 
-    pub next-whole : Whole (drop k run)
-    next-whole = merge-whole sink q run holes i j w m h k e f
-
-    pub next-mergeable : Mergeable sink q (readRecords (drop k run)) (readSpans (drop (j + 2) holes))
-    next-mergeable = merge-mergeable sink q run holes i j w m h k e f
-
     pub records-room : at + length all ≤ length o₀ → end + length (take (k - i) (drop i run)) ≤ length o
     records-room r = left-room o₀ at all o end _ l (take (k - i) (drop i run)) _ (merged-at sink q run holes i j w m h k e f) r
 
@@ -212,4 +206,4 @@ module _ (o₀ : List ℕ) (at : ℕ) (all o : List ℕ) (end : ℕ) (sink q : �
       unfolding hole
       hole-next o₂ end₂ u = left-next o₀ at all o₁ end₁ _ with-hole hole _ refl o₂ end₂ u
 
-pub ruleset mergeLaws = (left-start, rest-room, rest-done, next-whole, next-mergeable, records-room, hole-room, hole-next, needs)
+pub ruleset mergeLaws = (left-start, rest-room, rest-done, records-room, hole-room, needs)

@@ -1,9 +1,10 @@
 -- The loops over the states of a sheet: laws of `is_nfa_sheet` and `count_holes`, and what a state's run has.
 use Prim.Native.Nat.{ℕ, zero, suc, _+_, _-_, _*_, _^_, _≤_, _<_, min, max}
 use mathlib.Core.Bool.{Bool, true, false, _||_}
-use mathlib.Core.List.{List, [], _∷_, _++_, flatMap, List·Memᴰ·head, List·Memᴰ·tail, List·Memᴰ·cases-cons}
+use mathlib.Core.List.{List, [], _∷_, _++_, flatMap, append-assoc, List·Memᴰ·head, List·Memᴰ·tail, List·Memᴰ·cases-cons}
 use mathlib.Core.Logic.{⊎-elim}
 use mathlib.Core.Path.{_≡_, refl, sym, _∙_, ap, subst}
+use native.Mathlib.Nat.{suc-mul, mul-le-mul, suc-le-suc-iff}
 use native.Mathlib.Numerals.{add-one}
 use native.Mathlib.Omega.{arith}
 use mir.Syntax.{w64}
@@ -11,23 +12,27 @@ use mir.Val.{Fits}
 use borrow.Author.Needs.{needs}
 use borrow.Author.Tests.{ltb-true, ltb-false}
 use lib.Dec.{ltb, eqb}
-use lib.ListN.{length, getD, drop, drop-of-length-le, length-append}
-use lib.Seq.{drop-cons}
+use lib.ListN.{length, getD, take, drop, drop-of-length-le, length-append}
+use lib.Seq.{drop-cons, take-at, sets, sets-eq, length-sets}
+use Rattle.lists.specs.Written.{Written}
 use Rattle.lists.specs.Lists.{_∈_, any, keep, tabulate}
 use Rattle.lists.proofs.Tests.{test}
 use Rattle.lists.proofs.Lists.{tabulate-at, length-tabulate, length-keep}
 use Rattle.automata.specs.Automaton.{Transition, Automaton, leaving, rangesOf}
 use Rattle.automata.specs.Records.{readRecords, writeRecords}
 use Rattle.automata.proofs.Records.{read-write, length-write}
-use Rattle.ranges.specs.Missing.{Sorted, missing, gap, scan}
+use Rattle.automata.specs.WellFormed.{WellFormed}
+use Rattle.ranges.specs.Span.{Span}
+use Rattle.ranges.specs.Missing.{Sorted, missing, gap, scan, spanWords}
 use Rattle.ranges.proofs.Missing.{gap-some, gap-none, missing-scan}
+use Rattle.ranges.proofs.Writing.{words-length}
 use Rattle.ranges.proofs.Sorting.{leaving-sorted}
 use Rattle.sheets.specs.Runs.{RunAt}
 use Rattle.sheets.specs.Sheet.{stateCount, read}
 use Rattle.sheets.proofs.Meaning.{read-well, read-fits}
 use Rattle.sheets.proofs.Runs.{run-at}
-use Rattle.totality.specs.Totality.{states, holesOf, isNfaAt, isNfaIn, isNfa}
-use Rattle.totality.specs.Merging.{holesIn, Ready}
+use Rattle.totality.specs.Totality.{states, holesOf, isNfaAt, isNfaIn, isNfa, filled}
+use Rattle.totality.specs.Merging.{readSpans, Mergeable, merged, Fillable, holesIn, Ready}
 
 -- the states from q on
 pub states-at : (n q : ℕ) → q < n → drop q (states n) ≡ q ∷ drop (q + 1) (states n)
@@ -99,6 +104,23 @@ scan-short c hi (e ∷ es) =
     let d = max c (suc (e .last)) in
     omega (arith, length-append (gap c b) (scan d hi es), gap-short c b, scan-short d hi es)
 
+-- a state has at most one hole more than its automaton has transitions
+holes-few : (lo hi : ℕ) (A : Automaton) → WellFormed A → (qs : List ℕ) → length (holesIn lo hi A qs) ≤ length qs * suc (length (A .transitions))
+unfolding holesIn flatMap holesOf
+holes-few lo hi A w [] = omega arith
+holes-few lo hi A w (q ∷ qs) =
+    let es = rangesOf (leaving A q) in
+    omega
+    (arith, length-append (missing lo hi es) (holesIn lo hi A qs), holes-few lo hi A w qs, ap length (missing-scan lo hi es (leaving-sorted A q w)), scan-short lo hi es, ranges-few,
+      suc-mul (length qs) (suc (length (A .transitions))))
+  where
+    ranges-few : length (rangesOf (leaving A q)) ≤ length (A .transitions)
+    ranges-few = unfold rangesOf leaving in omega (arith, length-keep (λ e. eqb (e .kind) 1) (leaving A q), length-keep (λ e. eqb (e .from) q) (A .transitions))
+
+length-states : (n : ℕ) → length (states n) ≡ n
+unfolding states
+length-states n = length-tabulate n (λ q. q)
+
 -- the holes of the states below q are counted
 pub count-start : (lo hi : ℕ) (A : Automaton) → 0 + length (holesIn lo hi A (drop 0 (states (A .size)))) ≡ length (holesIn lo hi A (states (A .size)))
 count-start lo hi A = omega arith
@@ -116,18 +138,56 @@ module _ (lo hi : ℕ) (s : List ℕ) (count q : ℕ) (e : count + length (holes
         let m = ap (λ l. length (holesIn lo hi (read s) l)) (states-at (stateCount s) q h) in
         omega (arith, m, length-append (missing lo hi (rangesOf (leaving (read s) q))) (holesIn lo hi (read s) (drop (q + 1) (states (stateCount s)))))
 
-    module _ (starts holes : List ℕ) (r : Ready s starts holes) (c : count ≤ 2049 * q) where
-      hole-few : k ≤ 2049
-      unfolding rangesOf
-      hole-few =
-          let d = run-sorted s starts holes r q run w in
-          let z = length-keep (λ e. eqb (e .kind) 1) (readRecords run) in
-          omega (arith, f, ap length (missing-scan lo hi (rangesOf (readRecords run)) d), scan-short lo hi (rangesOf (readRecords run)), run-few s starts holes r q run w)
+    pub count-fits : (starts holes : List ℕ) → Ready s starts holes → Fits w64 (count + k)
+    count-fits starts holes r =
+        let few = mul-le-mul {n₁ = length (states (stateCount s))} {m₁ = suc (length (read s .transitions))} {n₂ = 256} {m₂ = 2049} (rw (length-states (stateCount s)) (r .accepted .few-states)) (suc-le-suc-iff .1 (read-fits s (r .accepted) .few-transitions)) in
+        record { fits = omega (arith, few, count-next, holes-few lo hi (read s) (read-well s (r .accepted)) (states (stateCount s))) }
 
-      pub count-few : count + k ≤ 2049 * (q + 1)
-      count-few = omega (arith, hole-few)
+pub ruleset countLaws = (count-start, count-ended, count-next, count-fits, ready-run, run-sorted, run-room, needs)
 
-      pub count-fits : Fits w64 (count + k)
-      count-fits = record { fits = omega (arith, hole-few, r .accepted .few-states) }
+-- spans as words, and read again
+read-spans : (hs : List Span) → readSpans (spanWords hs) ≡ hs
+unfolding readSpans spanWords
+read-spans [] = refl
+read-spans (s ∷ hs) = ap (λ l. s ∷ l) (read-spans hs)
 
-pub ruleset countLaws = (count-start, count-ended, count-next, count-few, count-fits, ready-run, run-sorted, run-room, needs)
+-- the holes of a run are found and stand at the front of h′
+module _ (lo hi sink q : ℕ) (run h h′ : List ℕ) (f : Fillable lo hi sink q run h) (k : ℕ) (e : k ≡ length (missing lo hi (rangesOf (readRecords run))))
+    (w : h′ ≡ sets h 0 (spanWords (missing lo hi (rangesOf (readRecords run))))) where
+  hs : List Span
+  hs = missing lo hi (rangesOf (readRecords run))
+
+  half-room : 2 * k ≤ length h
+  unfolding rangesOf
+  half-room =
+      omega
+      (arith, f .room, f .whole, e, ap length (missing-scan lo hi (rangesOf (readRecords run)) (f .sorted)), scan-short lo hi (rangesOf (readRecords run)),
+        length-keep (λ e. eqb (e .kind) 1) (readRecords run))
+
+  pub half-within : 2 * k ≤ length h′
+  half-within = omega (arith, half-room, ap length w, length-sets h 0 (spanWords (missing lo hi (rangesOf (readRecords run)))))
+
+  half-words : take (2 * k) h′ ≡ spanWords hs
+  unfolding hs
+  half-words =
+      let n : length (spanWords hs) ≡ 2 * k = omega (arith, words-length hs, e) in
+      rw (w, sets-eq (spanWords hs) h 0 (omega (arith, half-room)), append-assoc [] (spanWords hs) (drop (0 + length (spanWords hs)) h)) (take-at (spanWords hs) _ (2 * k) n)
+
+  half-spans : readSpans (take (2 * k) h′) ≡ holesOf lo hi (readRecords run)
+  unfolding hs holesOf
+  half-spans = rw half-words (read-spans hs)
+
+  pub half-mergeable : Mergeable sink q (readRecords run) (readSpans (take (2 * k) h′))
+  half-mergeable = rw half-spans (f .mergeable)
+
+  half-merged : merged sink q run (take (2 * k) h′) ≡ filled lo hi sink q (readRecords run)
+  unfolding merged filled
+  half-merged = rw half-spans
+
+  pub half-room-out : (o : List ℕ) (at : ℕ) → at + length (writeRecords (filled lo hi sink q (readRecords run))) ≤ length o → at + length (writeRecords (merged sink q run (take (2 * k) h′))) ≤ length o
+  half-room-out o at r = rw half-merged r
+
+  pub half-written : (o o′ : List ℕ) (at end : ℕ) → Written o at (writeRecords (merged sink q run (take (2 * k) h′))) o′ end → Written o at (writeRecords (filled lo hi sink q (readRecords run))) o′ end
+  half-written o o′ at end v = rw half-merged at v
+
+pub ruleset filledLaws = (half-within, half-mergeable, half-room-out, half-written, needs)

@@ -1,15 +1,16 @@
 -- What the code of totalizing is told by: spans as pairs of words, records and holes that can be merged, accept words, and the tables of a sheet.
-use Prim.Native.Nat.{ℕ, suc, _*_, _≤_, _<_}
+use Prim.Native.Nat.{ℕ, suc, _+_, _*_, _≤_, _<_}
 use mathlib.Core.Bool.{Bool, true, false, cond}
 use mathlib.Core.List.{List, [], _∷_, _++_, map, flatMap}
 use mathlib.Core.Path.{_≡_}
 use lib.Dec.{leb}
 use lib.ListN.{length}
 use Rattle.lists.specs.Lists.{_∈_, Ascending}
-use Rattle.automata.specs.Automaton.{Transition, Automaton, leaving}
+use Rattle.automata.specs.Automaton.{Transition, Automaton, leaving, rangesOf}
 use Rattle.automata.specs.Ordered.{inOrder}
 use Rattle.automata.specs.Records.{readRecords}
 use Rattle.automata.specs.WellFormed.{Before}
+use Rattle.ranges.specs.Missing.{Sorted}
 use Rattle.ranges.specs.Span.{Span}
 use Rattle.sheets.specs.Accepted.{Accepted}
 use Rattle.sheets.specs.Runs.{Indexed}
@@ -40,6 +41,13 @@ merged sink q run holes = inOrder (readRecords run ++ map (holeTo sink q) (readS
 -- the words are those of whole records
 abbrev pub Whole : List ℕ → Type 0
 Whole s = length s ≡ 5 * length (readRecords s)
+
+-- a run of the state q whose holes can be found and merged, and room for them
+pub record Fillable (lo hi sink q : ℕ) (run holes : List ℕ) : Type 0 where
+  pub sorted : Sorted (rangesOf (readRecords run))
+  pub mergeable : Mergeable sink q (readRecords run) (holesOf lo hi (readRecords run))
+  pub whole : Whole run
+  pub room : 2 * length run + 10 ≤ 5 * length holes
 
 -- the accept word that is written for x
 abbrev pub acceptWord : Bool → ℕ → ℕ

@@ -1,12 +1,11 @@
 // `is_nfa`, `totalize` and `complement`. Every pass reads each record of the sheet once: the holes of a state are found in one pass over its run,
 // and its records and holes are written in one pass over both.
-ghost use mathlib.Core.List.{[], _∷_, _++_, map};
+ghost use mathlib.Core.List.{[], _∷_, _++_};
 ghost use mathlib.Core.Path.{_≡_};
 ghost use Prim.Native.Nat.{_+_, _*_, _≤_, _<_};
 ghost use lib.ListN.{length, drop};
 ghost use Rattle.lists.specs.Written.{Written};
 ghost use Rattle.automata.specs.Automaton.{rangesOf};
-ghost use Rattle.automata.specs.Ordered.{inOrder};
 ghost use Rattle.automata.specs.Records.{readRecords, writeRecords};
 ghost use Rattle.labels.specs.Labels.{labelsFault, readLabels};
 ghost use Rattle.output.specs.Made.{outputOf};
@@ -14,7 +13,7 @@ ghost use Rattle.output.specs.Output.{outputs, roomFirst};
 ghost use Rattle.ranges.specs.Missing.{Sorted};
 ghost use Rattle.sheets.specs.Sheet.{stateCount, read, write};
 ghost use Rattle.totality.specs.Totality.{states, hasEpsilon, isNfaAt, isNfa, filled, filledIn, flipped, totalized};
-ghost use Rattle.totality.specs.Merging.{readSpans, leading, Mergeable, merged, Whole, acceptWord, turned, holesIn, Ready};
+ghost use Rattle.totality.specs.Merging.{readSpans, leading, Mergeable, merged, Whole, Fillable, acceptWord, turned, holesIn, Ready};
 ghost use Rattle.totality.specs.Answers.{answerOf, isNfaAnswer, inputsFault, inputsNumber, limited, totalPattern, complementPattern, totalizeAnswer, complementAnswer};
 use output::Made;
 use refusal::InputRefusal;
@@ -159,6 +158,9 @@ fn put_filled(
     out: &mut [u32],
     at: usize,
 ) -> usize
+    requires { ⌜ Fillable lower upper sink q (now run) (now holes) ⌝ }
+    requires { ⌜ at + length (writeRecords (filled lower upper sink q (readRecords (now run)))) ≤ length (now out) ⌝ }
+    ensures { λ r. ⌜ Written (now (out .entry)) at (writeRecords (filled lower upper sink q (readRecords (now (run .entry))))) (now (out .exit)) r ⌝ }
 {
     let k = ranges::missing_ranges(run, lower, upper, holes);
     put_merged(run, &holes[..2 * k], q, sink, out, at)

@@ -1,5 +1,5 @@
 -- `count_holes` meets its contract: the holes of the states below `q` are counted.
-use Prim.Native.Nat.{_+_, _*_, _-_, _≤_}
+use Prim.Native.Nat.{_+_, _-_, _≤_}
 use mathlib.Core.Path.{_≡_}
 use lib.ListN.{length, drop}
 use Rattle.sheets.specs.Sheet.{stateCount, read}
@@ -10,7 +10,7 @@ use Rattle.totality.proofs.count_holes.Statement.{statement}
 use Rattle.totality.proofs.count_holes.Tie as tie
 
 abbrev Inv-loop : tie.InvT-loop
-Inv-loop s starts lower upper holes₀ n count₀ q₀ holes count q = (n ≡ stateCount s) × (q ≤ n) × (length holes ≡ length holes₀) × (count ≤ 2049 * q) × (count + length (holesIn lower upper (read s) (drop q (states (stateCount s)))) ≡ length (holesIn lower upper (read s) (states (stateCount s))))
+Inv-loop s starts lower upper holes₀ n count₀ q₀ holes count q = (n ≡ stateCount s) × (q ≤ n) × (length holes ≡ length holes₀) × (count + length (holesIn lower upper (read s) (drop q (states (stateCount s)))) ≡ length (holesIn lower upper (read s) (states (stateCount s))))
 
 abbrev μ-loop : tie.MeasureT-loop
 μ-loop s starts lower upper holes₀ n count₀ q₀ holes count q = n - q

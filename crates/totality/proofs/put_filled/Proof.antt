@@ -1,4 +1,4 @@
-use borrow.Author.Needs.{needs}
+use Rattle.totality.proofs.States.{filledLaws}
 use Rattle.totality.proofs.put_filled.Statement.{statement}
 use Rattle.totality.proofs.put_filled.Tie as tie
 use Rattle.totality.proofs.put_filled.Reads as reads
@@ -6,37 +6,37 @@ use Rattle.totality.proofs.put_filled.Lts as lts
 use Rattle.ranges.proofs.missing_ranges.Reads as missing-ranges-reads
 use Rattle.totality.proofs.put_merged.Reads as put-merged-reads
 
--- src/lib.rt:163:9
+-- src/lib.rt:165:9
 missing-ranges-requires : tie.Need-missing-ranges-requires
-missing-ranges-requires c κs = search needs
+missing-ranges-requires c κs = search filledLaws
 
--- src/lib.rt:164:30
+-- src/lib.rt:166:30
 mul-put-merged : tie.Need-mul-put-merged
-mul-put-merged c = search needs
+mul-put-merged c = ?
 
--- src/lib.rt:164:21
+-- src/lib.rt:166:21
 slice-reshare-prefix-put-merged : tie.Need-slice-reshare-prefix-put-merged
-slice-reshare-prefix-put-merged c = search needs
+slice-reshare-prefix-put-merged c = ?
 
--- src/lib.rt:164:21
+-- src/lib.rt:166:21
 slice-aggregate-put-merged : tie.Need-slice-aggregate-put-merged
-slice-aggregate-put-merged c = search needs
+slice-aggregate-put-merged c = ?
 
--- src/lib.rt:164:5
+-- src/lib.rt:166:5
 put-merged-requires : tie.Need-put-merged-requires
-put-merged-requires c κs = search needs
+put-merged-requires c κs = ?
 
--- src/lib.rt:152:1
+-- src/lib.rt:151:1
 same-length : tie.Need-same-length
-same-length c = search needs
+same-length c = search filledLaws
 
--- src/lib.rt:152:1
+-- src/lib.rt:151:1
 same-length-2 : tie.Need-same-length-2
-same-length-2 c = search needs
+same-length-2 c = search filledLaws
 
--- src/lib.rt:152:1
+-- src/lib.rt:151:1
 returns : tie.Need-returns
-returns c = search needs
+returns c = search filledLaws
 
 pub put-filled-spec : {M : Type 1} → statement M
 put-filled-spec =

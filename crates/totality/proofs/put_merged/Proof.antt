@@ -1,11 +1,12 @@
 -- `put_merged` meets its contract: the records from `i` on and the holes from `j` on are left to write.
 use Prim.Native.Nat.{_-_, _≤_}
 use mathlib.Core.Path.{_≡_}
+use borrow.Author.Needs.{needs}
 use lib.ListN.{length, drop}
 use Rattle.automata.specs.Records.{readRecords, writeRecords}
 use Rattle.totality.specs.Merging.{readSpans, Mergeable, merged, Whole}
 use Rattle.totality.proofs.Left.{Left}
-use Rattle.totality.proofs.Merging.{mergeLaws}
+use Rattle.totality.proofs.Merging.{mergeLaws, merge-whole, merge-mergeable, hole-next}
 use Rattle.totality.proofs.put_merged.Statement.{statement}
 use Rattle.totality.proofs.put_merged.Tie as tie
 
@@ -21,6 +22,7 @@ put-merged-spec =
     (tie.spec Inv-loop μ-loop (λ c. search mergeLaws) (λ c. search mergeLaws) (λ c. search mergeLaws) (λ c. search mergeLaws)
     (λ c κs. search mergeLaws) (λ c. search mergeLaws) (λ c. search mergeLaws) (λ c. search mergeLaws) (λ c. search mergeLaws)
     (λ c κs. search mergeLaws) (λ c. search mergeLaws) (λ c. search mergeLaws) (λ c. search mergeLaws) (λ c. search mergeLaws)
-    (λ c. search mergeLaws) (λ c κs. search mergeLaws) (λ c. search mergeLaws) (λ c. search mergeLaws) (λ c. search mergeLaws)
+    (λ c. search mergeLaws) (λ c κs. search mergeLaws) (λ c. search mergeLaws) (λ c. search mergeLaws)
+    (λ c. (search needs, search needs, search needs, search (merge-whole, needs), search (merge-mergeable, needs), hole-next _ _ _ _ _ _ _ _ (c .before .before .before .before .before .before .before .before .before .before .before .before .before .before .before .before .before .before .args .holes .now) _ (c .before .before .before .before .before .before .before .before .before .before .before .before .before .before .loop .j) (c .before .before .before .before .before .before .before .before .before .before .before .before .before .before .loop .inv .5) (c .before .before .before .before .before .before .before .before .before .before .before .before .before .before .loop .inv .3) (c .before .before .before .before .before .before .before .before .before .before .before .before .before .before .loop .inv .4) (c .before .before .before .before .before .before .before .before .before .before .before .before .before .loop-test .taken) _ (c .before .before .before .before .before .before .before .before .before .before .before .records-before .ensures .0) (c .before .before .before .before .before .before .before .before .before .before .before .records-before .ensures .1) _ _ (c .before .before .before .before .before .before .before .before .copy-words .ensures) _ _ (c .before .before .put-record .ensures)))
     (λ c. search mergeLaws) (λ c. search mergeLaws) (λ c. search mergeLaws) (λ c. search mergeLaws) (λ c κs. search mergeLaws)
     (λ c. search mergeLaws) (λ c. search mergeLaws))
