@@ -13,7 +13,7 @@ use borrow.Author.Needs.{needs}
 use borrow.Author.Tests.{ltb-true, ltb-false}
 use lib.Dec.{ltb, eqb}
 use lib.ListN.{length, getD, take, drop, drop-of-length-le, length-append}
-use lib.Seq.{drop-cons, take-at, sets, sets-eq, length-sets}
+use lib.Seq.{drop-cons, take-at, length-take-le, sets, sets-eq, length-sets}
 use Rattle.lists.specs.Written.{Written}
 use Rattle.lists.specs.Lists.{_∈_, any, keep, tabulate}
 use Rattle.lists.proofs.Tests.{test}
@@ -167,6 +167,12 @@ module _ (lo hi sink q : ℕ) (run h h′ : List ℕ) (f : Fillable lo hi sink q
   pub half-within : 2 * k ≤ length h′
   half-within = omega (arith, half-room, ap length w, length-sets h 0 (spanWords (missing lo hi (rangesOf (readRecords run)))))
 
+  pub half-fits : length h < 2 ^ 64 → Fits w64 (2 * k)
+  half-fits l = record { fits = omega (arith, half-room) }
+
+  pub half-length : 2 * k ≡ length (take (2 * k) h′)
+  half-length = sym (length-take-le (2 * k) h′ half-within)
+
   half-words : take (2 * k) h′ ≡ spanWords hs
   unfolding hs
   half-words =
@@ -190,4 +196,4 @@ module _ (lo hi sink q : ℕ) (run h h′ : List ℕ) (f : Fillable lo hi sink q
   pub half-written : (o o′ : List ℕ) (at end : ℕ) → Written o at (writeRecords (merged sink q run (take (2 * k) h′))) o′ end → Written o at (writeRecords (filled lo hi sink q (readRecords run))) o′ end
   half-written o o′ at end v = rw half-merged at v
 
-pub ruleset filledLaws = (half-within, half-mergeable, half-room-out, half-written, needs)
+pub ruleset filledLaws = (half-within, half-fits, half-length, half-mergeable, half-room-out, half-written, needs)

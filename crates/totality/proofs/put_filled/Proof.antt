@@ -12,19 +12,19 @@ missing-ranges-requires c κs = search filledLaws
 
 -- src/lib.rt:166:30
 mul-put-merged : tie.Need-mul-put-merged
-mul-put-merged c = ?
+mul-put-merged c = search filledLaws
 
 -- src/lib.rt:166:21
 slice-reshare-prefix-put-merged : tie.Need-slice-reshare-prefix-put-merged
-slice-reshare-prefix-put-merged c = ?
+slice-reshare-prefix-put-merged c = search filledLaws
 
 -- src/lib.rt:166:21
 slice-aggregate-put-merged : tie.Need-slice-aggregate-put-merged
-slice-aggregate-put-merged c = ?
+slice-aggregate-put-merged c = search filledLaws
 
 -- src/lib.rt:166:5
 put-merged-requires : tie.Need-put-merged-requires
-put-merged-requires c κs = ?
+put-merged-requires c κs = search filledLaws
 
 -- src/lib.rt:151:1
 same-length : tie.Need-same-length
