@@ -3,3 +3,4 @@ pub mod Left
 pub mod Merging
 pub mod Runs
 pub mod States
+pub mod Rows

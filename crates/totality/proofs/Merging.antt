@@ -76,7 +76,7 @@ module _ (sink q : ℕ) where
         sooner = λ e h i j. m .sooner e h (List·Memᴰ·tail i) j;
       }
 
-  less-holes : {es : List Transition} {h : Span} {hs : List Span} → Mergeable sink q es (h ∷ hs) → Mergeable sink q es hs
+  pub less-holes : {es : List Transition} {h : Span} {hs : List Span} → Mergeable sink q es (h ∷ hs) → Mergeable sink q es hs
   less-holes m =
       record {
         records = m .records;
@@ -85,13 +85,13 @@ module _ (sink q : ℕ) where
         sooner = λ e h i j. m .sooner e h i (List·Memᴰ·tail j);
       }
 
-  drop-records : (k : ℕ) (es : List Transition) {hs : List Span} → Mergeable sink q es hs → Mergeable sink q (drop k es) hs
+  pub drop-records : (k : ℕ) (es : List Transition) {hs : List Span} → Mergeable sink q es hs → Mergeable sink q (drop k es) hs
   drop-records zero es m = m
   drop-records (suc k) [] m = m
   drop-records (suc k) (e ∷ es) m = drop-records k es (less-records m)
 
   -- the transitions before a hole, the hole, and what is left of both
-  merge-hole : (es : List Transition) (h : Span) (hs : List Span) → Mergeable sink q es (h ∷ hs)
+  pub merge-hole : (es : List Transition) (h : Span) (hs : List Span) → Mergeable sink q es (h ∷ hs)
       → inOrder (es ++ map (holeTo sink q) (h ∷ hs)) ≡ take (leading (h .low) es) es ++ holeTo sink q h ∷ inOrder (drop (leading (h .low) es) es ++ map (holeTo sink q) hs)
   unfolding leading
   merge-hole [] h hs m = inOrder-first (holeTo sink q h) [] (map (holeTo sink q) hs) (first-of (m .holes))

@@ -18,7 +18,8 @@ use Rattle.totality.specs.declared.Nfa.{Nfa}
 use Rattle.totality.specs.declared.Nfa.the-variants as nfa
 use Rattle.totality.specs.declared.Inputs.{Inputs}
 use Rattle.totality.specs.declared.Inputs.the-variants as inputs
-use Rattle.totality.specs.Totality.{isNfa, totalized, flipped, complemented}
+use Rattle.totality.specs.Merging.{turned}
+use Rattle.totality.specs.Totality.{isNfa, totalized, complemented}
 
 -- the fault of b as the labels of n states, or else the answer a
 unfoldable pub labelsFirst : {X : Type 0} → ℕ → List ℕ → Answer X → Answer X
@@ -36,6 +37,10 @@ isNfaAnswer lo hi s = sheetFirst s (given (isNfa lo hi (read s)))
 -- the totalized automaton, and `sink` behind the labels
 unfoldable pub totalPattern : ℕ → ℕ → Automaton → List (List ℕ) → Pattern
 totalPattern lo hi A ls = record { automaton = totalized lo hi A; labels = ls ++ sinkLabel ∷ [] }
+
+-- the same with acceptance flipped, or not
+unfoldable pub turnedPattern : Bool → ℕ → ℕ → Automaton → List (List ℕ) → Pattern
+turnedPattern flip lo hi A ls = record { automaton = turned flip (totalized lo hi A); labels = ls ++ sinkLabel ∷ [] }
 
 unfoldable pub totalizeAnswer : ℕ → ℕ → List ℕ → List ℕ → Answer Pattern
 totalizeAnswer lo hi s b = sheetFirst s (labelsFirst (stateCount s) b (limited (totalPattern lo hi (read s) (readLabels b))))

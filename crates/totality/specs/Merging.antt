@@ -4,7 +4,7 @@ use mathlib.Core.Bool.{Bool, true, false, cond}
 use mathlib.Core.List.{List, [], _∷_, _++_, map, flatMap}
 use mathlib.Core.Path.{_≡_}
 use lib.Dec.{leb}
-use lib.ListN.{length}
+use lib.ListN.{length, getD}
 use Rattle.lists.specs.Lists.{_∈_, Ascending}
 use Rattle.automata.specs.Automaton.{Transition, Automaton, leaving, rangesOf}
 use Rattle.automata.specs.Ordered.{inOrder}
@@ -14,6 +14,7 @@ use Rattle.ranges.specs.Missing.{Sorted}
 use Rattle.ranges.specs.Span.{Span}
 use Rattle.sheets.specs.Accepted.{Accepted}
 use Rattle.sheets.specs.Runs.{Indexed}
+use Rattle.sheets.specs.Sheet.{read}
 use Rattle.totality.specs.Totality.{holesOf, holeTo, otherWord, flipped}
 
 -- the spans of a list of words; a word left over is none
@@ -62,6 +63,10 @@ turned false A = A
 -- the holes of some states
 unfoldable pub holesIn : ℕ → ℕ → Automaton → List ℕ → List Span
 holesIn lo hi A qs = flatMap (λ q. holesOf lo hi (leaving A q)) qs
+
+-- the words before the records' count, and the sink's word, of a sheet of n states with the acceptance of s
+abbrev pub headWords : Bool → List ℕ → ℕ → List ℕ
+headWords flip s n = 1 ∷ getD s 1 0 ∷ n ∷ map (acceptWord flip) (read s .accept)
 
 -- an accepted sheet, where its runs begin, and room for the holes of a run
 pub record Ready (s starts holes : List ℕ) : Type 0 where

@@ -1,6 +1,6 @@
 // `is_nfa`, `totalize` and `complement`. Every pass reads each record of the sheet once: the holes of a state are found in one pass over its run,
 // and its records and holes are written in one pass over both.
-ghost use mathlib.Core.List.{[], _∷_, _++_};
+ghost use mathlib.Core.List.{[], _∷_, _++_, map};
 ghost use mathlib.Core.Path.{_≡_};
 ghost use Prim.Native.Nat.{_+_, _*_, _≤_, _<_};
 ghost use lib.ListN.{length, drop};
@@ -11,9 +11,10 @@ ghost use Rattle.labels.specs.Labels.{labelsFault, readLabels};
 ghost use Rattle.output.specs.Made.{outputOf};
 ghost use Rattle.output.specs.Output.{outputs, roomFirst};
 ghost use Rattle.ranges.specs.Missing.{Sorted};
+ghost use Rattle.sheets.specs.Accepted.{Accepted};
 ghost use Rattle.sheets.specs.Sheet.{stateCount, read, write};
 ghost use Rattle.totality.specs.Totality.{states, hasEpsilon, isNfaAt, isNfa, filled, filledIn, flipped, totalized};
-ghost use Rattle.totality.specs.Merging.{readSpans, leading, Mergeable, merged, Whole, Fillable, acceptWord, turned, holesIn, Ready};
+ghost use Rattle.totality.specs.Merging.{readSpans, leading, Mergeable, merged, Whole, Fillable, acceptWord, turned, headWords, holesIn, Ready};
 ghost use Rattle.totality.specs.Answers.{answerOf, isNfaAnswer, inputsFault, inputsNumber, limited, totalPattern, complementPattern, totalizeAnswer, complementAnswer};
 use output::Made;
 use refusal::InputRefusal;
@@ -164,4 +165,67 @@ fn put_filled(
 {
     let k = ranges::missing_ranges(run, lower, upper, holes);
     put_merged(run, &holes[..2 * k], q, sink, out, at)
+}
+
+// Writes the records of every state with its holes from lower to upper, led to the sink, which is the number of states.
+fn put_rows(
+    s: &[u32],
+    starts: &[u32],
+    lower: u32,
+    upper: u32,
+    holes: &mut [u32],
+    out: &mut [u32],
+    at: usize,
+) -> usize
+    requires { ⌜ Ready (now s) (now starts) (now holes) ⌝ }
+    requires { ⌜ at + length (writeRecords (filledIn lower upper (read (now s)) (states (stateCount (now s))))) ≤ length (now out) ⌝ }
+    ensures { λ r. ⌜ Written (now (out .entry)) at (writeRecords (filledIn lower upper (read (now (s .entry))) (states (stateCount (now (s .entry)))))) (now (out .exit)) r ⌝ }
+{
+    let n = s[2];
+    let mut end = at;
+    let mut q: u32 = 0;
+    while q < n {
+        let run = sheets::run(s, starts, q);
+        end = put_filled(run, q, n, lower, upper, holes, out, end);
+        q += 1;
+    }
+    end
+}
+
+// The accept word that is written for x: 1 for 0 and 0 for others where acceptance is flipped.
+fn accept_word(flip: bool, x: u32) -> u32
+    ensures { λ r. ⌜ r ≡ acceptWord flip x ⌝ }
+{
+    if flip {
+        if x == 0 {
+            return 1;
+        }
+        return 0;
+    }
+    x
+}
+
+// Writes accept words, flipped or not.
+fn put_accepts(words: &[u32], flip: bool, out: &mut [u32], at: usize) -> usize
+    requires { ⌜ at + length (now words) ≤ length (now out) ⌝ }
+    ensures { λ r. ⌜ Written (now (out .entry)) at (map (acceptWord flip) (now (words .entry))) (now (out .exit)) r ⌝ }
+{
+    let mut end = at;
+    let mut i = 0;
+    while i < words.len() {
+        out[end] = accept_word(flip, words[i]);
+        end += 1;
+        i += 1;
+    }
+    end
+}
+
+// Writes the front of a sheet of that many states up to the accept words of s, flipped or not.
+fn put_head(s: &[u32], flip: bool, states: u32, out: &mut [u32]) -> usize
+    requires { ⌜ Accepted (now s) × (10500 ≤ length (now out)) ⌝ }
+    ensures { λ r. ⌜ Written (now (out .entry)) 0 (headWords flip (now (s .entry)) states) (now (out .exit)) r ⌝ }
+{
+    let n = s[2] as usize;
+    let at = output::put_start(out, s[1], states);
+    put_accepts(&s[3..n + 3], flip, out, at)
 }
