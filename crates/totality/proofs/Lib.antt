@@ -4,3 +4,4 @@ pub mod Merging
 pub mod Runs
 pub mod States
 pub mod Rows
+pub mod Writing

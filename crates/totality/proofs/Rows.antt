@@ -7,12 +7,13 @@ use mathlib.Core.Path.{_≡_, refl, sym, _∙_, ap, subst}
 use native.Mathlib.Nat.{eq-or-lt-of-le}
 use native.Mathlib.Omega.{arith}
 use borrow.Author.Needs.{needs}
-use borrow.Author.Tests.{eqb-true, eq-eqb, ne-eqb, lt-ltb, le-ltb}
+use borrow.Author.Tests.{ltb-true, ltb-false, eqb-true, eqb-false, eq-eqb, ne-eqb, lt-ltb, le-ltb}
 use lib.Dec.{ltb, eqb}
 use lib.ListN.{length, take, drop, length-append, length-take, length-drop, take-append-drop}
 use Rattle.lists.specs.Lists.{_∈_, keep, tabulate, Ascending, none, more}
 use Rattle.lists.specs.Written.{Written}
-use Rattle.lists.proofs.Lists.{keep-in, keep-out, keep-all, tabulate-end}
+use Rattle.lists.proofs.Tests.{test}
+use Rattle.lists.proofs.Lists.{keep-in, keep-out, keep-all, keep-none, tabulate-end}
 use Rattle.automata.specs.Automaton.{Transition, Automaton, leaving, rangesOf, holds}
 use Rattle.automata.specs.Ordered.{inOrder}
 use Rattle.automata.specs.Records.{readRecords, writeRecords}
@@ -25,7 +26,7 @@ use Rattle.ranges.proofs.Missing.{missing-holes, held}
 use Rattle.ranges.proofs.Sorting.{keep-ascending, leaving-sorted}
 use Rattle.sheets.specs.Sheet.{stateCount, read}
 use Rattle.sheets.proofs.Meaning.{read-well}
-use Rattle.totality.specs.Merging.{Mergeable, Fillable, holesIn, Ready}
+use Rattle.totality.specs.Merging.{leading, Mergeable, Fillable, holesIn, Ready}
 use Rattle.totality.specs.Totality.{states, holesOf, holeTo, filled, filledIn, totalized}
 use Rattle.totality.proofs.Left.{Left, left-start, left-done, left-room, left-next}
 use Rattle.totality.proofs.Merging.{merge-hole, drop-records, less-holes}
@@ -96,4 +97,88 @@ module _ (A : Automaton) (w : WellFormed A) (q : ℕ) where
 -- merging loses nothing
 pub length-merged : (sink q : ℕ) (es : List Transition) (hs : List Span) → Mergeable sink q es hs → length (inOrder (es ++ map (holeTo sink q) hs)) ≡ length es + length hs
 length-merged sink q es [] m = ap length (ap inOrder (append-nil es) ∙ inOrder-same es (m .records)) ∙ omega arith
-length-merged sink q es (h ∷ hs) m = ?
+length-merged sink q es (h ∷ hs) m =
+    let n = leading (h .low) es in
+    let rest = inOrder (drop n es ++ map (holeTo sink q) hs) in
+    let ih : length rest ≡ length (drop n es) + length hs = length-merged sink q (drop n es) hs (drop-records sink q n es (less-holes sink q m)) in
+    omega
+    (arith, ih, ap length (merge-hole sink q es h hs m), length-append (take n es) (holeTo sink q h ∷ rest), ap length (take-append-drop n es), length-append (take n es) (drop n es))
+
+flatMap-end : {X : Type 0} (f : ℕ → List X) (qs : List ℕ) (q : ℕ) → length (flatMap f (qs ++ q ∷ [])) ≡ length (flatMap f qs) + length (f q)
+unfolding flatMap
+flatMap-end f [] q = ap length (append-nil (f q)) ∙ omega arith
+flatMap-end f (p ∷ qs) q = omega (arith, length-append (f p) (flatMap f (qs ++ q ∷ [])), length-append (f p) (flatMap f qs), flatMap-end f qs q)
+
+-- one state more
+kept-more : (n : ℕ) (ts : List Transition) → length (keep (λ e. ltb (e .from) (suc n)) ts) ≡ length (keep (λ e. ltb (e .from) n) ts) + length (keep (λ e. eqb (e .from) n) ts)
+unfolding keep
+kept-more n [] = refl
+kept-more n (e ∷ ts) =
+    let ih : length (keep (λ e. ltb (e .from) (suc n)) ts) ≡ length (keep (λ e. ltb (e .from) n) ts) + length (keep (λ e. eqb (e .from) n) ts) = kept-more n ts in
+    ⊎-elim
+    (λ (t : ltb (e .from) n ≡ true).
+    let l : e .from < n = ltb-true _ _ t in
+    rw (t, lt-ltb (e .from) (suc n) (omega arith), ne-eqb (e .from) n (λ c. omega arith)) (omega arith))
+    (λ (t : ltb (e .from) n ≡ false).
+    let l : n ≤ e .from = ltb-false _ _ t in
+    ⊎-elim
+    (λ (u : eqb (e .from) n ≡ true). let c : e .from ≡ n = eqb-true _ _ u in rw (t, u, lt-ltb (e .from) (suc n) (omega arith)) (omega arith))
+    (λ (u : eqb (e .from) n ≡ false). let c = eqb-false _ _ u in rw (t, u, le-ltb (e .from) (suc n) (let d : suc n ≤ e .from = ⊎-elim (λ k. absurd (c (sym k))) (λ k. k) (eq-or-lt-of-le l) in d)) (omega arith))
+    (test (eqb (e .from) n)))
+    (test (ltb (e .from) n))
+
+module _ (lo hi : ℕ) (A : Automaton) (w : WellFormed A) where
+  length-filled : (sink q : ℕ) → length (filled lo hi sink q (leaving A q)) ≡ length (leaving A q) + length (holesOf lo hi (leaving A q))
+  unfolding filled
+  length-filled sink q = length-merged sink q (leaving A q) (holesOf lo hi (leaving A q)) (state-mergeable A w q lo hi sink)
+
+  -- of the states below n
+  length-below : (n : ℕ) → length (filledIn lo hi A (states n)) ≡ length (keep (λ e. ltb (e .from) n) (A .transitions)) + length (holesIn lo hi A (states n))
+  unfolding filledIn holesIn states tabulate flatMap leaving
+  length-below zero = sym (ap (λ l. length l + 0) (keep-none (λ e. ltb (e .from) 0) (A .transitions) (λ e m. le-ltb (e .from) 0 (omega arith))))
+  length-below (suc n) =
+      omega
+      (arith, length-below n, ap (λ l. length (filledIn lo hi A l)) (tabulate-end n (λ q. q)), ap (λ l. length (holesIn lo hi A l)) (tabulate-end n (λ q. q)),
+        flatMap-end (λ q. filled lo hi (A .size) q (leaving A q)) (states n) n, flatMap-end (λ q. holesOf lo hi (leaving A q)) (states n) n, length-filled (A .size) n, kept-more n (A .transitions))
+
+  -- the records kept and the holes
+  pub length-all : length (filledIn lo hi A (states (A .size))) ≡ length (A .transitions) + length (holesIn lo hi A (states (A .size)))
+  length-all = length-below (A .size) ∙ ap (λ l. length l + length (holesIn lo hi A (states (A .size)))) (keep-all (λ e. ltb (e .from) (A .size)) (A .transitions) (λ e m. lt-ltb (e .from) (A .size) (w .states .froms e m)))
+
+  -- and the sink's loop
+  pub length-totalized : length (totalized lo hi A .transitions) ≡ length (A .transitions) + length (holesIn lo hi A (states (A .size))) + 1
+  unfolding totalized
+  length-totalized = length-append (filledIn lo hi A (states (A .size))) _ ∙ ap (λ n. n + 1) length-all
+
+-- the run of a state of a sheet
+module _ (s starts holes : List ℕ) (r : Ready s starts holes) (q : ℕ) (run : List ℕ) (e : run ≡ writeRecords (leaving (read s) q)) (lo hi : ℕ) where
+  pub run-fillable : (h : List ℕ) → length h ≡ length holes → Fillable lo hi (stateCount s) q run h
+  run-fillable h l =
+      record {
+        sorted = run-sorted s starts holes r q run e;
+        mergeable = rw (run-records s starts holes r q run e) (state-mergeable (read s) (read-well s (r .accepted)) q lo hi (stateCount s));
+        whole = ap length e ∙ length-write (leaving (read s) q) ∙ ap (λ l. 5 * length l) (sym (run-records s starts holes r q run e));
+        room = run-room s starts holes r q run e h l;
+      }
+
+-- the states from q on are left to write
+module _ (o₀ : List ℕ) (at : ℕ) (all o : List ℕ) (end lo hi : ℕ) (s : List ℕ) (q : ℕ) (l : Left o₀ at all o end (writeRecords (filledIn lo hi (read s) (drop q (states (stateCount s)))))) where
+  pub rows-done : stateCount s ≤ q → Written o₀ at all o end
+  unfolding filledIn flatMap writeRecords
+  rows-done h = left-done o₀ at all o end _ l (rw (states-end (stateCount s) q h))
+
+  module _ (h : q < stateCount s) (run : List ℕ) (e : run ≡ writeRecords (leaving (read s) q)) where
+    rows-at : writeRecords (filledIn lo hi (read s) (drop q (states (stateCount s)))) ≡ writeRecords (filled lo hi (stateCount s) q (readRecords run)) ++ writeRecords (filledIn lo hi (read s) (drop (q + 1) (states (stateCount s))))
+    unfolding filledIn flatMap
+    rows-at =
+        rw (states-at (stateCount s) q h, e, read-write (leaving (read s) q))
+        (write-append (filled lo hi (stateCount s) q (leaving (read s) q)) (filledIn lo hi (read s) (drop (q + 1) (states (stateCount s)))))
+
+    pub rows-room : at + length all ≤ length o₀ → end + length (writeRecords (filled lo hi (stateCount s) q (readRecords run))) ≤ length o
+    rows-room r = left-room o₀ at all o end _ l (writeRecords (filled lo hi (stateCount s) q (readRecords run))) _ rows-at r
+
+    pub rows-next : (o′ : List ℕ) (end′ : ℕ) → Written o end (writeRecords (filled lo hi (stateCount s) q (readRecords run))) o′ end′
+        → Left o₀ at all o′ end′ (writeRecords (filledIn lo hi (read s) (drop (q + 1) (states (stateCount s)))))
+    rows-next o′ end′ v = left-next o₀ at all o end _ l (writeRecords (filled lo hi (stateCount s) q (readRecords run))) _ rows-at o′ end′ v
+
+pub ruleset rowsLaws = (left-start, rows-done, rows-room, rows-next, run-fillable, ready-run, needs)

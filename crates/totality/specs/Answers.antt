@@ -19,7 +19,7 @@ use Rattle.totality.specs.declared.Nfa.the-variants as nfa
 use Rattle.totality.specs.declared.Inputs.{Inputs}
 use Rattle.totality.specs.declared.Inputs.the-variants as inputs
 use Rattle.totality.specs.Merging.{turned}
-use Rattle.totality.specs.Totality.{isNfa, totalized, complemented}
+use Rattle.totality.specs.Totality.{isNfa, totalized, flipped, complemented}
 
 -- the fault of b as the labels of n states, or else the answer a
 unfoldable pub labelsFirst : {X : Type 0} → ℕ → List ℕ → Answer X → Answer X
@@ -41,6 +41,10 @@ totalPattern lo hi A ls = record { automaton = totalized lo hi A; labels = ls ++
 -- the same with acceptance flipped, or not
 unfoldable pub turnedPattern : Bool → ℕ → ℕ → Automaton → List (List ℕ) → Pattern
 turnedPattern flip lo hi A ls = record { automaton = turned flip (totalized lo hi A); labels = ls ++ sinkLabel ∷ [] }
+
+-- the automaton itself with acceptance flipped
+unfoldable pub flippedPattern : Automaton → List (List ℕ) → Pattern
+flippedPattern A ls = record { automaton = flipped A; labels = ls }
 
 unfoldable pub totalizeAnswer : ℕ → ℕ → List ℕ → List ℕ → Answer Pattern
 totalizeAnswer lo hi s b = sheetFirst s (labelsFirst (stateCount s) b (limited (totalPattern lo hi (read s) (readLabels b))))

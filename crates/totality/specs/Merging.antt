@@ -15,7 +15,7 @@ use Rattle.ranges.specs.Span.{Span}
 use Rattle.sheets.specs.Accepted.{Accepted}
 use Rattle.sheets.specs.Runs.{Indexed}
 use Rattle.sheets.specs.Sheet.{read}
-use Rattle.totality.specs.Totality.{holesOf, holeTo, otherWord, flipped}
+use Rattle.totality.specs.Totality.{states, holesOf, holeTo, otherWord, flipped}
 
 -- the spans of a list of words; a word left over is none
 unfoldable pub readSpans : List ℕ → List Span
@@ -63,6 +63,10 @@ turned false A = A
 -- the holes of some states
 unfoldable pub holesIn : ℕ → ℕ → Automaton → List ℕ → List Span
 holesIn lo hi A qs = flatMap (λ q. holesOf lo hi (leaving A q)) qs
+
+-- the records kept, the holes and the sink's loop
+unfoldable pub transitionCount : ℕ → ℕ → Automaton → ℕ
+transitionCount lo hi A = length (A .transitions) + length (holesIn lo hi A (states (A .size))) + 1
 
 -- the words before the records' count, and the sink's word, of a sheet of n states with the acceptance of s
 abbrev pub headWords : Bool → List ℕ → ℕ → List ℕ

@@ -11,11 +11,12 @@ ghost use Rattle.labels.specs.Labels.{labelsFault, readLabels};
 ghost use Rattle.output.specs.Made.{outputOf};
 ghost use Rattle.output.specs.Output.{outputs, roomFirst};
 ghost use Rattle.ranges.specs.Missing.{Sorted};
+ghost use Rattle.refusal.specs.Answer.{given};
 ghost use Rattle.sheets.specs.Accepted.{Accepted};
 ghost use Rattle.sheets.specs.Sheet.{stateCount, read, write};
 ghost use Rattle.totality.specs.Totality.{states, hasEpsilon, isNfaAt, isNfa, filled, filledIn, flipped, totalized};
-ghost use Rattle.totality.specs.Merging.{readSpans, leading, Mergeable, merged, Whole, Fillable, acceptWord, turned, headWords, holesIn, Ready};
-ghost use Rattle.totality.specs.Answers.{answerOf, isNfaAnswer, inputsFault, inputsNumber, limited, totalPattern, complementPattern, totalizeAnswer, complementAnswer};
+ghost use Rattle.totality.specs.Merging.{readSpans, leading, Mergeable, merged, Whole, Fillable, acceptWord, turned, headWords, holesIn, transitionCount, Ready};
+ghost use Rattle.totality.specs.Answers.{answerOf, isNfaAnswer, inputsFault, inputsNumber, limited, turnedPattern, flippedPattern, totalizeAnswer, complementAnswer};
 use output::Made;
 use refusal::InputRefusal;
 use refusal::Refusal;
@@ -228,4 +229,68 @@ fn put_head(s: &[u32], flip: bool, states: u32, out: &mut [u32]) -> usize
     let n = s[2] as usize;
     let at = output::put_start(out, s[1], states);
     put_accepts(&s[3..n + 3], flip, out, at)
+}
+
+// Writes the totalized sheet, which has count transitions, with its acceptance flipped or not.
+fn put_total(
+    s: &[u32],
+    starts: &[u32],
+    flip: bool,
+    count: usize,
+    lower: u32,
+    upper: u32,
+    holes: &mut [u32],
+    out: &mut [u32],
+) -> usize
+    requires { ⌜ Ready (now s) (now starts) (now holes) ⌝ }
+    requires { ⌜ (10500 ≤ length (now out)) × (stateCount (now s) < 256) × (count ≤ 2048) × (count ≡ transitionCount lower upper (read (now s))) ⌝ }
+    ensures { λ r. ⌜ Written (now (out .entry)) 0 (write (turned flip (totalized lower upper (read (now (s .entry)))))) (now (out .exit)) r ⌝ }
+{
+    let n = s[2];
+    let sink = put_head(s, flip, n + 1, out);
+    let counted = output::put_word(out, sink, accept_word(flip, 0));
+    let rows = output::put_word(out, counted, count as u32);
+    let end = put_rows(s, starts, lower, upper, holes, out, rows);
+    output::put_record(out, end, n, 1, lower, upper, n)
+}
+
+// The totalized sheet, with its acceptance flipped or not, and its labels, unless it is too large.
+fn make_total(
+    s: &[u32],
+    labels: &[u8],
+    starts: &[u32],
+    flip: bool,
+    lower: u32,
+    upper: u32,
+    holes: &mut [u32],
+    out: &mut [u32],
+    names: &mut [u8],
+) -> Made
+    requires { ⌜ Ready (now s) (now starts) (now holes) ⌝ }
+    requires { ⌜ (labelsFault (stateCount (now s)) (now labels) ≡ 0) × (10500 ≤ length (now out)) × (16642 ≤ length (now names)) ⌝ }
+    ensures { λ r. ⌜ outputOf r (now (out .exit)) (now (names .exit)) ≡ outputs (now (out .entry)) (now (names .entry)) (limited (turnedPattern flip lower upper (read (now (s .entry))) (readLabels (now (labels .entry))))) ⌝ }
+{
+    let n = s[2] as usize;
+    if 255 < n {
+        return Made::Refused(Refusal::State(StateRefusal::States));
+    }
+    let count = s[n + 3] as usize + count_holes(s, starts, lower, upper, holes) + 1;
+    if 2048 < count {
+        return Made::Refused(Refusal::State(StateRefusal::Transitions));
+    }
+    let words = put_total(s, starts, flip, count, lower, upper, holes, out);
+    let bytes = labels::copy_with_sink(names, labels, n);
+    Made::Lengths(words, bytes)
+}
+
+// The sheet with its acceptance flipped, and its labels.
+fn make_flipped(s: &[u32], labels: &[u8], out: &mut [u32], names: &mut [u8]) -> Made
+    requires { ⌜ Accepted (now s) × (labelsFault (stateCount (now s)) (now labels) ≡ 0) × (10500 ≤ length (now out)) × (16642 ≤ length (now names)) ⌝ }
+    ensures { λ r. ⌜ outputOf r (now (out .exit)) (now (names .exit)) ≡ outputs (now (out .entry)) (now (names .entry)) (given (flippedPattern (read (now (s .entry))) (readLabels (now (labels .entry))))) ⌝ }
+{
+    let n = s[2];
+    let counted = put_head(s, true, n, out);
+    let words = copy_words(out, counted, &s[n as usize + 3..]);
+    let bytes = labels::copy_all(names, labels);
+    Made::Lengths(words, bytes)
 }
