@@ -14,7 +14,7 @@ use Rattle.ranges.specs.Missing.{Sorted}
 use Rattle.ranges.specs.Span.{Span}
 use Rattle.sheets.specs.Accepted.{Accepted}
 use Rattle.sheets.specs.Runs.{Indexed}
-use Rattle.sheets.specs.Sheet.{read}
+use Rattle.sheets.specs.Sheet.{stateCount, read}
 use Rattle.totality.specs.Totality.{states, holesOf, holeTo, otherWord, flipped}
 
 -- the spans of a list of words; a word left over is none
@@ -68,9 +68,20 @@ holesIn lo hi A qs = flatMap (λ q. holesOf lo hi (leaving A q)) qs
 unfoldable pub transitionCount : ℕ → ℕ → Automaton → ℕ
 transitionCount lo hi A = length (A .transitions) + length (holesIn lo hi A (states (A .size))) + 1
 
--- the words before the records' count, and the sink's word, of a sheet of n states with the acceptance of s
-abbrev pub headWords : Bool → List ℕ → ℕ → List ℕ
+-- the front of a sheet of n states, up to the accept words of s
+unfoldable pub headWords : Bool → List ℕ → ℕ → List ℕ
 headWords flip s n = 1 ∷ getD s 1 0 ∷ n ∷ map (acceptWord flip) (read s .accept)
+
+-- the front of the totalized sheet, up to the count of its transitions
+unfoldable pub frontWords : Bool → List ℕ → ℕ → List ℕ
+frontWords flip s count = headWords flip s (stateCount s + 1) ++ acceptWord flip 0 ∷ count ∷ []
+
+-- the totalized sheet has that many transitions, and there is room for it
+pub record Small (lo hi : ℕ) (s out : List ℕ) (count : ℕ) : Type 0 where
+  pub few-states : stateCount s < 256
+  pub few-transitions : count ≤ 2048
+  pub counted : count ≡ transitionCount lo hi (read s)
+  pub room : 10500 ≤ length out
 
 -- an accepted sheet, where its runs begin, and room for the holes of a run
 pub record Ready (s starts holes : List ℕ) : Type 0 where

@@ -15,7 +15,7 @@ ghost use Rattle.refusal.specs.Answer.{given};
 ghost use Rattle.sheets.specs.Accepted.{Accepted};
 ghost use Rattle.sheets.specs.Sheet.{stateCount, read, write};
 ghost use Rattle.totality.specs.Totality.{states, hasEpsilon, isNfaAt, isNfa, filled, filledIn, flipped, totalized};
-ghost use Rattle.totality.specs.Merging.{readSpans, leading, Mergeable, merged, Whole, Fillable, acceptWord, turned, headWords, holesIn, transitionCount, Ready};
+ghost use Rattle.totality.specs.Merging.{readSpans, leading, Mergeable, merged, Whole, Fillable, acceptWord, turned, headWords, frontWords, holesIn, Small, Ready};
 ghost use Rattle.totality.specs.Answers.{answerOf, isNfaAnswer, inputsFault, inputsNumber, limited, turnedPattern, flippedPattern, totalizeAnswer, complementAnswer};
 use output::Made;
 use refusal::InputRefusal;
@@ -231,25 +231,32 @@ fn put_head(s: &[u32], flip: bool, states: u32, out: &mut [u32]) -> usize
     put_accepts(&s[3..n + 3], flip, out, at)
 }
 
+// Writes the front of the totalized sheet, which has count transitions, up to that count.
+fn put_front(s: &[u32], flip: bool, count: u32, out: &mut [u32]) -> usize
+    requires { ⌜ Accepted (now s) × (stateCount (now s) < 256) × (10500 ≤ length (now out)) ⌝ }
+    ensures { λ r. ⌜ Written (now (out .entry)) 0 (frontWords flip (now (s .entry)) count) (now (out .exit)) r ⌝ }
+{
+    let sink = put_head(s, flip, s[2] + 1, out);
+    let at = output::put_word(out, sink, accept_word(flip, 0));
+    output::put_word(out, at, count)
+}
+
 // Writes the totalized sheet, which has count transitions, with its acceptance flipped or not.
 fn put_total(
     s: &[u32],
     starts: &[u32],
     flip: bool,
-    count: usize,
+    count: u32,
     lower: u32,
     upper: u32,
     holes: &mut [u32],
     out: &mut [u32],
 ) -> usize
-    requires { ⌜ Ready (now s) (now starts) (now holes) ⌝ }
-    requires { ⌜ (10500 ≤ length (now out)) × (stateCount (now s) < 256) × (count ≤ 2048) × (count ≡ transitionCount lower upper (read (now s))) ⌝ }
+    requires { ⌜ Ready (now s) (now starts) (now holes) × Small lower upper (now s) (now out) count ⌝ }
     ensures { λ r. ⌜ Written (now (out .entry)) 0 (write (turned flip (totalized lower upper (read (now (s .entry)))))) (now (out .exit)) r ⌝ }
 {
     let n = s[2];
-    let sink = put_head(s, flip, n + 1, out);
-    let counted = output::put_word(out, sink, accept_word(flip, 0));
-    let rows = output::put_word(out, counted, count as u32);
+    let rows = put_front(s, flip, count, out);
     let end = put_rows(s, starts, lower, upper, holes, out, rows);
     output::put_record(out, end, n, 1, lower, upper, n)
 }
@@ -278,7 +285,7 @@ fn make_total(
     if 2048 < count {
         return Made::Refused(Refusal::State(StateRefusal::Transitions));
     }
-    let words = put_total(s, starts, flip, count, lower, upper, holes, out);
+    let words = put_total(s, starts, flip, count as u32, lower, upper, holes, out);
     let bytes = labels::copy_with_sink(names, labels, n);
     Made::Lengths(words, bytes)
 }

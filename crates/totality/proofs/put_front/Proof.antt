@@ -1,0 +1,10 @@
+-- `put_front` meets its contract: the sink's accept word and the count stand behind the accept words.
+use Rattle.totality.proofs.Writing.{frontLaws}
+use Rattle.totality.proofs.put_front.Statement.{statement}
+use Rattle.totality.proofs.put_front.Tie as tie
+
+pub put-front-spec : {M : Type 1} → statement M
+put-front-spec =
+    tie.close
+    (tie.spec (λ c. search frontLaws) (λ c. search frontLaws) (λ c κs. search frontLaws) (λ c κs. search frontLaws)
+    (λ c κs. search frontLaws) (λ c κs. search frontLaws) (λ c. search frontLaws) (λ c. search frontLaws))
