@@ -5,3 +5,4 @@ pub mod Runs
 pub mod States
 pub mod Rows
 pub mod Writing
+pub mod Answers

@@ -105,7 +105,7 @@ scan-short c hi (e ∷ es) =
     omega (arith, length-append (gap c b) (scan d hi es), gap-short c b, scan-short d hi es)
 
 -- a state has at most one hole more than its automaton has transitions
-holes-few : (lo hi : ℕ) (A : Automaton) → WellFormed A → (qs : List ℕ) → length (holesIn lo hi A qs) ≤ length qs * suc (length (A .transitions))
+pub holes-few : (lo hi : ℕ) (A : Automaton) → WellFormed A → (qs : List ℕ) → length (holesIn lo hi A qs) ≤ length qs * suc (length (A .transitions))
 unfolding holesIn flatMap holesOf
 holes-few lo hi A w [] = omega arith
 holes-few lo hi A w (q ∷ qs) =
@@ -117,7 +117,7 @@ holes-few lo hi A w (q ∷ qs) =
     ranges-few : length (rangesOf (leaving A q)) ≤ length (A .transitions)
     ranges-few = unfold rangesOf leaving in omega (arith, length-keep (λ e. eqb (e .kind) 1) (leaving A q), length-keep (λ e. eqb (e .from) q) (A .transitions))
 
-length-states : (n : ℕ) → length (states n) ≡ n
+pub length-states : (n : ℕ) → length (states n) ≡ n
 unfolding states
 length-states n = length-tabulate n (λ q. q)
 

@@ -58,7 +58,7 @@ head-written o m o′ s at n r b v w =
 pub ruleset headLaws = (head-written, needs)
 
 module _ (s : List ℕ) (a : Accepted s) (b : Bool) where
-  head-length : (n : ℕ) → length (headWords b s n) ≡ stateCount s + 3
+  pub head-length : (n : ℕ) → length (headWords b s n) ≡ stateCount s + 3
   unfolding headWords
   head-length n = omega (arith, length-map (read s .accept) (acceptWord b), read-well s a .accepts)
 
