@@ -1,6 +1,6 @@
 -- The laws by which the operations are proved: what each answer of the code says of the outputs.
 use Prim.Native.Nat.{ℕ, suc, _+_, _-_, _*_, _≤_, _<_}
-use mathlib.Core.Bool.{Bool, true, false, cond}
+use mathlib.Core.Bool.{Bool, true, false, cond, _||_}
 use mathlib.Core.List.{List, [], _∷_, _++_}
 use mathlib.Core.Path.{_≡_, refl, sym, _∙_, ap}
 use native.Mathlib.Nat.{mul-le-mul, suc-le-suc-iff}
@@ -10,8 +10,8 @@ use mir.Val.{Fits}
 use borrow.Author.Needs.{needs}
 use borrow.Author.Tests.{lt-ltb, le-ltb, eq-eqb, ne-eqb}
 use lib.Dec.{ltb}
-use lib.ListN.{length, getD, take, drop, length-drop}
-use lib.Seq.{drop-at}
+use lib.ListN.{length, getD, take, drop, replicate, length-drop, length-replicate}
+use lib.Seq.{drop-at, sets}
 use Rattle.lists.specs.Written.{Written}
 use Rattle.lists.proofs.Parts.{part-all}
 use Rattle.lists.proofs.Written.{written-append, written-length}
@@ -22,19 +22,32 @@ use Rattle.labels.specs.Labels.{labelsFault, labelCount, readLabels, writeLabel
 use Rattle.labels.specs.Forms.{sinkLabel}
 use Rattle.labels.proofs.Labels.{label-list}
 use Rattle.labels.proofs.Places.{few-count}
+use Rattle.output.specs.declared.Made.{Made}
 use Rattle.output.specs.declared.Made.the-variants.{Lengths, Refused}
 use Rattle.output.specs.Made.{outputOf}
 use Rattle.output.specs.Output.{Pattern, outputs}
-use Rattle.output.proofs.Answers.{made-given}
+use Rattle.output.proofs.Answers.{made-given, room-lacking, room-enough, room-words, room-bytes}
 use Rattle.refusal.specs.declared.Refusal.the-variants.{State}
 use Rattle.refusal.specs.declared.StateRefusal.the-variants.{States, Transitions}
 use Rattle.refusal.specs.Answer.{Answer, refused, given}
+use Rattle.refusal.specs.declared.InputRefusal.{InputRefusal}
+use Rattle.refusal.specs.Number.{inputNumber}
+use Rattle.labels.specs.declared.Checked as labels
+use Rattle.labels.specs.declared.Checked.the-variants as label
+use Rattle.labels.specs.Checked.{checkedNumber as labelsNumber}
+use Rattle.sheets.specs.declared.Checked as sheets
+use Rattle.sheets.specs.declared.Checked.the-variants as sheet
+use Rattle.sheets.specs.Checked.{checkedNumber}
+use Rattle.sheets.specs.Fault.{fault}
+use Rattle.sheets.specs.Runs.{startsOf}
+use Rattle.sheets.proofs.Checking.{sheet-passed, sheet-refused}
+use Rattle.sheets.proofs.Runs.{starts-indexed}
 use Rattle.sheets.specs.Accepted.{Accepted}
 use Rattle.sheets.specs.Sheet.{stateCount, recordCount, recordsAt, read, write}
 use Rattle.sheets.proofs.Meaning.{read-well, read-fits, write-read-sheet}
-use Rattle.totality.specs.Answers.{limited, turnedPattern, flippedPattern}
+use Rattle.totality.specs.Answers.{labelsFirst, inputsFirst, passed, limited, turnedPattern, flippedPattern, totalPattern, complementPattern}
 use Rattle.totality.specs.Merging.{turned, headWords, holesIn, transitionCount, Small, Ready}
-use Rattle.totality.specs.Totality.{states, flipped, totalized}
+use Rattle.totality.specs.Totality.{states, isNfa, flipped, totalized, complemented}
 use Rattle.totality.proofs.Rows.{length-totalized}
 use Rattle.totality.proofs.States.{holes-few, length-states}
 use Rattle.totality.proofs.Writing.{head-length}
@@ -144,3 +157,50 @@ pub labels-few : (s b : List ℕ) → Accepted s → labelsFault (stateCount s) 
 labels-few s b a h = few-count (stateCount s) b h (a .few-states)
 
 pub ruleset flippedLaws = (rest-room, flipped-given, labels-few, label-list, needs)
+
+-- the tables of a sheet
+pub tables-ready : (s old starts holes : List ℕ) → Accepted s → starts ≡ sets old 0 (startsOf s) → length old ≡ 257 → length holes ≡ 4098 → Ready s starts holes
+tables-ready s old starts holes a e l m = record { accepted = a; indexed = starts-indexed s old starts e (omega (arith, a .few-states)); long = m }
+
+pub holes-long : length (replicate 4098 0) ≡ 4098
+holes-long = length-replicate {A = ℕ} 4098 0
+
+-- the results in the terms of the operations
+module _ (m : Made) (o l o′ l′ : List ℕ) (lo hi : ℕ) (s : List ℕ) (ls : List (List ℕ)) where
+  pub totalized-made : outputOf m o′ l′ ≡ outputs o l (limited (turnedPattern false lo hi (read s) ls)) → outputOf m o′ l′ ≡ outputs o l (limited (totalPattern lo hi (read s) ls))
+  unfolding turnedPattern totalPattern
+  totalized-made e = e
+
+  module _ (b : Bool) (f : b ≡ isNfa lo hi (read s)) where
+    pub complement-totalized : b ≡ true → outputOf m o′ l′ ≡ outputs o l (limited (turnedPattern true lo hi (read s) ls)) → outputOf m o′ l′ ≡ outputs o l (limited (complementPattern lo hi (read s) ls))
+    unfolding turnedPattern complementPattern complemented
+    complement-totalized h e = rw (← f, h) e
+
+    pub complement-flipped : b ≡ false → Accepted s → outputOf m o′ l′ ≡ outputs o l (given (flippedPattern (read s) ls)) → outputOf m o′ l′ ≡ outputs o l (limited (complementPattern lo hi (read s) ls))
+    unfolding flippedPattern complementPattern complemented flipped
+    complement-flipped h a e =
+        let r = read-fits s a in
+        rw (← f, h) (e ∙ ap (outputs o l) (sym (limited-given (flippedPattern (read s) ls) (r .few-states) (r .few-transitions))))
+
+pub ruleset totalizedLaws = (tables-ready, holes-long, totalized-made, needs)
+pub ruleset complementLaws = (tables-ready, holes-long, complement-totalized, complement-flipped, needs)
+
+-- the check of the inputs
+module _ (s b o l : List ℕ) (r : Bool) (e : r ≡ (ltb (length o) 10500 || ltb (length l) 16642)) where
+  pub inputs-short : r ≡ true → refused 20 ≡ inputsFirst s b o l passed
+  unfolding inputsFirst
+  inputs-short h = sym (room-lacking o l _ r e h)
+
+  module _ (h : r ≡ false) (f : sheets.Checked) (g : checkedNumber f ≡ fault s) where
+    pub inputs-sheet : (i : InputRefusal) → f ≡ sheet.Refused i → refused (inputNumber i) ≡ inputsFirst s b o l passed
+    unfolding inputsFirst
+    inputs-sheet i p = sym (room-enough o l _ r e h ∙ sheet-refused s _ f g i p)
+
+    module _ (p : f ≡ sheet.Accepted) (k : labels.Checked) (m : labelsNumber k ≡ labelsFault (stateCount s) b) where
+      pub inputs-labels : (i : InputRefusal) → k ≡ label.Refused i → refused (inputNumber i) ≡ inputsFirst s b o l passed
+      unfolding inputsFirst labelsFirst
+      inputs-labels i q = ?
+
+      pub inputs-good : k ≡ label.Accepted → passed ≡ inputsFirst s b o l passed
+      unfolding inputsFirst labelsFirst
+      inputs-good q = sym (room-enough o l _ r e h ∙ sheet-passed s _ f g p ∙ rw (eq-eqb (labelsFault (stateCount s) b) 0 (sym m ∙ ap labelsNumber q)))

@@ -8,11 +8,10 @@ use Rattle.automata.specs.Automaton.{Automaton}
 use Rattle.automata.specs.WellFormed.{mostStates, mostTransitions}
 use Rattle.labels.specs.Labels.{labelsFault, readLabels}
 use Rattle.labels.specs.Forms.{sinkLabel}
-use Rattle.output.specs.Output.{Pattern, sheetSize, labelsSize}
+use Rattle.output.specs.Output.{Pattern, roomFirst}
 use Rattle.refusal.specs.Answer.{Answer, refused, given}
 use Rattle.refusal.specs.Number.{inputNumber, numberOf}
 use Rattle.sheets.specs.Checked.{sheetFirst}
-use Rattle.sheets.specs.Fault.{fault, orElse}
 use Rattle.sheets.specs.Sheet.{stateCount, read}
 use Rattle.totality.specs.declared.Nfa.{Nfa}
 use Rattle.totality.specs.declared.Nfa.the-variants as nfa
@@ -61,10 +60,15 @@ abbrev pub answerOf : Nfa → Answer Bool
 answerOf (nfa.Is b) = given b
 answerOf (nfa.Refused r) = refused (inputNumber r)
 
--- the first number of 20, the sheet's fault and the labels' fault, or 0
-unfoldable pub inputsFault : List ℕ → List ℕ → List ℕ → List ℕ → ℕ
-inputsFault s b o l = cond (ltb (length o) sheetSize) 20 (cond (ltb (length l) labelsSize) 20 (orElse (fault s) (labelsFault (stateCount s) b)))
+-- 20, the sheet's fault, the labels' fault, or else the answer a
+unfoldable pub inputsFirst : {X : Type 0} → List ℕ → List ℕ → List ℕ → List ℕ → Answer X → Answer X
+inputsFirst s b o l a = roomFirst o l (sheetFirst s (labelsFirst (stateCount s) b a))
 
-abbrev pub inputsNumber : Inputs → ℕ
-inputsNumber inputs.Good = 0
-inputsNumber (inputs.Refused r) = numberOf r
+-- no refusal
+abbrev pub passed : Answer Bool
+passed = given true
+
+-- the answer of the code that checks the inputs
+abbrev pub inputsOf : Inputs → Answer Bool
+inputsOf inputs.Good = passed
+inputsOf (inputs.Refused r) = refused (numberOf r)

@@ -7,6 +7,7 @@ ghost use lib.ListN.{length, drop};
 ghost use Rattle.lists.specs.Written.{Written};
 ghost use Rattle.automata.specs.Automaton.{rangesOf};
 ghost use Rattle.automata.specs.Records.{readRecords, writeRecords};
+ghost use Rattle.labels.specs.Checked.{checkedNumber};
 ghost use Rattle.labels.specs.Labels.{labelsFault, readLabels};
 ghost use Rattle.output.specs.Made.{outputOf};
 ghost use Rattle.output.specs.Output.{outputs, roomFirst};
@@ -16,7 +17,7 @@ ghost use Rattle.sheets.specs.Accepted.{Accepted};
 ghost use Rattle.sheets.specs.Sheet.{stateCount, read, write};
 ghost use Rattle.totality.specs.Totality.{states, hasEpsilon, isNfaAt, isNfa, filled, filledIn, flipped, totalized};
 ghost use Rattle.totality.specs.Merging.{readSpans, leading, Mergeable, merged, Whole, Fillable, acceptWord, turned, headWords, frontWords, holesIn, Small, Ready};
-ghost use Rattle.totality.specs.Answers.{answerOf, isNfaAnswer, inputsFault, inputsNumber, limited, turnedPattern, flippedPattern, totalizeAnswer, complementAnswer};
+ghost use Rattle.totality.specs.Answers.{answerOf, isNfaAnswer, inputsFirst, inputsOf, passed, limited, turnedPattern, flippedPattern, totalPattern, complementPattern, totalizeAnswer, complementAnswer};
 use output::Made;
 use refusal::InputRefusal;
 use refusal::Refusal;
@@ -300,4 +301,88 @@ fn make_flipped(s: &[u32], labels: &[u8], out: &mut [u32], names: &mut [u8]) -> 
     let words = copy_words(out, counted, &s[n as usize + 3..]);
     let bytes = labels::copy_all(names, labels);
     Made::Lengths(words, bytes)
+}
+
+// The totalized sheet and its labels, unless it is too large.
+fn make_totalized(s: &[u32], labels: &[u8], lower: u32, upper: u32, out: &mut [u32], names: &mut [u8]) -> Made
+    requires { ⌜ Accepted (now s) × (labelsFault (stateCount (now s)) (now labels) ≡ 0) × (10500 ≤ length (now out)) × (16642 ≤ length (now names)) ⌝ }
+    ensures { λ r. ⌜ outputOf r (now (out .exit)) (now (names .exit)) ≡ outputs (now (out .entry)) (now (names .entry)) (limited (totalPattern lower upper (read (now (s .entry))) (readLabels (now (labels .entry))))) ⌝ }
+{
+    let mut starts = [0u32; 257];
+    let mut holes = [0u32; 4098];
+    sheets::run_starts(s, &mut starts);
+    make_total(s, labels, &starts, false, lower, upper, &mut holes, out, names)
+}
+
+// The complement and its labels, unless it is too large.
+fn make_complement(s: &[u32], labels: &[u8], lower: u32, upper: u32, out: &mut [u32], names: &mut [u8]) -> Made
+    requires { ⌜ Accepted (now s) × (labelsFault (stateCount (now s)) (now labels) ≡ 0) × (10500 ≤ length (now out)) × (16642 ≤ length (now names)) ⌝ }
+    ensures { λ r. ⌜ outputOf r (now (out .exit)) (now (names .exit)) ≡ outputs (now (out .entry)) (now (names .entry)) (limited (complementPattern lower upper (read (now (s .entry))) (readLabels (now (labels .entry))))) ⌝ }
+{
+    let mut starts = [0u32; 257];
+    let mut holes = [0u32; 4098];
+    sheets::run_starts(s, &mut starts);
+    if is_nfa_sheet(s, &starts, lower, upper, &mut holes) {
+        return make_total(s, labels, &starts, true, lower, upper, &mut holes, out, names);
+    }
+    make_flipped(s, labels, out, names)
+}
+
+// The fault of the labels of an accepted sheet.
+fn check_labels(s: &[u32], b: &[u8]) -> labels::Checked
+    requires { ⌜ Accepted (now s) ⌝ }
+    ensures { λ r. ⌜ checkedNumber r ≡ labelsFault (stateCount (now (s .entry))) (now (b .entry)) ⌝ }
+{
+    labels::check(s[2] as usize, b)
+}
+
+// The first refusal of inputs and outputs: an output too short, the sheet's fault, the labels' fault.
+fn check_inputs(s: &[u32], b: &[u8], out: &[u32], names: &[u8]) -> Inputs
+    ensures { λ r. ⌜ inputsOf r ≡ inputsFirst (now (s .entry)) (now (b .entry)) (now (out .entry)) (now (names .entry)) passed ⌝ }
+{
+    if output::lacks_room(out, names) {
+        return Inputs::Refused(Refusal::State(StateRefusal::OutputLength));
+    }
+    match sheets::check(s) {
+        sheets::Checked::Accepted => match check_labels(s, b) {
+            labels::Checked::Accepted => Inputs::Good,
+            labels::Checked::Refused(r) => Inputs::Refused(Refusal::Input(r)),
+        },
+        sheets::Checked::Refused(r) => Inputs::Refused(Refusal::Input(r)),
+    }
+}
+
+// Whether an accepted sheet has an epsilon, an overlap or a hole.
+pub fn is_nfa(s: &[u32]) -> Nfa
+    ensures { λ r. ⌜ answerOf r ≡ isNfaAnswer 0 4294967295 (now (s .entry)) ⌝ }
+{
+    match sheets::check(s) {
+        sheets::Checked::Accepted => {
+            let mut starts = [0u32; 257];
+            let mut holes = [0u32; 4098];
+            sheets::run_starts(s, &mut starts);
+            Nfa::Is(is_nfa_sheet(s, &starts, 0, 4294967295, &mut holes))
+        }
+        sheets::Checked::Refused(r) => Nfa::Refused(r),
+    }
+}
+
+// Adds the sink and sends each state's holes there.
+pub fn totalize(s: &[u32], labels: &[u8], out: &mut [u32], names: &mut [u8]) -> Made
+    ensures { λ r. ⌜ outputOf r (now (out .exit)) (now (names .exit)) ≡ outputs (now (out .entry)) (now (names .entry)) (roomFirst (now (out .entry)) (now (names .entry)) (totalizeAnswer 0 4294967295 (now (s .entry)) (now (labels .entry)))) ⌝ }
+{
+    match check_inputs(s, labels, out, names) {
+        Inputs::Good => make_totalized(s, labels, 0, 4294967295, out, names),
+        Inputs::Refused(r) => Made::Refused(r),
+    }
+}
+
+// Flips acceptance, after totalizing where the sheet has an epsilon, an overlap or a hole.
+pub fn complement(s: &[u32], labels: &[u8], out: &mut [u32], names: &mut [u8]) -> Made
+    ensures { λ r. ⌜ outputOf r (now (out .exit)) (now (names .exit)) ≡ outputs (now (out .entry)) (now (names .entry)) (roomFirst (now (out .entry)) (now (names .entry)) (complementAnswer 0 4294967295 (now (s .entry)) (now (labels .entry)))) ⌝ }
+{
+    match check_inputs(s, labels, out, names) {
+        Inputs::Good => make_complement(s, labels, 0, 4294967295, out, names),
+        Inputs::Refused(r) => Made::Refused(r),
+    }
 }
