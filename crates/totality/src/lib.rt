@@ -17,7 +17,7 @@ ghost use Rattle.sheets.specs.Accepted.{Accepted};
 ghost use Rattle.sheets.specs.Sheet.{stateCount, read, write};
 ghost use Rattle.totality.specs.Totality.{states, hasEpsilon, isNfaAt, isNfa, filled, filledIn, flipped, totalized};
 ghost use Rattle.totality.specs.Merging.{readSpans, leading, Mergeable, merged, Whole, Fillable, acceptWord, turned, headWords, frontWords, holesIn, Small, Ready};
-ghost use Rattle.totality.specs.Answers.{answerOf, isNfaAnswer, inputsFirst, inputsOf, passed, limited, turnedPattern, flippedPattern, totalPattern, complementPattern, totalizeAnswer, complementAnswer};
+ghost use Rattle.totality.specs.Answers.{answerOf, isNfaAnswer, inputsFirst, inputsOf, passed, limited, turnedPattern, flippedPattern, complementPattern, totalizeAnswer, complementAnswer};
 use output::Made;
 use refusal::InputRefusal;
 use refusal::Refusal;
@@ -291,6 +291,25 @@ fn make_total(
     Made::Lengths(words, bytes)
 }
 
+// The same, with the tables that it needs.
+fn make_turned(
+    s: &[u32],
+    labels: &[u8],
+    flip: bool,
+    lower: u32,
+    upper: u32,
+    out: &mut [u32],
+    names: &mut [u8],
+) -> Made
+    requires { ⌜ Accepted (now s) × (labelsFault (stateCount (now s)) (now labels) ≡ 0) × (10500 ≤ length (now out)) × (16642 ≤ length (now names)) ⌝ }
+    ensures { λ r. ⌜ outputOf r (now (out .exit)) (now (names .exit)) ≡ outputs (now (out .entry)) (now (names .entry)) (limited (turnedPattern flip lower upper (read (now (s .entry))) (readLabels (now (labels .entry))))) ⌝ }
+{
+    let mut starts = [0u32; 257];
+    let mut holes = [0u32; 4098];
+    sheets::run_starts(s, &mut starts);
+    make_total(s, labels, &starts, flip, lower, upper, &mut holes, out, names)
+}
+
 // The sheet with its acceptance flipped, and its labels.
 fn make_flipped(s: &[u32], labels: &[u8], out: &mut [u32], names: &mut [u8]) -> Made
     requires { ⌜ Accepted (now s) × (labelsFault (stateCount (now s)) (now labels) ≡ 0) × (10500 ≤ length (now out)) × (16642 ≤ length (now names)) ⌝ }
@@ -301,31 +320,6 @@ fn make_flipped(s: &[u32], labels: &[u8], out: &mut [u32], names: &mut [u8]) -> 
     let words = copy_words(out, counted, &s[n as usize + 3..]);
     let bytes = labels::copy_all(names, labels);
     Made::Lengths(words, bytes)
-}
-
-// The totalized sheet and its labels, unless it is too large.
-fn make_totalized(s: &[u32], labels: &[u8], lower: u32, upper: u32, out: &mut [u32], names: &mut [u8]) -> Made
-    requires { ⌜ Accepted (now s) × (labelsFault (stateCount (now s)) (now labels) ≡ 0) × (10500 ≤ length (now out)) × (16642 ≤ length (now names)) ⌝ }
-    ensures { λ r. ⌜ outputOf r (now (out .exit)) (now (names .exit)) ≡ outputs (now (out .entry)) (now (names .entry)) (limited (totalPattern lower upper (read (now (s .entry))) (readLabels (now (labels .entry))))) ⌝ }
-{
-    let mut starts = [0u32; 257];
-    let mut holes = [0u32; 4098];
-    sheets::run_starts(s, &mut starts);
-    make_total(s, labels, &starts, false, lower, upper, &mut holes, out, names)
-}
-
-// The complement and its labels, unless it is too large.
-fn make_complement(s: &[u32], labels: &[u8], lower: u32, upper: u32, out: &mut [u32], names: &mut [u8]) -> Made
-    requires { ⌜ Accepted (now s) × (labelsFault (stateCount (now s)) (now labels) ≡ 0) × (10500 ≤ length (now out)) × (16642 ≤ length (now names)) ⌝ }
-    ensures { λ r. ⌜ outputOf r (now (out .exit)) (now (names .exit)) ≡ outputs (now (out .entry)) (now (names .entry)) (limited (complementPattern lower upper (read (now (s .entry))) (readLabels (now (labels .entry))))) ⌝ }
-{
-    let mut starts = [0u32; 257];
-    let mut holes = [0u32; 4098];
-    sheets::run_starts(s, &mut starts);
-    if is_nfa_sheet(s, &starts, lower, upper, &mut holes) {
-        return make_total(s, labels, &starts, true, lower, upper, &mut holes, out, names);
-    }
-    make_flipped(s, labels, out, names)
 }
 
 // The fault of the labels of an accepted sheet.
@@ -352,17 +346,41 @@ fn check_inputs(s: &[u32], b: &[u8], out: &[u32], names: &[u8]) -> Inputs
     }
 }
 
-// Whether an accepted sheet has an epsilon, an overlap or a hole.
+// Whether some state of an accepted sheet has an epsilon, an overlap or a hole from lower to upper.
+fn decide_nfa(s: &[u32], lower: u32, upper: u32) -> bool
+    requires { ⌜ Accepted (now s) ⌝ }
+    ensures { λ r. ⌜ r ≡ isNfa lower upper (read (now (s .entry))) ⌝ }
+{
+    let mut starts = [0u32; 257];
+    let mut holes = [0u32; 4098];
+    sheets::run_starts(s, &mut starts);
+    is_nfa_sheet(s, &starts, lower, upper, &mut holes)
+}
+
+// The complement and its labels, unless it is too large.
+fn make_complement(
+    s: &[u32],
+    labels: &[u8],
+    lower: u32,
+    upper: u32,
+    out: &mut [u32],
+    names: &mut [u8],
+) -> Made
+    requires { ⌜ Accepted (now s) × (labelsFault (stateCount (now s)) (now labels) ≡ 0) × (10500 ≤ length (now out)) × (16642 ≤ length (now names)) ⌝ }
+    ensures { λ r. ⌜ outputOf r (now (out .exit)) (now (names .exit)) ≡ outputs (now (out .entry)) (now (names .entry)) (limited (complementPattern lower upper (read (now (s .entry))) (readLabels (now (labels .entry))))) ⌝ }
+{
+    if decide_nfa(s, lower, upper) {
+        return make_turned(s, labels, true, lower, upper, out, names);
+    }
+    make_flipped(s, labels, out, names)
+}
+
+// Whether a sheet has an epsilon, an overlap or a hole.
 pub fn is_nfa(s: &[u32]) -> Nfa
     ensures { λ r. ⌜ answerOf r ≡ isNfaAnswer 0 4294967295 (now (s .entry)) ⌝ }
 {
     match sheets::check(s) {
-        sheets::Checked::Accepted => {
-            let mut starts = [0u32; 257];
-            let mut holes = [0u32; 4098];
-            sheets::run_starts(s, &mut starts);
-            Nfa::Is(is_nfa_sheet(s, &starts, 0, 4294967295, &mut holes))
-        }
+        sheets::Checked::Accepted => Nfa::Is(decide_nfa(s, 0, 4294967295)),
         sheets::Checked::Refused(r) => Nfa::Refused(r),
     }
 }
@@ -372,7 +390,7 @@ pub fn totalize(s: &[u32], labels: &[u8], out: &mut [u32], names: &mut [u8]) -> 
     ensures { λ r. ⌜ outputOf r (now (out .exit)) (now (names .exit)) ≡ outputs (now (out .entry)) (now (names .entry)) (roomFirst (now (out .entry)) (now (names .entry)) (totalizeAnswer 0 4294967295 (now (s .entry)) (now (labels .entry)))) ⌝ }
 {
     match check_inputs(s, labels, out, names) {
-        Inputs::Good => make_totalized(s, labels, 0, 4294967295, out, names),
+        Inputs::Good => make_turned(s, labels, false, 0, 4294967295, out, names),
         Inputs::Refused(r) => Made::Refused(r),
     }
 }

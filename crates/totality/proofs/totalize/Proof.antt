@@ -4,45 +4,45 @@ use Rattle.totality.proofs.totalize.Tie as tie
 use Rattle.totality.proofs.totalize.Reads as reads
 use Rattle.totality.proofs.totalize.Lts as lts
 use Rattle.totality.proofs.check_inputs.Reads as check-inputs-reads
-use Rattle.totality.proofs.make_totalized.Reads as make-totalized-reads
+use Rattle.totality.proofs.make_turned.Reads as make-turned-reads
 
--- src/lib.rt:374:11
+-- src/lib.rt:392:11
 check-inputs-requires : tie.Need-check-inputs-requires
 check-inputs-requires c κs = search needs
 
--- src/lib.rt:375:66
+-- src/lib.rt:393:70
 enum-told : tie.Need-enum-told
 enum-told c = search needs
 
--- src/lib.rt:375:25
-make-totalized-requires : tie.Need-make-totalized-requires
-make-totalized-requires c κs = search needs
+-- src/lib.rt:393:25
+make-turned-requires : tie.Need-make-turned-requires
+make-turned-requires c κs = search needs
 
--- src/lib.rt:376:25
+-- src/lib.rt:394:25
 enum-known-r : tie.Need-enum-known-r
 enum-known-r c = search needs
 
--- src/lib.rt:371:1
+-- src/lib.rt:389:1
 same-length : tie.Need-same-length
 same-length c = search needs
 
--- src/lib.rt:371:1
+-- src/lib.rt:389:1
 same-length-2 : tie.Need-same-length-2
 same-length-2 c = search needs
 
--- src/lib.rt:371:1
+-- src/lib.rt:389:1
 returns : tie.Need-returns
 returns c = search needs
 
--- src/lib.rt:371:1
+-- src/lib.rt:389:1
 same-length-3 : tie.Need-same-length-3
 same-length-3 c = search needs
 
--- src/lib.rt:371:1
+-- src/lib.rt:389:1
 same-length-4 : tie.Need-same-length-4
 same-length-4 c = search needs
 
--- src/lib.rt:371:1
+-- src/lib.rt:389:1
 returns-2 : tie.Need-returns-2
 returns-2 c = search needs
 
@@ -52,7 +52,7 @@ totalize-spec =
     (tie.spec
     check-inputs-requires
     enum-told
-    make-totalized-requires
+    make-turned-requires
     enum-known-r
     same-length
     same-length-2
