@@ -187,6 +187,7 @@ module _ (m : Made) (o l o′ l′ : List ℕ) (lo hi : ℕ) (s : List ℕ) (ls 
         rw (← f, h) (e ∙ ap (outputs o l) (sym (limited-given (flippedPattern (read s) ls) (r .few-states) (r .few-transitions))))
 
 pub ruleset readyLaws = (fresh-ready, needs)
+
 pub ruleset complementLaws = (complement-totalized, complement-flipped, needs)
 
 -- no refusal has the number 0
@@ -247,13 +248,16 @@ module _ {X : Type 0} (s b o l : List ℕ) (a : Answer X) where
       (λ (u : eqb (fault s) 0 ≡ true).
       ⊎-elim
       (λ (v : eqb (labelsFault (stateCount s) b) 0 ≡ true).
-      inl
-      (record {
-        sheet = accepted s (eqb-true _ _ u);
-        label-list = eqb-true _ _ v;
-        words = room-words o l r refl t;
-        bytes = room-bytes o l r refl t;
-      }, room-enough o l _ r refl t ∙ rw (u, v), room-enough o l _ r refl t ∙ rw (u, v)))
+      inl (
+        record {
+          sheet = accepted s (eqb-true _ _ u);
+          label-list = eqb-true _ _ v;
+          words = room-words o l r refl t;
+          bytes = room-bytes o l r refl t;
+        },
+        room-enough o l _ r refl t ∙ rw (u, v),
+        room-enough o l _ r refl t ∙ rw (u, v),
+      ))
       (λ (v : eqb (labelsFault (stateCount s) b) 0 ≡ false).
       inr (labelsFault (stateCount s) b, room-enough o l _ r refl t ∙ rw (u, v), room-enough o l _ r refl t ∙ rw (u, v)))
       (test (eqb (labelsFault (stateCount s) b) 0)))
@@ -307,6 +311,7 @@ module _ (s b o l : List ℕ) (r : inputs.Inputs) (e : inputsOf r ≡ inputsFirs
     complement-refused x h = ap (outputs o l) (sym (refused-inputs s b o l (limited (complementPattern lo hi (read s) (readLabels b))) r e x h))
 
 pub ruleset totalizeLaws = (inputs-accepted, totalize-made, totalize-refused, needs)
+
 pub ruleset complementedLaws = (inputs-accepted, complement-made, complement-refused, needs)
 
 -- the answer of `is_nfa`

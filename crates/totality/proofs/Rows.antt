@@ -137,9 +137,16 @@ module _ (lo hi : ℕ) (A : Automaton) (w : WellFormed A) where
   unfolding filledIn holesIn states tabulate flatMap leaving
   length-below zero = sym (ap (λ l. length l + 0) (keep-none (λ e. ltb (e .from) 0) (A .transitions) (λ e m. le-ltb (e .from) 0 (omega arith))))
   length-below (suc n) =
-      omega
-      (arith, length-below n, ap (λ l. length (filledIn lo hi A l)) (tabulate-end n (λ q. q)), ap (λ l. length (holesIn lo hi A l)) (tabulate-end n (λ q. q)),
-        flatMap-end (λ q. filled lo hi (A .size) q (leaving A q)) (states n) n, flatMap-end (λ q. holesOf lo hi (leaving A q)) (states n) n, length-filled (A .size) n, kept-more n (A .transitions))
+      omega (
+        arith,
+        length-below n,
+        ap (λ l. length (filledIn lo hi A l)) (tabulate-end n (λ q. q)),
+        ap (λ l. length (holesIn lo hi A l)) (tabulate-end n (λ q. q)),
+        flatMap-end (λ q. filled lo hi (A .size) q (leaving A q)) (states n) n,
+        flatMap-end (λ q. holesOf lo hi (leaving A q)) (states n) n,
+        length-filled (A .size) n,
+        kept-more n (A .transitions),
+      )
 
   -- the records kept and the holes
   pub length-all : length (filledIn lo hi A (states (A .size))) ≡ length (A .transitions) + length (holesIn lo hi A (states (A .size)))

@@ -110,9 +110,15 @@ unfolding holesIn flatMap holesOf
 holes-few lo hi A w [] = omega arith
 holes-few lo hi A w (q ∷ qs) =
     let es = rangesOf (leaving A q) in
-    omega
-    (arith, length-append (missing lo hi es) (holesIn lo hi A qs), holes-few lo hi A w qs, ap length (missing-scan lo hi es (leaving-sorted A q w)), scan-short lo hi es, ranges-few,
-      suc-mul (length qs) (suc (length (A .transitions))))
+    omega (
+      arith,
+      length-append (missing lo hi es) (holesIn lo hi A qs),
+      holes-few lo hi A w qs,
+      ap length (missing-scan lo hi es (leaving-sorted A q w)),
+      scan-short lo hi es,
+      ranges-few,
+      suc-mul (length qs) (suc (length (A .transitions))),
+    )
   where
     ranges-few : length (rangesOf (leaving A q)) ≤ length (A .transitions)
     ranges-few = unfold rangesOf leaving in omega (arith, length-keep (λ e. eqb (e .kind) 1) (leaving A q), length-keep (λ e. eqb (e .from) q) (A .transitions))
@@ -160,9 +166,15 @@ module _ (lo hi sink q : ℕ) (run h h′ : List ℕ) (f : Fillable lo hi sink q
   half-room : 2 * k ≤ length h
   unfolding rangesOf
   half-room =
-      omega
-      (arith, f .room, f .whole, e, ap length (missing-scan lo hi (rangesOf (readRecords run)) (f .sorted)), scan-short lo hi (rangesOf (readRecords run)),
-        length-keep (λ e. eqb (e .kind) 1) (readRecords run))
+      omega (
+        arith,
+        f .room,
+        f .whole,
+        e,
+        ap length (missing-scan lo hi (rangesOf (readRecords run)) (f .sorted)),
+        scan-short lo hi (rangesOf (readRecords run)),
+        length-keep (λ e. eqb (e .kind) 1) (readRecords run),
+      )
 
   pub half-within : 2 * k ≤ length h′
   half-within = omega (arith, half-room, ap length w, length-sets h 0 (spanWords (missing lo hi (rangesOf (readRecords run)))))

@@ -103,9 +103,18 @@ module _ (s starts holes : List ℕ) (ready : Ready s starts holes) (lo hi : ℕ
     module _ (o₂ : List ℕ) (e₂ : ℕ) (filled : Written o₁ e₁ (writeRecords (filledIn lo hi (read s) (states (stateCount s)))) o₂ e₂) where
       pub loop-room : e₂ + 5 ≤ length o₂
       loop-room =
-          omega
-          (arith, front .behind, filled .behind, front-length s (ready .accepted) b count, written-length o o₁ _ 0 e₁ front, written-length o₁ o₂ _ e₁ e₂ filled, rows-length,
-            small .few-states, small .few-transitions, small .room)
+          omega (
+            arith,
+            front .behind,
+            filled .behind,
+            front-length s (ready .accepted) b count,
+            written-length o o₁ _ 0 e₁ front,
+            written-length o₁ o₂ _ e₁ e₂ filled,
+            rows-length,
+            small .few-states,
+            small .few-transitions,
+            small .room,
+          )
 
       pub total-written : (o₃ : List ℕ) (e₃ : ℕ) → Written o₂ e₂ (stateCount s ∷ 1 ∷ lo ∷ hi ∷ stateCount s ∷ []) o₃ e₃ → Written o 0 (write (turned b (totalized lo hi (read s)))) o₃ e₃
       unfolding totalized frontWords headWords transitionCount writeRecords

@@ -125,14 +125,7 @@ fn records_before(run: &[u32], i: usize, low: u32) -> usize
 }
 
 // Writes the records of the run and the holes of its state q, led to the sink, in order: the records before each hole, and then the hole.
-fn put_merged(
-    run: &[u32],
-    holes: &[u32],
-    q: u32,
-    sink: u32,
-    out: &mut [u32],
-    at: usize,
-) -> usize
+fn put_merged(run: &[u32], holes: &[u32], q: u32, sink: u32, out: &mut [u32], at: usize) -> usize
     requires { ⌜ Mergeable sink q (readRecords (now run)) (readSpans (now holes)) × Whole (now run) ⌝ }
     requires { ⌜ at + length (writeRecords (merged sink q (now run) (now holes))) ≤ length (now out) ⌝ }
     ensures { λ r. ⌜ Written (now (out .entry)) at (writeRecords (merged sink q (now (run .entry)) (now (holes .entry)))) (now (out .exit)) r ⌝ }
@@ -307,7 +300,17 @@ fn make_turned(
     let mut starts = [0u32; 257];
     let mut holes = [0u32; 4098];
     sheets::run_starts(s, &mut starts);
-    make_total(s, labels, &starts, flip, lower, upper, &mut holes, out, names)
+    make_total(
+        s,
+        labels,
+        &starts,
+        flip,
+        lower,
+        upper,
+        &mut holes,
+        out,
+        names,
+    )
 }
 
 // The sheet with its acceptance flipped, and its labels.

@@ -1,62 +1,12 @@
-use borrow.Author.Needs.{needs}
+-- `totalize` meets its contract: the check first, and then the totalized sheet.
+use Rattle.totality.proofs.Answers.{totalizeLaws, inputs-accepted}
 use Rattle.totality.proofs.totalize.Statement.{statement}
 use Rattle.totality.proofs.totalize.Tie as tie
-use Rattle.totality.proofs.totalize.Reads as reads
-use Rattle.totality.proofs.totalize.Lts as lts
-use Rattle.totality.proofs.check_inputs.Reads as check-inputs-reads
-use Rattle.totality.proofs.make_turned.Reads as make-turned-reads
-
--- src/lib.rt:392:11
-check-inputs-requires : tie.Need-check-inputs-requires
-check-inputs-requires c κs = search needs
-
--- src/lib.rt:393:70
-enum-told : tie.Need-enum-told
-enum-told c = search needs
-
--- src/lib.rt:393:25
-make-turned-requires : tie.Need-make-turned-requires
-make-turned-requires c κs = search needs
-
--- src/lib.rt:394:25
-enum-known-r : tie.Need-enum-known-r
-enum-known-r c = search needs
-
--- src/lib.rt:389:1
-same-length : tie.Need-same-length
-same-length c = search needs
-
--- src/lib.rt:389:1
-same-length-2 : tie.Need-same-length-2
-same-length-2 c = search needs
-
--- src/lib.rt:389:1
-returns : tie.Need-returns
-returns c = search needs
-
--- src/lib.rt:389:1
-same-length-3 : tie.Need-same-length-3
-same-length-3 c = search needs
-
--- src/lib.rt:389:1
-same-length-4 : tie.Need-same-length-4
-same-length-4 c = search needs
-
--- src/lib.rt:389:1
-returns-2 : tie.Need-returns-2
-returns-2 c = search needs
 
 pub totalize-spec : {M : Type 1} → statement M
 totalize-spec =
     tie.close
-    (tie.spec
-    check-inputs-requires
-    enum-told
-    make-turned-requires
-    enum-known-r
-    same-length
-    same-length-2
-    returns
-    same-length-3
-    same-length-4
-    returns-2)
+    (tie.spec (λ c κs. search totalizeLaws) (λ c. search totalizeLaws)
+    (λ c κs. inputs-accepted _ _ _ _ _ (c .before .before .before .before .check-inputs .ensures) (c .before .before .enum-told .given .1))
+    (λ c. search totalizeLaws) (λ c. search totalizeLaws) (λ c. search totalizeLaws) (λ c. search totalizeLaws) (λ c. search totalizeLaws)
+    (λ c. search totalizeLaws) (λ c. search totalizeLaws))
