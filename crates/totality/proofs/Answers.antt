@@ -53,8 +53,8 @@ use Rattle.sheets.proofs.Meaning.{read-well, read-fits, write-read-sheet}
 use Rattle.totality.specs.Answers.{labelsFirst, inputsFirst, inputsOf, passed, limited, turnedPattern, flippedPattern, totalPattern, complementPattern, totalizeAnswer, complementAnswer, isNfaAnswer}
 use Rattle.totality.specs.declared.Inputs as inputs
 use Rattle.totality.specs.declared.Inputs.the-variants as input
-use Rattle.totality.specs.Merging.{turned, headWords, holesIn, transitionCount, Small, Ready}
-use Rattle.totality.specs.Totality.{states, isNfa, flipped, totalized, complemented}
+use Rattle.totality.specs.Merging.{turned, headWords, Small, Ready}
+use Rattle.totality.specs.Totality.{states, isNfa, flipped, totalized, complemented, holesIn, transitionCount}
 use Rattle.totality.proofs.Rows.{length-totalized}
 use Rattle.totality.proofs.States.{holes-few, length-states}
 use Rattle.totality.proofs.Writing.{head-length}

@@ -26,8 +26,8 @@ use Rattle.ranges.proofs.Missing.{missing-holes, held}
 use Rattle.ranges.proofs.Sorting.{keep-ascending, leaving-sorted}
 use Rattle.sheets.specs.Sheet.{stateCount, read}
 use Rattle.sheets.proofs.Meaning.{read-well}
-use Rattle.totality.specs.Merging.{leading, Mergeable, Fillable, holesIn, Ready}
-use Rattle.totality.specs.Totality.{states, holesOf, holeTo, filled, filledIn, totalized}
+use Rattle.totality.specs.Merging.{leading, Mergeable, Fillable, Ready}
+use Rattle.totality.specs.Totality.{states, holesOf, holeTo, filled, filledIn, totalized, holesIn}
 use Rattle.totality.proofs.Left.{Left, left-start, left-done, left-room, left-next}
 use Rattle.totality.proofs.Merging.{merge-hole, drop-records, less-holes}
 use Rattle.totality.proofs.States.{states-at, states-end, run-records, run-sorted, run-room, ready-run}

@@ -31,8 +31,8 @@ use Rattle.sheets.specs.Runs.{RunAt}
 use Rattle.sheets.specs.Sheet.{stateCount, read}
 use Rattle.sheets.proofs.Meaning.{read-well, read-fits}
 use Rattle.sheets.proofs.Runs.{run-at}
-use Rattle.totality.specs.Totality.{states, holesOf, isNfaAt, isNfaIn, isNfa, filled}
-use Rattle.totality.specs.Merging.{readSpans, Mergeable, merged, Fillable, holesIn, Ready}
+use Rattle.totality.specs.Totality.{states, holesOf, isNfaAt, isNfaIn, isNfa, filled, holesIn}
+use Rattle.totality.specs.Merging.{readSpans, Mergeable, merged, Fillable, Ready}
 
 -- the states from q on
 pub states-at : (n q : ℕ) → q < n → drop q (states n) ≡ q ∷ drop (q + 1) (states n)

@@ -17,9 +17,9 @@ use Rattle.automata.proofs.Records.{length-write, write-append}
 use Rattle.sheets.specs.Accepted.{Accepted}
 use Rattle.sheets.specs.Sheet.{stateCount, read, write}
 use Rattle.sheets.proofs.Meaning.{read-well}
-use Rattle.totality.specs.Merging.{acceptWord, turned, headWords, frontWords, transitionCount, Small, Ready}
+use Rattle.totality.specs.Merging.{acceptWord, turned, headWords, frontWords, Small, Ready}
 use Rattle.totality.proofs.Rows.{length-all, length-totalized}
-use Rattle.totality.specs.Totality.{states, filledIn, loopOn, flipped, totalized}
+use Rattle.totality.specs.Totality.{states, filledIn, loopOn, flipped, totalized, transitionCount}
 
 -- the accept word that is written
 module _ (b : Bool) (x : ℕ) where

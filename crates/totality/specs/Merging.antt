@@ -1,12 +1,12 @@
 -- What the code of totalizing is told by: spans as pairs of words, records and holes that can be merged, accept words, and the tables of a sheet.
 use Prim.Native.Nat.{ℕ, suc, _+_, _*_, _≤_, _<_}
 use mathlib.Core.Bool.{Bool, true, false, cond}
-use mathlib.Core.List.{List, [], _∷_, _++_, map, flatMap}
+use mathlib.Core.List.{List, [], _∷_, _++_, map}
 use mathlib.Core.Path.{_≡_}
 use lib.Dec.{leb}
 use lib.ListN.{length, getD}
 use Rattle.lists.specs.Lists.{_∈_, Ascending}
-use Rattle.automata.specs.Automaton.{Transition, Automaton, leaving, rangesOf}
+use Rattle.automata.specs.Automaton.{Transition, Automaton, rangesOf}
 use Rattle.automata.specs.Ordered.{inOrder}
 use Rattle.automata.specs.Records.{readRecords}
 use Rattle.automata.specs.WellFormed.{Before}
@@ -15,7 +15,7 @@ use Rattle.ranges.specs.Span.{Span}
 use Rattle.sheets.specs.Accepted.{Accepted}
 use Rattle.sheets.specs.Runs.{Indexed}
 use Rattle.sheets.specs.Sheet.{stateCount, read}
-use Rattle.totality.specs.Totality.{states, holesOf, holeTo, otherWord, flipped}
+use Rattle.totality.specs.Totality.{holesOf, holeTo, transitionCount, otherWord, flipped}
 
 -- the spans of a list of words; a word left over is none
 unfoldable pub readSpans : List ℕ → List Span
@@ -59,14 +59,6 @@ acceptWord false x = x
 abbrev pub turned : Bool → Automaton → Automaton
 turned true A = flipped A
 turned false A = A
-
--- the holes of some states
-unfoldable pub holesIn : ℕ → ℕ → Automaton → List ℕ → List Span
-holesIn lo hi A qs = flatMap (λ q. holesOf lo hi (leaving A q)) qs
-
--- the records kept, the holes and the sink's loop
-unfoldable pub transitionCount : ℕ → ℕ → Automaton → ℕ
-transitionCount lo hi A = length (A .transitions) + length (holesIn lo hi A (states (A .size))) + 1
 
 -- the front of a sheet of n states, up to the accept words of s
 unfoldable pub headWords : Bool → List ℕ → ℕ → List ℕ

@@ -19,6 +19,10 @@ states n = tabulate n (λ q. q)
 unfoldable pub holesOf : ℕ → ℕ → List Transition → List Span
 holesOf lo hi es = missing lo hi (rangesOf es)
 
+-- the holes of the states qs
+unfoldable pub holesIn : ℕ → ℕ → Automaton → List ℕ → List Span
+holesIn lo hi A qs = flatMap (λ q. holesOf lo hi (leaving A q)) qs
+
 -- an epsilon is among them
 unfoldable pub hasEpsilon : List Transition → Bool
 hasEpsilon es = any (λ e. eqb (e .kind) 0) es
@@ -58,6 +62,10 @@ totalized lo hi A = record {
   accept = A .accept ++ 0 ∷ [];
   transitions = filledIn lo hi A (states (A .size)) ++ loopOn lo hi (A .size) ∷ [];
 }
+
+-- how many transitions that has: those kept, the holes and the sink's loop
+unfoldable pub transitionCount : ℕ → ℕ → Automaton → ℕ
+transitionCount lo hi A = length (A .transitions) + length (holesIn lo hi A (states (A .size))) + 1
 
 -- a rejecting state accepts, and an accepting one rejects
 abbrev pub otherWord : ℕ → ℕ
