@@ -6,3 +6,5 @@ pub mod States
 pub mod Rows
 pub mod Writing
 pub mod Answers
+pub mod Totalized
+pub mod Words
