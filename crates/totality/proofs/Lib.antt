@@ -8,3 +8,5 @@ pub mod Writing
 pub mod Answers
 pub mod Totalized
 pub mod Words
+pub mod Deterministic
+pub mod Limits

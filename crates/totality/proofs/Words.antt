@@ -107,7 +107,7 @@ run-exists v c (more {a} l u i) p h =
     (q, read e m f k x y r, g)
 
 -- flipping acceptance gives the other words, where each has one run
-flipped-words : (lo hi : ℕ) (B : Automaton) → WellFormed B → Complete lo hi B → Functional B → (w : List ℕ) → Word lo hi w → Accepts (flipped B) w ↔ (Accepts B w → ⊥)
+pub flipped-words : (lo hi : ℕ) (B : Automaton) → WellFormed B → Complete lo hi B → Functional B → (w : List ℕ) → Word lo hi w → Accepts (flipped B) w ↔ (Accepts B w → ⊥)
 unfolding flipped
 flipped-words lo hi B v c f w i = (
   λ (q, r, a) (q′, r′, a′).
@@ -142,7 +142,7 @@ module _ (lo hi : ℕ) (A : Automaton) (v : WellFormed A) where
   unfolding rangesOf leaving
   ranged q e m c k = keep-in (λ e. eqb (e .kind) 1) (keep-in (λ e. eqb (e .from) q) m (eq-eqb (e .from) q c)) (eq-eqb (e .kind) 1 k)
 
-  unranged : (q : ℕ) (e : Transition) → e ∈ rangesOf (leaving A q) → e ∈ A .transitions × (e .from ≡ q) × (e .kind ≡ 1)
+  pub unranged : (q : ℕ) (e : Transition) → e ∈ rangesOf (leaving A q) → e ∈ A .transitions × (e .from ≡ q) × (e .kind ≡ 1)
   unfolding rangesOf
   unranged q e m = let k = keep-out (λ e. eqb (e .kind) 1) e (leaving A q) m in let l = leaves A v q e (k .0) in (l .0, l .1, eqb-true _ _ (k .1))
 
@@ -151,7 +151,7 @@ module _ (lo hi : ℕ) (A : Automaton) (v : WellFormed A) where
   free-symbol q h m x l u e n c k = state-holes A v q lo hi .exact x .0 (h, m, record { above = l; below = u }) .2 e (ranged q e n c k)
 
   -- a symbol that no range of the state holds lies in a hole
-  total-complete : Complete lo hi (totalized lo hi A)
+  pub total-complete : Complete lo hi (totalized lo hi A)
   unfolding totalized
   total-complete = record { next = λ p x h l u. ⊎-elim (λ (e : p ≡ A .size). (loopOn lo hi (A .size), loop-in lo hi A v, sym e, refl, l, u)) (λ g. inside p x g l u) (eq-or-lt-of-le {n = p} {m = A .size} (omega arith)) }
     where
@@ -169,7 +169,7 @@ module _ (lo hi : ℕ) (A : Automaton) (v : WellFormed A) where
           (test (any (holds x) (rangesOf (leaving A p))))
 
   module _ (ranges : (e : Transition) → e ∈ A .transitions → e .kind ≡ 1) (apart : (q : ℕ) → q < A .size → overlapping (rangesOf (leaving A q)) ≡ false) where
-    own-functional : Functional A
+    pub own-functional : Functional A
     own-functional =
         record {
           ranges = ranges;
@@ -179,7 +179,7 @@ module _ (lo hi : ℕ) (A : Automaton) (v : WellFormed A) where
               ap (λ (t : Transition). t .to) (same-member x d e (rangesOf (leaving A q)) none (ranged q d m refl (ranges d m)) (ranged q e n (sym c) (ranges e n)) h k);
         }
 
-    total-functional : Functional (totalized lo hi A)
+    pub total-functional : Functional (totalized lo hi A)
     total-functional = record { ranges = λ e m. one e (origin lo hi A v e m); single = λ d e x m n c h k. same d e x (origin lo hi A v d m) (origin lo hi A v e n) c h k }
       where
         one : (e : Transition) → Origin lo hi A e → e .kind ≡ 1
