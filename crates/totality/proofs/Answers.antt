@@ -1,17 +1,16 @@
 -- The laws by which the operations are proved: what each answer of the code says of the outputs.
-use Prim.Native.Nat.{ℕ, suc, _+_, _-_, _*_, _≤_, _<_}
-use mathlib.Core.Bool.{Bool, true, false, cond, _||_}
+use Prim.Native.Nat.{ℕ, suc, _+_, _-_, _≤_, _<_}
+use mathlib.Core.Bool.{Bool, true, false, _||_}
 use mathlib.Core.List.{List, [], _∷_, _++_}
 use mathlib.Core.Logic.{_⊎_, inl, inr, ⊎-elim}
 use mathlib.Core.Path.{_≡_, refl, sym, _∙_, ap}
-use native.Mathlib.Nat.{mul-le-mul, suc-le-suc-iff}
 use native.Mathlib.Omega.{arith}
 use mir.Syntax.{w64}
 use mir.Val.{Fits}
 use borrow.Author.Needs.{needs}
 use borrow.Author.Tests.{lt-ltb, le-ltb, eq-eqb, ne-eqb, eqb-true}
 use lib.Dec.{ltb, eqb}
-use lib.ListN.{length, getD, take, drop, replicate, length-drop, length-replicate}
+use lib.ListN.{length, take, drop, replicate, length-drop, length-replicate}
 use lib.Seq.{drop-at, sets}
 use Rattle.lists.specs.Written.{Written}
 use Rattle.lists.proofs.Tests.{test}
@@ -56,7 +55,7 @@ use Rattle.totality.specs.declared.Inputs.the-variants as input
 use Rattle.totality.specs.Merging.{turned, headWords, Small, Ready}
 use Rattle.totality.specs.Totality.{states, isNfa, flipped, totalized, complemented, holesIn, transitionCount}
 use Rattle.totality.proofs.Rows.{length-totalized}
-use Rattle.totality.proofs.States.{holes-few, length-states}
+use Rattle.totality.proofs.States.{holes-bound}
 use Rattle.totality.proofs.Writing.{head-length}
 
 -- flipping keeps states and transitions
@@ -94,16 +93,11 @@ module _ (lo hi : ℕ) (s starts holes : List ℕ) (r : Ready s starts holes) (k
   unfolding transitionCount
   count-is = omega (arith, e, length-read (recordCount s) (drop (recordsAt s) s) (simp length-drop (omega (arith, r .accepted .whole))))
 
-  holes-bound : k ≤ 256 * 2049
-  holes-bound =
-      let few = mul-le-mul {n₁ = length (states (stateCount s))} {m₁ = suc (length (read s .transitions))} {n₂ = 256} {m₂ = 2049} (rw (length-states (stateCount s)) (r .accepted .few-states)) (suc-le-suc-iff .1 (read-fits s (r .accepted) .few-transitions)) in
-      omega (arith, few, e, holes-few lo hi (read s) (read-well s (r .accepted)) (states (stateCount s)))
-
   pub count-fits : Fits w64 (recordCount s + k)
-  count-fits = record { fits = omega (arith, holes-bound, r .accepted .few-records) }
+  count-fits = record { fits = omega (arith, e, holes-bound lo hi s starts holes r, r .accepted .few-records) }
 
   pub total-fits : Fits w64 (recordCount s + k + 1)
-  total-fits = record { fits = omega (arith, holes-bound, r .accepted .few-records) }
+  total-fits = record { fits = omega (arith, e, holes-bound lo hi s starts holes r, r .accepted .few-records) }
 
   pub total-small : (o : List ℕ) → stateCount s ≤ 255 → recordCount s + k + 1 ≤ 2048 → 10500 ≤ length o → Small lo hi s o (recordCount s + k + 1)
   total-small o h m g = record { few-states = omega arith; few-transitions = m; counted = count-is; room = g }

@@ -1,32 +1,34 @@
 -- When `is_nfa` is false: exactly where every symbol has one transition in every state and no epsilon stands. And the words of the complement.
 use Prim.Native.Nat.{ℕ, suc, _+_, _≤_, _<_}
-use mathlib.Core.Bool.{Bool, true, false, cond, _&&_, false≢true}
+use mathlib.Core.Bool.{Bool, true, false, cond, false≢true}
 use mathlib.Core.List.{List, [], _∷_, List·Memᴰ·not-nil, List·Memᴰ·cases-cons}
-use mathlib.Core.Logic.{_⊎_, inl, inr, ⊎-elim, _↔_}
-use mathlib.Core.Path.{_≡_, refl, sym, _∙_, ap, subst}
+use mathlib.Core.Logic.{⊎-elim, _↔_}
+use mathlib.Core.Path.{_≡_, refl, sym, _∙_, ap}
 use native.Mathlib.Nat.{eq-or-lt-of-le}
 use native.Mathlib.Omega.{arith}
-use borrow.Author.Tests.{eqb-true, eqb-false, eq-eqb, le-ltb, ltb-true, ltb-false}
+use borrow.Author.Tests.{eqb-true, eqb-false, ltb-false}
 use lib.Dec.{ltb, eqb}
 use lib.ListN.{length, getD, drop}
 use lib.Seq.{getD-drop}
 use Rattle.lists.specs.Lists.{_∈_, any, keep}
-use Rattle.lists.proofs.Tests.{test, or-cases, or-false}
-use Rattle.lists.proofs.Lists.{any-in, any-out, keep-in}
+use Rattle.lists.proofs.Tests.{test, or-false}
+use Rattle.lists.proofs.Lists.{any-out}
 use Rattle.automata.specs.Automaton.{Transition, Automaton, Accepts, Word, holds, carries, leaving, rangesOf}
 use Rattle.automata.specs.Records.{readRecords}
 use Rattle.automata.specs.WellFormed.{WellFormed, lastSymbol}
 use Rattle.ranges.specs.Missing.{missing}
-use Rattle.ranges.specs.Span.{Span, overlapping}
-use Rattle.ranges.proofs.Missing.{holds-ends, any-none}
+use Rattle.ranges.specs.Span.{overlapping}
+use Rattle.ranges.proofs.Missing.{any-none}
 use Rattle.ranges.proofs.Overlap.{one-each}
 use Rattle.ranges.proofs.Sorting.{leaving-sorted}
+use Rattle.sheets.specs.Accepted.{Accepted}
 use Rattle.sheets.specs.Sheet.{recordsAt, read}
+use Rattle.sheets.proofs.Meaning.{read-well}
 use Rattle.totality.specs.Deterministic.{Deterministic}
 use Rattle.totality.specs.Totality.{states, holesOf, hasEpsilon, isNfaAt, isNfaIn, isNfa, totalized, flipped, complemented}
-use Rattle.totality.proofs.Rows.{leaves, state-holes}
+use Rattle.totality.proofs.Rows.{leaves, leaving-in}
 use Rattle.totality.proofs.Totalized.{state-in, state-out, totalized-well}
-use Rattle.totality.proofs.Words.{Complete, unranged, totalize-words, flipped-words, own-functional, total-complete, total-functional}
+use Rattle.totality.proofs.Words.{Complete, unranged, held-or-free, totalize-words, flipped-words, own-functional, total-complete, total-functional}
 
 -- the transitions of a state have no epsilon, no overlap and no hole
 pub record Settled (lo hi : ℕ) (es : List Transition) : Type 0 where
@@ -63,17 +65,7 @@ module _ (lo hi : ℕ) (A : Automaton) where
     own-complete : isNfa lo hi A ≡ false → Complete lo hi A
     own-complete n =
         record {
-          next = λ p x h l u.
-              ⊎-elim
-              (λ (t : any (holds x) (rangesOf (leaving A p)) ≡ true).
-              let (e, m, k) = any-out (holds x) (rangesOf (leaving A p)) t in
-              let (i, c, j) = unranged lo hi A v p e m in
-              let b = holds-ends x e k in
-              (e, i, c, j, b .0, b .1))
-              (λ (t : any (holds x) (rangesOf (leaving A p)) ≡ false).
-              let (s, m, i) = state-holes A v p lo hi .exact x .1 (l, u, any-none (holds x) (rangesOf (leaving A p)) t) in
-              absurd (List·Memᴰ·not-nil (rw (nfa-settled .0 n p h .no-hole) at m)))
-              (test (any (holds x) (rangesOf (leaving A p))));
+          next = λ p x h l u. ⊎-elim (λ r. r) (λ (s, m, i). absurd (List·Memᴰ·not-nil (rw (nfa-settled .0 n p h .no-hole) at m))) (held-or-free lo hi A v p x l u);
         }
 
     -- where no epsilon and no overlap stood, the complement's words are the others
@@ -108,12 +100,12 @@ module _ (lo hi : ℕ) (A : Automaton) (v : WellFormed A) (within : (e : Transit
 
   -- `is_nfa` is false exactly where every symbol has one transition in every state and no epsilon stands
   pub nfa-exact : (isNfa lo hi A ≡ false) ↔ Deterministic lo hi A
-  unfolding holesOf hasEpsilon leaving
+  unfolding holesOf hasEpsilon
   nfa-exact = (
     λ n. record {
       no-epsilon = λ e m.
           let s = nfa-settled lo hi A .0 n (e .from) (v .states .froms e m) in
-          let k = eqb-false (e .kind) 0 (any-none (λ e. eqb (e .kind) 0) (leaving A (e .from)) (s .no-epsilon) e (keep-in (λ d. eqb (d .from) (e .from)) m (eq-eqb (e .from) (e .from) refl))) in
+          let k = eqb-false (e .kind) 0 (any-none (λ e. eqb (e .kind) 0) (leaving A (e .from)) (s .no-epsilon) e (leaving-in A v (e .from) e m refl)) in
           ⊎-elim (λ c. c) (λ (c : e .kind < 1). absurd (k (omega arith))) (eq-or-lt-of-le (v .sound e m .known));
       one = λ q x h l u.
           let s = nfa-settled lo hi A .0 n q h in
@@ -148,3 +140,7 @@ records-below k (a ∷ b ∷ c ∷ d ∷ f ∷ s) h e m =
 
 pub read-within : (s : List ℕ) → ((i : ℕ) → getD s i 0 ≤ lastSymbol) → (e : Transition) → e ∈ read s .transitions → e .kind ≡ 1 → (0 ≤ e .first) × (e .last ≤ lastSymbol)
 read-within s h e m k = (omega arith, records-below lastSymbol (drop (recordsAt s) s) (λ i. rw (getD-drop (recordsAt s) s i 0) (h (recordsAt s + i))) e m)
+
+-- of a sheet of 32-bit words
+pub sheet-exact : (s : List ℕ) → Accepted s → ((i : ℕ) → getD s i 0 ≤ lastSymbol) → (isNfa 0 lastSymbol (read s) ≡ false) ↔ Deterministic 0 lastSymbol (read s)
+sheet-exact s a h = nfa-exact 0 lastSymbol (read s) (read-well s a) (read-within s h)

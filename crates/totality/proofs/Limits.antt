@@ -1,21 +1,20 @@
 -- The exact conditions of 21 and 22, and that a result is an accepted sheet with an accepted list of labels.
-use Prim.Native.Nat.{ℕ, suc, _+_, _≤_, _<_}
-use mathlib.Core.Bool.{Bool, true, false, cond, false≢true}
+use Prim.Native.Nat.{ℕ, _+_, _≤_, _<_}
+use mathlib.Core.Bool.{Bool, true, false, cond}
 use mathlib.Core.List.{List, [], _∷_, _++_}
-use mathlib.Core.Logic.{_⊎_, inl, inr, ⊎-elim, _↔_}
+use mathlib.Core.Logic.{⊎-elim, _↔_}
 use mathlib.Core.Path.{_≡_, refl, sym, _∙_, ap, subst}
 use native.Mathlib.Omega.{arith}
 use borrow.Author.Tests.{ltb-true, ltb-false, eq-eqb}
 use lib.Dec.{ltb}
 use lib.ListN.{length, length-append}
 use Rattle.lists.proofs.Tests.{test}
-use Rattle.automata.specs.Automaton.{Automaton}
-use Rattle.automata.specs.WellFormed.{WellFormed, Fits, lastSymbol}
+use Rattle.automata.specs.WellFormed.{Fits}
 use Rattle.labels.specs.Forms.{sinkLabel}
-use Rattle.labels.specs.Labels.{Label, AllLabels, none, more, labelsFault, readLabels, writeLabels}
+use Rattle.labels.specs.Labels.{AllLabels, none, more, labelsFault, readLabels, writeLabels}
 use Rattle.labels.proofs.Labels.{labels-read, length-read, fault-write}
 use Rattle.output.specs.Output.{Pattern}
-use Rattle.refusal.specs.Answer.{Answer, refused, given}
+use Rattle.refusal.specs.Answer.{refused, given}
 use Rattle.sheets.specs.Checked.{sheetFirst}
 use Rattle.sheets.specs.Fault.{fault}
 use Rattle.sheets.specs.Sheet.{stateCount, read, write}

@@ -1,29 +1,28 @@
 -- Merging the records of a state with its holes: what stands before each hole, and the laws by which the code is proved.
 use Prim.Native.Nat.{ℕ, zero, suc, _+_, _-_, _*_, _≤_, _<_}
 use mathlib.Core.Bool.{Bool, true, false, cond}
-use mathlib.Core.List.{List, [], _∷_, _++_, map, append-assoc, append-nil, List·Memᴰ·head, List·Memᴰ·tail, List·Memᴰ·cases-cons, List·Memᴰ·append-cases, Memᴰ·append-left, Memᴰ·append-right, Memᴰ·of-map}
-use mathlib.Core.Logic.{_⊎_, inl, inr, ⊎-elim}
+use mathlib.Core.List.{List, [], _∷_, _++_, map, append-nil, List·Memᴰ·head, List·Memᴰ·tail, List·Memᴰ·cases-cons, List·Memᴰ·append-cases, Memᴰ·append-left, Memᴰ·append-right}
+use mathlib.Core.Logic.{⊎-elim}
 use mathlib.Core.Path.{_≡_, refl, sym, _∙_, ap, subst}
 use native.Mathlib.Omega.{arith}
 use borrow.Author.Needs.{needs}
 use borrow.Author.Tests.{leb-true, leb-false, le-leb, lt-leb}
 use lib.Dec.{leb}
-use lib.ListN.{length, getD, take, drop, length-drop, length-take}
+use lib.ListN.{length, getD, take, drop, length-drop}
 use lib.Seq.{drop-drop, getD-drop, length-take-le}
-use Rattle.lists.specs.Lists.{_∈_, Ascending, none, more}
+use Rattle.lists.specs.Lists.{_∈_, Ascending, more}
 use Rattle.lists.specs.Written.{Written}
-use Rattle.lists.proofs.Tests.{test}
 use Rattle.lists.proofs.Parts.{part-all}
 use Rattle.automata.specs.Automaton.{Transition}
 use Rattle.automata.specs.Ordered.{inOrder}
-use Rattle.automata.specs.Records.{wordsOf, readRecords, writeRecords}
+use Rattle.automata.specs.Records.{readRecords, writeRecords}
 use Rattle.automata.specs.WellFormed.{Before}
 use Rattle.automata.proofs.Ordered.{lex-trans, inOrder-in, inOrder-out, inOrder-ascending, ascending-unique, inOrder-same}
 use Rattle.automata.proofs.Records.{records-at, records-end, read-drop, read-take, write-read, write-append}
 use Rattle.ranges.specs.Span.{Span}
 use Rattle.totality.specs.Totality.{holeTo}
 use Rattle.totality.specs.Merging.{readSpans, leading, Mergeable, merged, Whole}
-use Rattle.totality.proofs.Left.{Left, left-start, left-done, left-room, left-next, left-length}
+use Rattle.totality.proofs.Left.{Left, left-start, left-done, left-room, left-next}
 
 -- the search for the records before a hole stands at k
 module _ (run : List ℕ) (i low k : ℕ) (e : i + 5 * leading low (readRecords (drop i run)) ≡ k + 5 * leading low (readRecords (drop k run))) where

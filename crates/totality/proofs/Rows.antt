@@ -1,7 +1,7 @@
 -- The records of every state with its holes: a state's can be merged, how many there are, and the laws of the loop that writes them.
-use Prim.Native.Nat.{ℕ, zero, suc, _+_, _-_, _*_, _≤_, _<_}
-use mathlib.Core.Bool.{Bool, true, false, cond, false≢true}
-use mathlib.Core.List.{List, [], _∷_, _++_, map, flatMap, append-assoc, append-nil, List·Memᴰ·head, List·Memᴰ·tail, Memᴰ·of-map}
+use Prim.Native.Nat.{ℕ, zero, suc, _+_, _*_, _≤_, _<_}
+use mathlib.Core.Bool.{true, false, false≢true}
+use mathlib.Core.List.{List, [], _∷_, _++_, map, flatMap, append-nil, List·Memᴰ·head, List·Memᴰ·tail, Memᴰ·of-map}
 use mathlib.Core.Logic.{_⊎_, inl, inr, ⊎-elim}
 use mathlib.Core.Path.{_≡_, refl, sym, _∙_, ap, subst}
 use native.Mathlib.Nat.{eq-or-lt-of-le}
@@ -9,18 +9,18 @@ use native.Mathlib.Omega.{arith}
 use borrow.Author.Needs.{needs}
 use borrow.Author.Tests.{ltb-true, ltb-false, eqb-true, eqb-false, eq-eqb, ne-eqb, lt-ltb, le-ltb}
 use lib.Dec.{ltb, eqb}
-use lib.ListN.{length, take, drop, length-append, length-take, length-drop, take-append-drop}
+use lib.ListN.{length, take, drop, length-append, take-append-drop}
 use Rattle.lists.specs.Lists.{_∈_, keep, tabulate, Ascending, none, more}
 use Rattle.lists.specs.Written.{Written}
 use Rattle.lists.proofs.Tests.{test}
 use Rattle.lists.proofs.Lists.{keep-in, keep-out, keep-all, keep-none, tabulate-end}
-use Rattle.automata.specs.Automaton.{Transition, Automaton, leaving, rangesOf, holds}
+use Rattle.automata.specs.Automaton.{Transition, Automaton, leaving, rangesOf}
 use Rattle.automata.specs.Ordered.{inOrder}
 use Rattle.automata.specs.Records.{readRecords, writeRecords}
-use Rattle.automata.specs.WellFormed.{Lex, here, later, Before, Sound, WellFormed}
+use Rattle.automata.specs.WellFormed.{here, later, Before, WellFormed}
 use Rattle.automata.proofs.Ordered.{inOrder-same}
 use Rattle.automata.proofs.Records.{read-write, length-write, write-append}
-use Rattle.ranges.specs.Missing.{Holes, missing, Apart}
+use Rattle.ranges.specs.Missing.{Holes, Apart}
 use Rattle.ranges.specs.Span.{Span}
 use Rattle.ranges.proofs.Missing.{missing-holes, held}
 use Rattle.ranges.proofs.Sorting.{keep-ascending, leaving-sorted}
@@ -38,7 +38,11 @@ module _ (A : Automaton) (w : WellFormed A) (q : ℕ) where
   unfolding leaving
   leaves e m = let k = keep-out (λ e. eqb (e .from) q) e (A .transitions) m in (k .0, eqb-true _ _ (k .1))
 
-  ranged : (e : Transition) → e ∈ leaving A q → e .kind ≡ 1 → e ∈ rangesOf (leaving A q)
+  pub leaving-in : (e : Transition) → e ∈ A .transitions → e .from ≡ q → e ∈ leaving A q
+  unfolding leaving
+  leaving-in e m c = keep-in (λ e. eqb (e .from) q) m (eq-eqb (e .from) q c)
+
+  pub ranged : (e : Transition) → e ∈ leaving A q → e .kind ≡ 1 → e ∈ rangesOf (leaving A q)
   unfolding rangesOf
   ranged e m k = keep-in (λ e. eqb (e .kind) 1) m (eq-eqb (e .kind) 1 k)
 

@@ -1,15 +1,13 @@
 -- The sample of document 01 on complements: an automaton with an overlap, and its complement, both accept 5.
-use Prim.Native.Nat.{ℕ, _≤_, _<_}
-use mathlib.Core.Bool.{Bool, true, false, cond}
+use Prim.Native.Nat.{ℕ, _<_}
+use mathlib.Core.Bool.{true}
 use mathlib.Core.List.{List, [], _∷_, List·Memᴰ·head, List·Memᴰ·tail}
-use mathlib.Core.Path.{_≡_, refl, sym, _∙_, ap, subst}
+use mathlib.Core.Path.{_≡_, refl, sym, subst}
 use lib.Dec.{lit≤}
 use lib.ListN.{getD}
 use Rattle.lists.specs.Lists.{_∈_, any, keep}
-use Rattle.lists.proofs.Tests.{or-left, or-right}
 use Rattle.lists.proofs.Lists.{any-in}
-use Rattle.automata.specs.Automaton.{Transition, Automaton, Run, stay, skip, Accepts, leaving, rangesOf}
-use Rattle.automata.specs.Automaton
+use Rattle.automata.specs.Automaton.{Transition, Automaton, Run, stay, Accepts, leaving, rangesOf}
 use Rattle.automata.specs.Records.{readRecords}
 use Rattle.automata.specs.WellFormed.{WellFormed, lastSymbol}
 use Rattle.ranges.specs.Span.{overlapping, startsBelow}

@@ -1,9 +1,9 @@
 -- The loops over the states of a sheet: laws of `is_nfa_sheet` and `count_holes`, and what a state's run has.
-use Prim.Native.Nat.{ℕ, zero, suc, _+_, _-_, _*_, _^_, _≤_, _<_, min, max}
+use Prim.Native.Nat.{ℕ, suc, _+_, _*_, _^_, _≤_, _<_, min, max}
 use mathlib.Core.Bool.{Bool, true, false, _||_}
-use mathlib.Core.List.{List, [], _∷_, _++_, flatMap, append-assoc, List·Memᴰ·head, List·Memᴰ·tail, List·Memᴰ·cases-cons}
+use mathlib.Core.List.{List, [], _∷_, flatMap, append-assoc}
 use mathlib.Core.Logic.{⊎-elim}
-use mathlib.Core.Path.{_≡_, refl, sym, _∙_, ap, subst}
+use mathlib.Core.Path.{_≡_, refl, sym, _∙_, ap}
 use native.Mathlib.Nat.{suc-mul, mul-le-mul, suc-le-suc-iff}
 use native.Mathlib.Numerals.{add-one}
 use native.Mathlib.Omega.{arith}
@@ -12,10 +12,10 @@ use mir.Val.{Fits}
 use borrow.Author.Needs.{needs}
 use borrow.Author.Tests.{ltb-true, ltb-false}
 use lib.Dec.{ltb, eqb}
-use lib.ListN.{length, getD, take, drop, drop-of-length-le, length-append}
+use lib.ListN.{length, take, drop, drop-of-length-le, length-append}
 use lib.Seq.{drop-cons, take-at, length-take-le, sets, sets-eq, length-sets}
 use Rattle.lists.specs.Written.{Written}
-use Rattle.lists.specs.Lists.{_∈_, any, keep, tabulate}
+use Rattle.lists.specs.Lists.{any, tabulate}
 use Rattle.lists.proofs.Tests.{test}
 use Rattle.lists.proofs.Lists.{tabulate-at, length-tabulate, length-keep}
 use Rattle.automata.specs.Automaton.{Transition, Automaton, leaving, rangesOf}
@@ -105,7 +105,7 @@ scan-short c hi (e ∷ es) =
     omega (arith, length-append (gap c b) (scan d hi es), gap-short c b, scan-short d hi es)
 
 -- a state has at most one hole more than its automaton has transitions
-pub holes-few : (lo hi : ℕ) (A : Automaton) → WellFormed A → (qs : List ℕ) → length (holesIn lo hi A qs) ≤ length qs * suc (length (A .transitions))
+holes-few : (lo hi : ℕ) (A : Automaton) → WellFormed A → (qs : List ℕ) → length (holesIn lo hi A qs) ≤ length qs * suc (length (A .transitions))
 unfolding holesIn flatMap holesOf
 holes-few lo hi A w [] = omega arith
 holes-few lo hi A w (q ∷ qs) =
@@ -123,9 +123,16 @@ holes-few lo hi A w (q ∷ qs) =
     ranges-few : length (rangesOf (leaving A q)) ≤ length (A .transitions)
     ranges-few = unfold rangesOf leaving in omega (arith, length-keep (λ e. eqb (e .kind) 1) (leaving A q), length-keep (λ e. eqb (e .from) q) (A .transitions))
 
-pub length-states : (n : ℕ) → length (states n) ≡ n
+length-states : (n : ℕ) → length (states n) ≡ n
 unfolding states
 length-states n = length-tabulate n (λ q. q)
+
+-- the holes of a sheet
+pub holes-bound : (lo hi : ℕ) (s starts holes : List ℕ) → Ready s starts holes → length (holesIn lo hi (read s) (states (stateCount s))) ≤ 256 * 2049
+holes-bound lo hi s starts holes r =
+    let n : length (states (stateCount s)) ≤ 256 = rw (length-states (stateCount s)) (r .accepted .few-states) in
+    let few = mul-le-mul {n₁ = length (states (stateCount s))} {m₁ = suc (length (read s .transitions))} {n₂ = 256} {m₂ = 2049} n (suc-le-suc-iff .1 (read-fits s (r .accepted) .few-transitions)) in
+    omega (arith, few, holes-few lo hi (read s) (read-well s (r .accepted)) (states (stateCount s)))
 
 -- the holes of the states below q are counted
 pub count-start : (lo hi : ℕ) (A : Automaton) → 0 + length (holesIn lo hi A (drop 0 (states (A .size)))) ≡ length (holesIn lo hi A (states (A .size)))
@@ -145,9 +152,7 @@ module _ (lo hi : ℕ) (s : List ℕ) (count q : ℕ) (e : count + length (holes
         omega (arith, m, length-append (missing lo hi (rangesOf (leaving (read s) q))) (holesIn lo hi (read s) (drop (q + 1) (states (stateCount s)))))
 
     pub count-fits : (starts holes : List ℕ) → Ready s starts holes → Fits w64 (count + k)
-    count-fits starts holes r =
-        let few = mul-le-mul {n₁ = length (states (stateCount s))} {m₁ = suc (length (read s .transitions))} {n₂ = 256} {m₂ = 2049} (rw (length-states (stateCount s)) (r .accepted .few-states)) (suc-le-suc-iff .1 (read-fits s (r .accepted) .few-transitions)) in
-        record { fits = omega (arith, few, count-next, holes-few lo hi (read s) (read-well s (r .accepted)) (states (stateCount s))) }
+    count-fits starts holes r = record { fits = omega (arith, count-next, holes-bound lo hi s starts holes r) }
 
 pub ruleset countLaws = (count-start, count-ended, count-next, count-fits, ready-run, run-sorted, run-room, needs)
 

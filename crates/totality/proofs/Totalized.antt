@@ -1,22 +1,22 @@
 -- The totalized automaton: where its transitions come from, and that it is well-formed.
-use Prim.Native.Nat.{ℕ, zero, suc, _+_, _≤_, _<_}
+use Prim.Native.Nat.{ℕ, zero, suc, _≤_, _<_}
 use mathlib.Core.Bool.{Bool, true, false, cond}
 use mathlib.Core.List.{List, [], _∷_, _++_, map, flatMap, List·Memᴰ·head, List·Memᴰ·tail, List·Memᴰ·not-nil, List·Memᴰ·cases-cons, List·Memᴰ·append-cases, List·Memᴰ·eq-of-singleton, Memᴰ·append-left, Memᴰ·append-right, Memᴰ·map, Memᴰ·of-map}
-use mathlib.Core.Logic.{_⊎_, inl, inr, ⊎-elim}
-use mathlib.Core.Path.{_≡_, refl, sym, _∙_, ap, subst}
+use mathlib.Core.Logic.{⊎-elim}
+use mathlib.Core.Path.{_≡_, refl, sym, _∙_, subst}
 use native.Mathlib.Omega.{arith}
-use borrow.Author.Tests.{eq-eqb, ltb-true, ltb-false}
+use borrow.Author.Tests.{ltb-true, ltb-false}
 use lib.Dec.{ltb, eqb}
 use lib.ListN.{length, getD, length-append, length-map, List·getD-append}
-use Rattle.lists.specs.Lists.{_∈_, keep, tabulate, Ascending, none, more}
+use Rattle.lists.specs.Lists.{_∈_, tabulate, Ascending, none, more}
 use Rattle.lists.proofs.Tests.{test}
-use Rattle.lists.proofs.Lists.{keep-in, drop-mem}
-use Rattle.automata.specs.Automaton.{Transition, Automaton, InBounds, leaving}
-use Rattle.automata.specs.WellFormed.{Lex, here, Before, Sound, WellFormed}
+use Rattle.lists.proofs.Lists.{drop-mem}
+use Rattle.automata.specs.Automaton.{Transition, Automaton, leaving}
+use Rattle.automata.specs.WellFormed.{here, Before, Sound, WellFormed}
 use Rattle.automata.proofs.Ordered.{inOrder-in, inOrder-out, inOrder-ascending}
 use Rattle.ranges.specs.Span.{Span}
 use Rattle.totality.specs.Totality.{states, holesOf, holeTo, filled, filledIn, loopOn, totalized, otherWord, flipped, complemented, isNfa}
-use Rattle.totality.proofs.Rows.{leaves, state-holes}
+use Rattle.totality.proofs.Rows.{leaves, leaving-in, state-holes}
 use Rattle.totality.proofs.States.{states-at}
 
 flat-in : {X : Type 0} (f : ℕ → List X) {x : X} {q : ℕ} {qs : List ℕ} → q ∈ qs → x ∈ f q → x ∈ flatMap f qs
@@ -62,11 +62,11 @@ module _ (lo hi : ℕ) (A : Automaton) (w : WellFormed A) where
 
   -- every transition is kept, every hole is there, and so is the loop
   pub kept-in : {e : Transition} → e ∈ A .transitions → e ∈ totalized lo hi A .transitions
-  unfolding totalized filledIn filled leaving
+  unfolding totalized filledIn filled
   kept-in {e} m =
       Memᴰ·append-left _
       (flat-in (λ q. filled lo hi (A .size) q (leaving A q)) (state-in (A .size) (e .from) (w .states .froms e m))
-      (inOrder-in (Memᴰ·append-left _ (keep-in (λ d. eqb (d .from) (e .from)) m (eq-eqb (e .from) (e .from) refl)))))
+      (inOrder-in (Memᴰ·append-left _ (leaving-in A w (e .from) e m refl))))
 
   pub hole-in : (q : ℕ) (h : Span) → q < A .size → h ∈ holesOf lo hi (leaving A q) → holeTo (A .size) q h ∈ totalized lo hi A .transitions
   unfolding totalized filledIn filled

@@ -1,25 +1,26 @@
 -- The words of totalized and of complemented automata, against runs.
-use Prim.Native.Nat.{ℕ, zero, suc, _+_, _≤_, _<_}
-use mathlib.Core.Bool.{Bool, true, false, cond, false≢true, true≢false}
-use mathlib.Core.List.{List, [], _∷_, _++_, List·Memᴰ·head, List·Memᴰ·tail, List·Memᴰ·cases-cons}
+use Prim.Native.Nat.{ℕ, _≤_, _<_}
+use mathlib.Core.Bool.{true, false, false≢true}
+use mathlib.Core.List.{List, [], _∷_, List·Memᴰ·cases-cons}
 use mathlib.Core.Logic.{_⊎_, inl, inr, ⊎-elim, _↔_}
 use mathlib.Core.Path.{_≡_, refl, sym, _∙_, ap, subst}
 use native.Mathlib.Nat.{eq-or-lt-of-le}
 use native.Mathlib.Omega.{arith}
-use borrow.Author.Tests.{eqb-true, eqb-false, eq-eqb, ltb-true, ltb-false, ne-eqb}
+use borrow.Author.Tests.{eqb-true, eqb-false, ltb-true, ltb-false, ne-eqb}
 use lib.Dec.{ltb, eqb}
 use lib.ListN.{length, getD, List·getD-eq-default}
-use Rattle.lists.specs.Lists.{_∈_, any, keep}
+use Rattle.lists.specs.Lists.{_∈_, any}
 use Rattle.lists.proofs.Tests.{test}
-use Rattle.lists.proofs.Lists.{any-out, keep-in, keep-out}
+use Rattle.lists.proofs.Lists.{any-out, keep-out}
 use Rattle.automata.specs.Automaton.{Transition, Automaton, Run, stay, skip, read, Accepts, Word, none, more, holds, leaving, rangesOf}
 use Rattle.automata.specs.WellFormed.{WellFormed}
+use Rattle.ranges.specs.Missing.{Within}
 use Rattle.ranges.specs.Span.{Span, overlapping, Shared}
 use Rattle.ranges.proofs.Missing.{held, holds-ends, any-none}
 use Rattle.ranges.proofs.Overlap.{overlap-shared}
 use Rattle.ranges.proofs.Sorting.{leaving-sorted}
-use Rattle.totality.specs.Totality.{holesOf, holeTo, loopOn, totalized, otherWord, flipped, complemented, isNfa}
-use Rattle.totality.proofs.Rows.{leaves, state-holes}
+use Rattle.totality.specs.Totality.{holesOf, holeTo, loopOn, totalized, otherWord, flipped}
+use Rattle.totality.proofs.Rows.{leaves, leaving-in, ranged, state-holes}
 use Rattle.totality.proofs.Totalized.{Origin, kept, hole, loop, origin, kept-in, hole-in, loop-in, accept-same, accept-zero, other-at}
 
 -- a run goes through in an automaton that has all the transitions
@@ -138,35 +139,35 @@ same-member x d e (c ∷ es) n a b h k =
     (List·Memᴰ·cases-cons a)
 
 module _ (lo hi : ℕ) (A : Automaton) (v : WellFormed A) where
-  ranged : (q : ℕ) (e : Transition) → e ∈ A .transitions → e .from ≡ q → e .kind ≡ 1 → e ∈ rangesOf (leaving A q)
-  unfolding rangesOf leaving
-  ranged q e m c k = keep-in (λ e. eqb (e .kind) 1) (keep-in (λ e. eqb (e .from) q) m (eq-eqb (e .from) q c)) (eq-eqb (e .kind) 1 k)
-
   pub unranged : (q : ℕ) (e : Transition) → e ∈ rangesOf (leaving A q) → e ∈ A .transitions × (e .from ≡ q) × (e .kind ≡ 1)
   unfolding rangesOf
   unranged q e m = let k = keep-out (λ e. eqb (e .kind) 1) e (leaving A q) m in let l = leaves A v q e (k .0) in (l .0, l .1, eqb-true _ _ (k .1))
 
   -- a symbol of a hole is held by no range of the state
   free-symbol : (q : ℕ) (h : Span) → h ∈ holesOf lo hi (leaving A q) → (x : ℕ) → h .low ≤ x → x ≤ h .high → (e : Transition) → e ∈ A .transitions → e .from ≡ q → e .kind ≡ 1 → holds x e ≡ false
-  free-symbol q h m x l u e n c k = state-holes A v q lo hi .exact x .0 (h, m, record { above = l; below = u }) .2 e (ranged q e n c k)
+  free-symbol q h m x l u e n c k = state-holes A v q lo hi .exact x .0 (h, m, record { above = l; below = u }) .2 e (ranged A v q e (leaving-in A v q e n c) k)
 
-  -- a symbol that no range of the state holds lies in a hole
+  -- a symbol has a transition in a state, or lies in a hole
+  pub held-or-free : (p x : ℕ) → lo ≤ x → x ≤ hi
+      → ((e : Transition) × e ∈ A .transitions × (e .from ≡ p) × (e .kind ≡ 1) × (e .first ≤ x) × (x ≤ e .last)) ⊎ Within x (holesOf lo hi (leaving A p))
+  held-or-free p x l u =
+      ⊎-elim
+      (λ (t : any (holds x) (rangesOf (leaving A p)) ≡ true).
+      let (e, m, k) = any-out (holds x) (rangesOf (leaving A p)) t in
+      let (i, c, j) = unranged p e m in
+      let b = holds-ends x e k in
+      inl (e, i, c, j, b .0, b .1))
+      (λ (t : any (holds x) (rangesOf (leaving A p)) ≡ false). inr (state-holes A v p lo hi .exact x .1 (l, u, any-none (holds x) (rangesOf (leaving A p)) t)))
+      (test (any (holds x) (rangesOf (leaving A p))))
+
   pub total-complete : Complete lo hi (totalized lo hi A)
   unfolding totalized
   total-complete = record { next = λ p x h l u. ⊎-elim (λ (e : p ≡ A .size). (loopOn lo hi (A .size), loop-in lo hi A v, sym e, refl, l, u)) (λ g. inside p x g l u) (eq-or-lt-of-le {n = p} {m = A .size} (omega arith)) }
     where
       inside : (p x : ℕ) → p < A .size → lo ≤ x → x ≤ hi → (e : Transition) × e ∈ totalized lo hi A .transitions × (e .from ≡ p) × (e .kind ≡ 1) × (e .first ≤ x) × (x ≤ e .last)
       inside p x g l u =
-          ⊎-elim
-          (λ (t : any (holds x) (rangesOf (leaving A p)) ≡ true).
-          let (e, m, k) = any-out (holds x) (rangesOf (leaving A p)) t in
-          let (i, c, j) = unranged p e m in
-          let b = holds-ends x e k in
-          (e, kept-in lo hi A v i, c, j, b .0, b .1))
-          (λ (t : any (holds x) (rangesOf (leaving A p)) ≡ false).
-          let (h, m, i) = state-holes A v p lo hi .exact x .1 (l, u, any-none (holds x) (rangesOf (leaving A p)) t) in
-          (holeTo (A .size) p h, hole-in lo hi A v p h g m, refl, refl, i .above, i .below))
-          (test (any (holds x) (rangesOf (leaving A p))))
+          ⊎-elim (λ (e, m, c, k, f, g). (e, kept-in lo hi A v m, c, k, f, g)) (λ (h, m, i). (holeTo (A .size) p h, hole-in lo hi A v p h g m, refl, refl, i .above, i .below))
+          (held-or-free p x l u)
 
   module _ (ranges : (e : Transition) → e ∈ A .transitions → e .kind ≡ 1) (apart : (q : ℕ) → q < A .size → overlapping (rangesOf (leaving A q)) ≡ false) where
     pub own-functional : Functional A
@@ -176,7 +177,7 @@ module _ (lo hi : ℕ) (A : Automaton) (v : WellFormed A) where
           single = λ d e x m n c h k.
               let q = d .from in
               let none : Shared (rangesOf (leaving A q)) → ⊥ = λ s. false≢true (sym (apart q (v .states .froms d m)) ∙ overlap-shared (rangesOf (leaving A q)) (leaving-sorted A q v) .1 s) in
-              ap (λ (t : Transition). t .to) (same-member x d e (rangesOf (leaving A q)) none (ranged q d m refl (ranges d m)) (ranged q e n (sym c) (ranges e n)) h k);
+              ap (λ (t : Transition). t .to) (same-member x d e (rangesOf (leaving A q)) none (ranged A v q d (leaving-in A v q d m refl) (ranges d m)) (ranged A v q e (leaving-in A v q e n (sym c)) (ranges e n)) h k);
         }
 
     pub total-functional : Functional (totalized lo hi A)

@@ -1,15 +1,15 @@
 -- The laws of writing whole sheets: accept words, the front of a sheet, the totalized sheet and the flipped copy.
-use Prim.Native.Nat.{ℕ, suc, _+_, _-_, _*_, _≤_, _<_}
+use Prim.Native.Nat.{ℕ, _+_, _-_, _*_, _≤_, _<_}
 use mathlib.Core.Bool.{Bool, true, false}
 use mathlib.Core.List.{List, [], _∷_, _++_, map, map-append, map-id, append-assoc}
-use mathlib.Core.Path.{_≡_, refl, sym, _∙_, ap}
+use mathlib.Core.Path.{_≡_, refl, sym, _∙_}
 use native.Mathlib.Omega.{arith}
 use borrow.Author.Needs.{needs}
 use borrow.Author.Tests.{eq-eqb, ne-eqb}
 use lib.ListN.{length, getD, take, drop, set, length-append, length-map}
 use lib.Seq.{take-all}
 use Rattle.lists.specs.Written.{Written}
-use Rattle.lists.proofs.Parts.{take-more, part-all}
+use Rattle.lists.proofs.Parts.{take-more}
 use Rattle.lists.proofs.Written.{written-none, written-append, written-cons, written-more, written-length}
 use Rattle.automata.specs.Automaton.{Automaton}
 use Rattle.automata.specs.Records.{writeRecords}

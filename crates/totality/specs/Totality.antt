@@ -1,7 +1,7 @@
 -- `is_nfa`, `totalize` and `complement` on automata (document 01, "Product, totality, complement, emptiness"). `lo` and `hi` are the least and the
 -- greatest symbol.
 use Prim.Native.Nat.{ℕ, _+_}
-use mathlib.Core.Bool.{Bool, true, false, cond, _||_}
+use mathlib.Core.Bool.{Bool, cond, _||_}
 use mathlib.Core.List.{List, [], _∷_, _++_, map, flatMap}
 use lib.Dec.{eqb, ltb}
 use lib.ListN.{length}
