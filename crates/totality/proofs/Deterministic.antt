@@ -1,0 +1,146 @@
+-- When `is_nfa` is false: exactly where every symbol has one transition in every state and no epsilon stands. And the words of the complement.
+use Prim.Native.Nat.{ℕ, suc, _+_, _≤_, _<_}
+use mathlib.Core.Bool.{Bool, true, false, cond, false≢true}
+use mathlib.Core.List.{List, [], _∷_, List·Memᴰ·not-nil, List·Memᴰ·cases-cons}
+use mathlib.Core.Logic.{⊎-elim, _↔_}
+use mathlib.Core.Path.{_≡_, refl, sym, _∙_, ap}
+use native.Mathlib.Nat.{eq-or-lt-of-le}
+use native.Mathlib.Omega.{arith}
+use borrow.Author.Tests.{eqb-true, eqb-false, ltb-false}
+use lib.Dec.{ltb, eqb}
+use lib.ListN.{length, getD, drop}
+use lib.Seq.{getD-drop}
+use Rattle.lists.specs.Lists.{_∈_, any, keep}
+use Rattle.lists.proofs.Tests.{test, or-false}
+use Rattle.lists.proofs.Lists.{any-out}
+use Rattle.automata.specs.Automaton.{Transition, Automaton, Accepts, Word, holds, carries, leaving, rangesOf}
+use Rattle.automata.specs.Records.{readRecords}
+use Rattle.automata.specs.WellFormed.{WellFormed, lastSymbol}
+use Rattle.ranges.specs.Missing.{missing}
+use Rattle.ranges.specs.Span.{overlapping}
+use Rattle.ranges.proofs.Missing.{any-none}
+use Rattle.ranges.proofs.Overlap.{one-each}
+use Rattle.ranges.proofs.Sorting.{leaving-sorted}
+use Rattle.sheets.specs.Accepted.{Accepted}
+use Rattle.sheets.specs.Sheet.{recordsAt, read}
+use Rattle.sheets.proofs.Meaning.{read-well}
+use Rattle.totality.specs.Deterministic.{Deterministic}
+use Rattle.totality.specs.Totality.{states, holesOf, hasEpsilon, isNfaAt, isNfaIn, isNfa, totalized, flipped, complemented}
+use Rattle.totality.proofs.Rows.{leaves, leaving-in}
+use Rattle.totality.proofs.Totalized.{state-in, state-out, totalized-well}
+use Rattle.totality.proofs.Words.{Complete, unranged, held-or-free, totalize-words, flipped-words, own-functional, total-complete, total-functional}
+
+-- the transitions of a state have no epsilon, no overlap and no hole
+pub record Settled (lo hi : ℕ) (es : List Transition) : Type 0 where
+  pub no-epsilon : hasEpsilon es ≡ false
+  pub no-overlap : overlapping (rangesOf es) ≡ false
+  pub no-hole : holesOf lo hi es ≡ []
+
+none-long : {X : Type 0} (l : List X) → ltb 0 (length l) ≡ false → l ≡ []
+none-long [] h = refl
+none-long (x ∷ l) h = absurd (omega (arith, ltb-false 0 (suc (length l)) h))
+
+module _ (lo hi : ℕ) (A : Automaton) where
+  -- `is_nfa` is false exactly where this holds of every state
+  pub nfa-settled : (isNfa lo hi A ≡ false) ↔ ((q : ℕ) → q < A .size → Settled lo hi (leaving A q))
+  unfolding isNfa isNfaIn isNfaAt
+  nfa-settled = (
+    λ h q l.
+        let a = or-false (hasEpsilon (leaving A q)) _ (any-none (λ q. isNfaAt lo hi (leaving A q)) (states (A .size)) h q (state-in (A .size) q l)) in
+        let b = or-false (overlapping (rangesOf (leaving A q))) _ (a .1) in
+        record { no-epsilon = a .0; no-overlap = b .0; no-hole = none-long _ (b .1) },
+    λ f.
+        ⊎-elim
+        (λ (t : isNfa lo hi A ≡ true).
+        let (q, m, k) = any-out (λ q. isNfaAt lo hi (leaving A q)) (states (A .size)) t in
+        let s = f q (state-out (A .size) q m) in
+        absurd (false≢true (sym (settled-not q s) ∙ k)))
+        (λ t. t) (test (isNfa lo hi A)),
+  )
+    where
+      settled-not : (q : ℕ) → Settled lo hi (leaving A q) → isNfaAt lo hi (leaving A q) ≡ false
+      settled-not q s = rw (s .no-epsilon, s .no-overlap, s .no-hole)
+
+  module _ (v : WellFormed A) where
+    own-complete : isNfa lo hi A ≡ false → Complete lo hi A
+    own-complete n =
+        record {
+          next = λ p x h l u. ⊎-elim (λ r. r) (λ (s, m, i). absurd (List·Memᴰ·not-nil (rw (nfa-settled .0 n p h .no-hole) at m))) (held-or-free lo hi A v p x l u);
+        }
+
+    -- where no epsilon and no overlap stood, the complement's words are the others
+    pub complement-words : lo ≤ hi → ((e : Transition) → e ∈ A .transitions → e .kind ≡ 1) → ((q : ℕ) → q < A .size → overlapping (rangesOf (leaving A q)) ≡ false) → (w : List ℕ) → Word lo hi w → Accepts (complemented lo hi A) w ↔ (Accepts A w → ⊥)
+    unfolding complemented
+    complement-words c ranges apart w i = go (isNfa lo hi A) refl
+      where
+        go : (b : Bool) → isNfa lo hi A ≡ b → Accepts (flipped (cond b (totalized lo hi A) A)) w ↔ (Accepts A w → ⊥)
+        go true e =
+            let f = flipped-words lo hi (totalized lo hi A) (totalized-well lo hi A v c) (total-complete lo hi A v) (total-functional lo hi A v ranges apart) w i in
+            (λ a n. f .0 a (totalize-words lo hi A v w .1 n), λ n. f .1 (λ a. n (totalize-words lo hi A v w .0 a)))
+        go false e = flipped-words lo hi A v (own-complete e) (own-functional lo hi A v ranges apart) w i
+
+-- the transitions under a symbol are the ranges of the state that hold it
+carried : (q x : ℕ) (ts : List Transition) → keep (carries q x) ts ≡ keep (holds x) (keep (λ e. eqb (e .kind) 1) (keep (λ e. eqb (e .from) q) ts))
+unfolding keep carries
+carried q x [] = refl
+carried q x (e ∷ ts) =
+    let ih = carried q x ts in
+    ⊎-elim
+    (λ (t : eqb (e .from) q ≡ true). ⊎-elim (λ (u : eqb (e .kind) 1 ≡ true). rw (t, u) (ap (λ l. cond (holds x e) (e ∷ l) l) ih)) (λ (u : eqb (e .kind) 1 ≡ false). rw (t, u) ih) (test (eqb (e .kind) 1)))
+    (λ (t : eqb (e .from) q ≡ false). rw t ih)
+    (test (eqb (e .from) q))
+
+module _ (lo hi : ℕ) (A : Automaton) (v : WellFormed A) (within : (e : Transition) → e ∈ A .transitions → e .kind ≡ 1 → (lo ≤ e .first) × (e .last ≤ hi)) where
+  each : (q : ℕ) → ((overlapping (rangesOf (leaving A q)) ≡ false) × (missing lo hi (rangesOf (leaving A q)) ≡ [])) ↔ ((x : ℕ) → lo ≤ x → x ≤ hi → (d : Transition) × (keep (holds x) (rangesOf (leaving A q)) ≡ d ∷ []))
+  each q = one-each lo hi (rangesOf (leaving A q)) (leaving-sorted A q v) (λ e m. let (i, c, k) = unranged lo hi A v q e m in within e i k)
+
+  held-are : (q x : ℕ) → keep (carries q x) (A .transitions) ≡ keep (holds x) (rangesOf (leaving A q))
+  unfolding rangesOf leaving
+  held-are q x = carried q x (A .transitions)
+
+  -- `is_nfa` is false exactly where every symbol has one transition in every state and no epsilon stands
+  pub nfa-exact : (isNfa lo hi A ≡ false) ↔ Deterministic lo hi A
+  unfolding holesOf hasEpsilon
+  nfa-exact = (
+    λ n. record {
+      no-epsilon = λ e m.
+          let s = nfa-settled lo hi A .0 n (e .from) (v .states .froms e m) in
+          let k = eqb-false (e .kind) 0 (any-none (λ e. eqb (e .kind) 0) (leaving A (e .from)) (s .no-epsilon) e (leaving-in A v (e .from) e m refl)) in
+          ⊎-elim (λ c. c) (λ (c : e .kind < 1). absurd (k (omega arith))) (eq-or-lt-of-le (v .sound e m .known));
+      one = λ q x h l u.
+          let s = nfa-settled lo hi A .0 n q h in
+          let (d, c) = each q .0 (s .no-overlap, s .no-hole) x l u in
+          (d, held-are q x ∙ c);
+    },
+    λ d.
+        nfa-settled lo hi A .1
+        (λ q h.
+        let p = each q .1 (λ x l u. let (t, c) = d .one q x h l u in (t, sym (held-are q x) ∙ c)) in
+        record { no-epsilon = silent d q; no-overlap = p .0; no-hole = p .1 }),
+  )
+    where
+      silent : Deterministic lo hi A → (q : ℕ) → any (λ e. eqb (e .kind) 0) (leaving A q) ≡ false
+      silent d q =
+          ⊎-elim
+          (λ (t : any (λ e. eqb (e .kind) 0) (leaving A q) ≡ true).
+          let (e, m, k) = any-out (λ e. eqb (e .kind) 0) (leaving A q) t in
+          absurd (omega (arith, eqb-true (e .kind) 0 k, d .no-epsilon e (leaves A v q e m .0))))
+          (λ t. t) (test (any (λ e. eqb (e .kind) 0) (leaving A q)))
+
+-- the symbols of a sheet of 32-bit words are at most the last symbol
+records-below : (k : ℕ) (s : List ℕ) → ((i : ℕ) → getD s i 0 ≤ k) → (e : Transition) → e ∈ readRecords s → e .last ≤ k
+unfolding readRecords
+records-below k [] h e m = absurd (List·Memᴰ·not-nil m)
+records-below k (a ∷ []) h e m = absurd (List·Memᴰ·not-nil m)
+records-below k (a ∷ b ∷ []) h e m = absurd (List·Memᴰ·not-nil m)
+records-below k (a ∷ b ∷ c ∷ []) h e m = absurd (List·Memᴰ·not-nil m)
+records-below k (a ∷ b ∷ c ∷ d ∷ []) h e m = absurd (List·Memᴰ·not-nil m)
+records-below k (a ∷ b ∷ c ∷ d ∷ f ∷ s) h e m =
+    ⊎-elim (λ (q : e ≡ record { from = a; kind = b; first = c; last = d; to = f }). rw q (h 3)) (λ n. records-below k s (λ i. h (suc (suc (suc (suc (suc i)))))) e n) (List·Memᴰ·cases-cons m)
+
+pub read-within : (s : List ℕ) → ((i : ℕ) → getD s i 0 ≤ lastSymbol) → (e : Transition) → e ∈ read s .transitions → e .kind ≡ 1 → (0 ≤ e .first) × (e .last ≤ lastSymbol)
+read-within s h e m k = (omega arith, records-below lastSymbol (drop (recordsAt s) s) (λ i. rw (getD-drop (recordsAt s) s i 0) (h (recordsAt s + i))) e m)
+
+-- of a sheet of 32-bit words
+pub sheet-exact : (s : List ℕ) → Accepted s → ((i : ℕ) → getD s i 0 ≤ lastSymbol) → (isNfa 0 lastSymbol (read s) ≡ false) ↔ Deterministic 0 lastSymbol (read s)
+sheet-exact s a h = nfa-exact 0 lastSymbol (read s) (read-well s a) (read-within s h)

@@ -1,0 +1,13 @@
+-- The laws of totality and complement.
+pub mod Left
+pub mod Merging
+pub mod Runs
+pub mod States
+pub mod Rows
+pub mod Writing
+pub mod Answers
+pub mod Totalized
+pub mod Words
+pub mod Deterministic
+pub mod Limits
+pub mod Samples

@@ -1,0 +1,216 @@
+-- The loops over the states of a sheet: laws of `is_nfa_sheet` and `count_holes`, and what a state's run has.
+use Prim.Native.Nat.{ℕ, suc, _+_, _*_, _^_, _≤_, _<_, min, max}
+use mathlib.Core.Bool.{Bool, true, false, _||_}
+use mathlib.Core.List.{List, [], _∷_, flatMap, append-assoc}
+use mathlib.Core.Logic.{⊎-elim}
+use mathlib.Core.Path.{_≡_, refl, sym, _∙_, ap}
+use native.Mathlib.Nat.{suc-mul, mul-le-mul, suc-le-suc-iff}
+use native.Mathlib.Numerals.{add-one}
+use native.Mathlib.Omega.{arith}
+use mir.Syntax.{w64}
+use mir.Val.{Fits}
+use borrow.Author.Needs.{needs}
+use borrow.Author.Tests.{ltb-true, ltb-false}
+use lib.Dec.{ltb, eqb}
+use lib.ListN.{length, take, drop, drop-of-length-le, length-append}
+use lib.Seq.{drop-cons, take-at, length-take-le, sets, sets-eq, length-sets}
+use Rattle.lists.specs.Written.{Written}
+use Rattle.lists.specs.Lists.{any, tabulate}
+use Rattle.lists.proofs.Tests.{test}
+use Rattle.lists.proofs.Lists.{tabulate-at, length-tabulate, length-keep}
+use Rattle.automata.specs.Automaton.{Transition, Automaton, leaving, rangesOf}
+use Rattle.automata.specs.Records.{readRecords, writeRecords}
+use Rattle.automata.proofs.Records.{read-write, length-write}
+use Rattle.automata.specs.WellFormed.{WellFormed}
+use Rattle.ranges.specs.Span.{Span}
+use Rattle.ranges.specs.Missing.{Sorted, missing, gap, scan, spanWords}
+use Rattle.ranges.proofs.Missing.{gap-some, gap-none, missing-scan}
+use Rattle.ranges.proofs.Writing.{words-length}
+use Rattle.ranges.proofs.Sorting.{leaving-sorted}
+use Rattle.sheets.specs.Runs.{RunAt}
+use Rattle.sheets.specs.Sheet.{stateCount, read}
+use Rattle.sheets.proofs.Meaning.{read-well, read-fits}
+use Rattle.sheets.proofs.Runs.{run-at}
+use Rattle.totality.specs.Totality.{states, holesOf, isNfaAt, isNfaIn, isNfa, filled, holesIn}
+use Rattle.totality.specs.Merging.{readSpans, Mergeable, merged, Fillable, Ready}
+
+-- the states from q on
+pub states-at : (n q : ℕ) → q < n → drop q (states n) ≡ q ∷ drop (q + 1) (states n)
+unfolding states
+states-at n q h =
+    drop-cons (tabulate n (λ q. q)) q 0 (rw (length-tabulate n (λ q. q)) h) ∙ ap (λ x. x ∷ drop (suc q) (tabulate n (λ q. q))) (tabulate-at n (λ q. q) q 0 h)
+    ∙ ap (λ k. q ∷ drop k (tabulate n (λ q. q))) (sym (add-one q))
+
+pub states-end : (n q : ℕ) → n ≤ q → drop q (states n) ≡ []
+unfolding states
+states-end n q h = drop-of-length-le (tabulate n (λ q. q)) {i = q} (rw (length-tabulate n (λ q. q)) h)
+
+-- the run of a state of a sheet
+module _ (s starts holes : List ℕ) (r : Ready s starts holes) where
+  pub ready-run : (q : ℕ) → q < stateCount s → RunAt s starts q
+  ready-run q h = run-at s (r .accepted) starts q (r .indexed) h
+
+  module _ (q : ℕ) (run : List ℕ) (e : run ≡ writeRecords (leaving (read s) q)) where
+    pub run-records : readRecords run ≡ leaving (read s) q
+    run-records = ap readRecords e ∙ read-write (leaving (read s) q)
+
+    pub run-sorted : Sorted (rangesOf (readRecords run))
+    run-sorted = rw run-records (leaving-sorted (read s) q (read-well s (r .accepted)))
+
+    run-few : length (readRecords run) ≤ 2048
+    unfolding leaving
+    run-few = omega (arith, ap length run-records, length-keep (λ e. eqb (e .from) q) (read s .transitions), read-fits s (r .accepted) .few-transitions)
+
+    run-short : length run ≤ 10240
+    run-short = omega (arith, ap length e, length-write (leaving (read s) q), ap length run-records, run-few)
+
+    pub run-room : (h : List ℕ) → length h ≡ length holes → 2 * length run + 10 ≤ 5 * length h
+    run-room h l = omega (arith, run-short, r .long)
+
+-- the states from q on decide
+pub nfa-start : (lo hi : ℕ) (A : Automaton) → isNfa lo hi A ≡ isNfaIn lo hi A (drop 0 (states (A .size)))
+unfolding isNfa
+nfa-start lo hi A = refl
+
+module _ (lo hi : ℕ) (s : List ℕ) (q : ℕ) (e : isNfa lo hi (read s) ≡ isNfaIn lo hi (read s) (drop q (states (stateCount s)))) where
+  pub nfa-ended : stateCount s ≤ q → false ≡ isNfa lo hi (read s)
+  unfolding isNfaIn any
+  nfa-ended h = sym (e ∙ rw (states-end (stateCount s) q h))
+
+  module _ (h : q < stateCount s) (run : List ℕ) (w : run ≡ writeRecords (leaving (read s) q)) (b : Bool) (f : b ≡ isNfaAt lo hi (readRecords run)) where
+    nfa-at : isNfa lo hi (read s) ≡ (b || isNfaIn lo hi (read s) (drop (q + 1) (states (stateCount s))))
+    unfolding isNfaIn any
+    nfa-at =
+        let g : b ≡ isNfaAt lo hi (leaving (read s) q) = f ∙ ap (λ l. isNfaAt lo hi (readRecords l)) w ∙ ap (isNfaAt lo hi) (read-write (leaving (read s) q)) in
+        e ∙ rw (states-at (stateCount s) q h, ← g)
+
+    pub nfa-found : b ≡ true → true ≡ isNfa lo hi (read s)
+    nfa-found p = sym (nfa-at ∙ rw p)
+
+    pub nfa-next : b ≡ false → isNfa lo hi (read s) ≡ isNfaIn lo hi (read s) (drop (q + 1) (states (stateCount s)))
+    nfa-next p = nfa-at ∙ rw p
+
+pub ruleset sheetLaws = (nfa-start, nfa-ended, nfa-found, nfa-next, ready-run, run-sorted, run-room, needs)
+
+gap-short : (a b : ℕ) → length (gap a b) ≤ 1
+gap-short a b = ⊎-elim (λ t. rw (gap-some a b (ltb-true a b t)) (omega arith)) (λ t. rw (gap-none a b (ltb-false a b t)) (omega arith)) (test (ltb a b))
+
+-- sorted ranges leave at most one hole more than they are
+scan-short : (c hi : ℕ) (es : List Transition) → length (scan c hi es) ≤ suc (length es)
+unfolding scan
+scan-short c hi [] = gap-short c (suc hi)
+scan-short c hi (e ∷ es) =
+    let b = min (e .first) (suc hi) in
+    let d = max c (suc (e .last)) in
+    omega (arith, length-append (gap c b) (scan d hi es), gap-short c b, scan-short d hi es)
+
+-- a state has at most one hole more than its automaton has transitions
+holes-few : (lo hi : ℕ) (A : Automaton) → WellFormed A → (qs : List ℕ) → length (holesIn lo hi A qs) ≤ length qs * suc (length (A .transitions))
+unfolding holesIn flatMap holesOf
+holes-few lo hi A w [] = omega arith
+holes-few lo hi A w (q ∷ qs) =
+    let es = rangesOf (leaving A q) in
+    omega (
+      arith,
+      length-append (missing lo hi es) (holesIn lo hi A qs),
+      holes-few lo hi A w qs,
+      ap length (missing-scan lo hi es (leaving-sorted A q w)),
+      scan-short lo hi es,
+      ranges-few,
+      suc-mul (length qs) (suc (length (A .transitions))),
+    )
+  where
+    ranges-few : length (rangesOf (leaving A q)) ≤ length (A .transitions)
+    ranges-few = unfold rangesOf leaving in omega (arith, length-keep (λ e. eqb (e .kind) 1) (leaving A q), length-keep (λ e. eqb (e .from) q) (A .transitions))
+
+length-states : (n : ℕ) → length (states n) ≡ n
+unfolding states
+length-states n = length-tabulate n (λ q. q)
+
+-- the holes of a sheet
+pub holes-bound : (lo hi : ℕ) (s starts holes : List ℕ) → Ready s starts holes → length (holesIn lo hi (read s) (states (stateCount s))) ≤ 256 * 2049
+holes-bound lo hi s starts holes r =
+    let n : length (states (stateCount s)) ≤ 256 = rw (length-states (stateCount s)) (r .accepted .few-states) in
+    let few = mul-le-mul {n₁ = length (states (stateCount s))} {m₁ = suc (length (read s .transitions))} {n₂ = 256} {m₂ = 2049} n (suc-le-suc-iff .1 (read-fits s (r .accepted) .few-transitions)) in
+    omega (arith, few, holes-few lo hi (read s) (read-well s (r .accepted)) (states (stateCount s)))
+
+-- the holes of the states below q are counted
+pub count-start : (lo hi : ℕ) (A : Automaton) → 0 + length (holesIn lo hi A (drop 0 (states (A .size)))) ≡ length (holesIn lo hi A (states (A .size)))
+count-start lo hi A = omega arith
+
+module _ (lo hi : ℕ) (s : List ℕ) (count q : ℕ) (e : count + length (holesIn lo hi (read s) (drop q (states (stateCount s)))) ≡ length (holesIn lo hi (read s) (states (stateCount s)))) where
+  pub count-ended : stateCount s ≤ q → count ≡ length (holesIn lo hi (read s) (states (stateCount s)))
+  unfolding holesIn flatMap
+  count-ended h = let z : length (holesIn lo hi (read s) (drop q (states (stateCount s)))) ≡ 0 = rw (states-end (stateCount s) q h) in omega arith
+
+  module _ (h : q < stateCount s) (run : List ℕ) (w : run ≡ writeRecords (leaving (read s) q)) (k : ℕ) (f : k ≡ length (missing lo hi (rangesOf (readRecords run)))) where
+    pub count-next : count + k + length (holesIn lo hi (read s) (drop (q + 1) (states (stateCount s)))) ≡ length (holesIn lo hi (read s) (states (stateCount s)))
+    unfolding holesIn flatMap holesOf
+    count-next =
+        let g : k ≡ length (missing lo hi (rangesOf (leaving (read s) q))) = f ∙ ap (λ l. length (missing lo hi (rangesOf (readRecords l)))) w ∙ ap (λ l. length (missing lo hi (rangesOf l))) (read-write (leaving (read s) q)) in
+        let m = ap (λ l. length (holesIn lo hi (read s) l)) (states-at (stateCount s) q h) in
+        omega (arith, m, length-append (missing lo hi (rangesOf (leaving (read s) q))) (holesIn lo hi (read s) (drop (q + 1) (states (stateCount s)))))
+
+    pub count-fits : (starts holes : List ℕ) → Ready s starts holes → Fits w64 (count + k)
+    count-fits starts holes r = record { fits = omega (arith, count-next, holes-bound lo hi s starts holes r) }
+
+pub ruleset countLaws = (count-start, count-ended, count-next, count-fits, ready-run, run-sorted, run-room, needs)
+
+-- spans as words, and read again
+read-spans : (hs : List Span) → readSpans (spanWords hs) ≡ hs
+unfolding readSpans spanWords
+read-spans [] = refl
+read-spans (s ∷ hs) = ap (λ l. s ∷ l) (read-spans hs)
+
+-- the holes of a run are found and stand at the front of h′
+module _ (lo hi sink q : ℕ) (run h h′ : List ℕ) (f : Fillable lo hi sink q run h) (k : ℕ) (e : k ≡ length (missing lo hi (rangesOf (readRecords run))))
+    (w : h′ ≡ sets h 0 (spanWords (missing lo hi (rangesOf (readRecords run))))) where
+  hs : List Span
+  hs = missing lo hi (rangesOf (readRecords run))
+
+  half-room : 2 * k ≤ length h
+  unfolding rangesOf
+  half-room =
+      omega (
+        arith,
+        f .room,
+        f .whole,
+        e,
+        ap length (missing-scan lo hi (rangesOf (readRecords run)) (f .sorted)),
+        scan-short lo hi (rangesOf (readRecords run)),
+        length-keep (λ e. eqb (e .kind) 1) (readRecords run),
+      )
+
+  pub half-within : 2 * k ≤ length h′
+  half-within = omega (arith, half-room, ap length w, length-sets h 0 (spanWords (missing lo hi (rangesOf (readRecords run)))))
+
+  pub half-fits : length h < 2 ^ 64 → Fits w64 (2 * k)
+  half-fits l = record { fits = omega (arith, half-room) }
+
+  pub half-length : 2 * k ≡ length (take (2 * k) h′)
+  half-length = sym (length-take-le (2 * k) h′ half-within)
+
+  half-words : take (2 * k) h′ ≡ spanWords hs
+  unfolding hs
+  half-words =
+      let n : length (spanWords hs) ≡ 2 * k = omega (arith, words-length hs, e) in
+      rw (w, sets-eq (spanWords hs) h 0 (omega (arith, half-room)), append-assoc [] (spanWords hs) (drop (0 + length (spanWords hs)) h)) (take-at (spanWords hs) _ (2 * k) n)
+
+  half-spans : readSpans (take (2 * k) h′) ≡ holesOf lo hi (readRecords run)
+  unfolding hs holesOf
+  half-spans = rw half-words (read-spans hs)
+
+  pub half-mergeable : Mergeable sink q (readRecords run) (readSpans (take (2 * k) h′))
+  half-mergeable = rw half-spans (f .mergeable)
+
+  half-merged : merged sink q run (take (2 * k) h′) ≡ filled lo hi sink q (readRecords run)
+  unfolding merged filled
+  half-merged = rw half-spans
+
+  pub half-room-out : (o : List ℕ) (at : ℕ) → at + length (writeRecords (filled lo hi sink q (readRecords run))) ≤ length o → at + length (writeRecords (merged sink q run (take (2 * k) h′))) ≤ length o
+  half-room-out o at r = rw half-merged r
+
+  pub half-written : (o o′ : List ℕ) (at end : ℕ) → Written o at (writeRecords (merged sink q run (take (2 * k) h′))) o′ end → Written o at (writeRecords (filled lo hi sink q (readRecords run))) o′ end
+  half-written o o′ at end v = rw half-merged at v
+
+pub ruleset filledLaws = (half-within, half-fits, half-length, half-mergeable, half-room-out, half-written, needs)

@@ -1,0 +1,208 @@
+-- The words of totalized and of complemented automata, against runs.
+use Prim.Native.Nat.{ℕ, _≤_, _<_}
+use mathlib.Core.Bool.{true, false, false≢true}
+use mathlib.Core.List.{List, [], _∷_, List·Memᴰ·cases-cons}
+use mathlib.Core.Logic.{_⊎_, inl, inr, ⊎-elim, _↔_}
+use mathlib.Core.Path.{_≡_, refl, sym, _∙_, ap, subst}
+use native.Mathlib.Nat.{eq-or-lt-of-le}
+use native.Mathlib.Omega.{arith}
+use borrow.Author.Tests.{eqb-true, eqb-false, ltb-true, ltb-false, ne-eqb}
+use lib.Dec.{ltb, eqb}
+use lib.ListN.{length, getD, List·getD-eq-default}
+use Rattle.lists.specs.Lists.{_∈_, any}
+use Rattle.lists.proofs.Tests.{test}
+use Rattle.lists.proofs.Lists.{any-out, keep-out}
+use Rattle.automata.specs.Automaton.{Transition, Automaton, Run, stay, skip, read, Accepts, Word, none, more, holds, leaving, rangesOf}
+use Rattle.automata.specs.WellFormed.{WellFormed}
+use Rattle.ranges.specs.Missing.{Within}
+use Rattle.ranges.specs.Span.{Span, overlapping, Shared}
+use Rattle.ranges.proofs.Missing.{held, holds-ends, any-none}
+use Rattle.ranges.proofs.Overlap.{overlap-shared}
+use Rattle.ranges.proofs.Sorting.{leaving-sorted}
+use Rattle.totality.specs.Totality.{holesOf, holeTo, loopOn, totalized, otherWord, flipped}
+use Rattle.totality.proofs.Rows.{leaves, leaving-in, ranged, state-holes}
+use Rattle.totality.proofs.Totalized.{Origin, kept, hole, loop, origin, kept-in, hole-in, loop-in, accept-same, accept-zero, other-at}
+
+-- a run goes through in an automaton that has all the transitions
+run-more : {A B : Automaton} → ((e : Transition) → e ∈ A .transitions → e ∈ B .transitions) → {p q : ℕ} {w : List ℕ} → Run A p w q → Run B p w q
+run-more f stay = stay
+run-more f (skip e m c k r) = skip e (f e m) c k (run-more f r)
+run-more f (read e m c k l u r) = read e (f e m) c k l u (run-more f r)
+
+-- an accepting state is one of the accept words
+accepting : (l : List ℕ) (q : ℕ) → 0 < getD l q 0 → q < length l
+accepting l q h = ⊎-elim (λ t. ltb-true q (length l) t) (λ t. absurd (omega (arith, List·getD-eq-default l 0 {n = q} (ltb-false q (length l) t)))) (test (ltb q (length l)))
+
+-- a run stays among the states
+run-in : {A : Automaton} → WellFormed A → {p q : ℕ} {w : List ℕ} → Run A p w q → p < A .size → q < A .size
+run-in v stay h = h
+run-in v (skip e m c k r) h = run-in v r (v .states .tos e m)
+run-in v (read e m c k l u r) h = run-in v r (v .states .tos e m)
+
+module _ (lo hi : ℕ) (A : Automaton) (v : WellFormed A) where
+  sink-to : (e : Transition) → Origin lo hi A e → e .from ≡ A .size → e .to ≡ A .size
+  sink-to e (kept m) c = absurd (omega (arith, v .states .froms e m))
+  sink-to e (hole q h l m d) c = rw d
+  sink-to e (loop d) c = rw d
+
+  -- no run leaves the sink
+  sink-stays : {p q : ℕ} {w : List ℕ} → Run (totalized lo hi A) p w q → p ≡ A .size → q ≡ A .size
+  sink-stays stay h = h
+  sink-stays (skip e m c k r) h = sink-stays r (sink-to e (origin lo hi A v e m) (c ∙ h))
+  sink-stays (read e m c k l u r) h = sink-stays r (sink-to e (origin lo hi A v e m) (c ∙ h))
+
+  back-skip : {p q : ℕ} {w : List ℕ} (e : Transition) → Origin lo hi A e → e .from ≡ p → e .kind ≡ 0 → (e .to < A .size → Run A (e .to) w q ⊎ (q ≡ A .size)) → Run A p w q ⊎ (q ≡ A .size)
+  back-skip e (kept m) c k ih = ⊎-elim (λ s. inl (skip e m c k s)) inr (ih (v .states .tos e m))
+  back-skip e (hole q h l m d) c k ih = absurd (omega (arith, sym k ∙ ap (λ (t : Transition). t .kind) d))
+  back-skip e (loop d) c k ih = absurd (omega (arith, sym k ∙ ap (λ (t : Transition). t .kind) d))
+
+  back-read : {p q a : ℕ} {w : List ℕ} (e : Transition) → Origin lo hi A e → p < A .size → e .from ≡ p → e .kind ≡ 1 → e .first ≤ a → a ≤ e .last
+      → (e .to < A .size → Run A (e .to) w q ⊎ (q ≡ A .size)) → (e .to ≡ A .size → q ≡ A .size) → Run A p (a ∷ w) q ⊎ (q ≡ A .size)
+  back-read e (kept m) h c k l u ih s = ⊎-elim (λ r. inl (read e m c k l u r)) inr (ih (v .states .tos e m))
+  back-read e (hole q g n m d) h c k l u ih s = inr (s (ap (λ (t : Transition). t .to) d))
+  back-read e (loop d) h c k l u ih s = inr (s (ap (λ (t : Transition). t .to) d))
+
+  -- a run from a state that was there ends in the sink, or was a run before
+  run-back : {p q : ℕ} {w : List ℕ} → Run (totalized lo hi A) p w q → p < A .size → Run A p w q ⊎ (q ≡ A .size)
+  run-back stay h = inl stay
+  run-back (skip e m c k r) h = back-skip e (origin lo hi A v e m) c k (run-back r)
+  run-back (read e m c k l u r) h = back-read e (origin lo hi A v e m) h c k l u (run-back r) (sink-stays r)
+
+  -- totalizing keeps the words
+  pub totalize-words : (w : List ℕ) → Accepts (totalized lo hi A) w ↔ Accepts A w
+  unfolding totalized
+  totalize-words w = (
+    λ (q, r, a).
+        ⊎-elim
+        (λ (s : Run A (A .start) w q).
+        let l : q < length (A .accept) = rw (v .accepts) (run-in v s (v .states .starts)) in
+        (q, s, rw (accept-same (A .accept) q l) at a))
+        (λ (e : q ≡ A .size). absurd (omega (arith, a, accept-zero (A .accept) q (omega (arith, v .accepts)))))
+        (run-back r (v .states .starts)),
+    λ (q, r, a). (q, run-more (λ e m. kept-in lo hi A v m) r, rw (accept-same (A .accept) q (accepting (A .accept) q a)) a),
+  )
+
+-- every symbol from lo to hi has a transition in every state
+pub record Complete (lo hi : ℕ) (B : Automaton) : Type 0 where
+  pub next : (p x : ℕ) → p < B .size → lo ≤ x → x ≤ hi → (e : Transition) × e ∈ B .transitions × (e .from ≡ p) × (e .kind ≡ 1) × (e .first ≤ x) × (x ≤ e .last)
+
+-- there is no epsilon, and no symbol leads from a state to two
+pub record Functional (B : Automaton) : Type 0 where
+  pub ranges : (e : Transition) → e ∈ B .transitions → e .kind ≡ 1
+  pub single : (d e : Transition) (x : ℕ) → d ∈ B .transitions → e ∈ B .transitions → d .from ≡ e .from → holds x d ≡ true → holds x e ≡ true → d .to ≡ e .to
+
+run-unique : {B : Automaton} → Functional B → {p q q′ : ℕ} {w : List ℕ} → Run B p w q → Run B p w q′ → q ≡ q′
+run-unique f stay stay = refl
+run-unique f stay (skip e m c k r) = absurd (omega (arith, f .ranges e m))
+run-unique f (skip e m c k r) s = absurd (omega (arith, f .ranges e m))
+run-unique f (read e m c k l u r) (skip d n b j s) = absurd (omega (arith, f .ranges d n))
+run-unique {B} f {q′ = q′} (read {a = a} {w = w} e m c k l u r) (read d n b j g h s) =
+    let t : d .to ≡ e .to = f .single d e a n m (b ∙ sym c) (held a d g h) (held a e l u) in
+    run-unique f r (subst (λ y. Run B y w q′) t s)
+
+run-exists : {lo hi : ℕ} {B : Automaton} → WellFormed B → Complete lo hi B → {w : List ℕ} → Word lo hi w → (p : ℕ) → p < B .size → (q : ℕ) × Run B p w q × (q < B .size)
+run-exists v c none p h = (p, stay, h)
+run-exists v c (more {a} l u i) p h =
+    let (e, m, f, k, x, y) = c .next p a h l u in
+    let (q, r, g) = run-exists v c i (e .to) (v .states .tos e m) in
+    (q, read e m f k x y r, g)
+
+-- flipping acceptance gives the other words, where each has one run
+pub flipped-words : (lo hi : ℕ) (B : Automaton) → WellFormed B → Complete lo hi B → Functional B → (w : List ℕ) → Word lo hi w → Accepts (flipped B) w ↔ (Accepts B w → ⊥)
+unfolding flipped
+flipped-words lo hi B v c f w i = (
+  λ (q, r, a) (q′, r′, a′).
+      let e : q ≡ q′ = run-unique f (run-more (λ e m. m) r) r′ in
+      let b : 0 < getD (B .accept) q 0 = rw e a′ in
+      let z : otherWord (getD (B .accept) q 0) ≡ 0 = rw (ne-eqb (getD (B .accept) q 0) 0 (λ z. omega arith)) in
+      omega (arith, a, other-at (B .accept) q (accepting (B .accept) q b)),
+  λ n.
+      let (q, r, h) = run-exists v c i (B .start) (v .states .starts) in
+      let l : q < length (B .accept) = rw (v .accepts) h in
+      ⊎-elim
+      (λ (t : eqb (getD (B .accept) q 0) 0 ≡ true).
+      let o : otherWord (getD (B .accept) q 0) ≡ 1 = rw t in
+      (q, run-more (λ e m. m) r, omega (arith, other-at (B .accept) q l)))
+      (λ (t : eqb (getD (B .accept) q 0) 0 ≡ false). absurd (n (q, r, omega (arith, eqb-false (getD (B .accept) q 0) 0 t))))
+      (test (eqb (getD (B .accept) q 0) 0)),
+)
+
+-- members that hold the same symbol are one, where none is shared
+same-member : (x : ℕ) (d e : Transition) (es : List Transition) → (Shared es → ⊥) → d ∈ es → e ∈ es → holds x d ≡ true → holds x e ≡ true → d ≡ e
+same-member x d e [] n a b h k = elim a [ ]
+same-member x d e (c ∷ es) n a b h k =
+    ⊎-elim
+    (λ (p : d ≡ c).
+    ⊎-elim (λ (q : e ≡ c). p ∙ sym q) (λ m. absurd (n (Shared.first e x m (rw p at h) k))) (List·Memᴰ·cases-cons b))
+    (λ m.
+    ⊎-elim (λ (q : e ≡ c). absurd (n (Shared.first d x m (rw q at k) h))) (λ l. same-member x d e es (λ s. n (Shared.later s)) m l h k) (List·Memᴰ·cases-cons b))
+    (List·Memᴰ·cases-cons a)
+
+module _ (lo hi : ℕ) (A : Automaton) (v : WellFormed A) where
+  pub unranged : (q : ℕ) (e : Transition) → e ∈ rangesOf (leaving A q) → e ∈ A .transitions × (e .from ≡ q) × (e .kind ≡ 1)
+  unfolding rangesOf
+  unranged q e m = let k = keep-out (λ e. eqb (e .kind) 1) e (leaving A q) m in let l = leaves A v q e (k .0) in (l .0, l .1, eqb-true _ _ (k .1))
+
+  -- a symbol of a hole is held by no range of the state
+  free-symbol : (q : ℕ) (h : Span) → h ∈ holesOf lo hi (leaving A q) → (x : ℕ) → h .low ≤ x → x ≤ h .high → (e : Transition) → e ∈ A .transitions → e .from ≡ q → e .kind ≡ 1 → holds x e ≡ false
+  free-symbol q h m x l u e n c k = state-holes A v q lo hi .exact x .0 (h, m, record { above = l; below = u }) .2 e (ranged A v q e (leaving-in A v q e n c) k)
+
+  -- a symbol has a transition in a state, or lies in a hole
+  pub held-or-free : (p x : ℕ) → lo ≤ x → x ≤ hi
+      → ((e : Transition) × e ∈ A .transitions × (e .from ≡ p) × (e .kind ≡ 1) × (e .first ≤ x) × (x ≤ e .last)) ⊎ Within x (holesOf lo hi (leaving A p))
+  held-or-free p x l u =
+      ⊎-elim
+      (λ (t : any (holds x) (rangesOf (leaving A p)) ≡ true).
+      let (e, m, k) = any-out (holds x) (rangesOf (leaving A p)) t in
+      let (i, c, j) = unranged p e m in
+      let b = holds-ends x e k in
+      inl (e, i, c, j, b .0, b .1))
+      (λ (t : any (holds x) (rangesOf (leaving A p)) ≡ false). inr (state-holes A v p lo hi .exact x .1 (l, u, any-none (holds x) (rangesOf (leaving A p)) t)))
+      (test (any (holds x) (rangesOf (leaving A p))))
+
+  pub total-complete : Complete lo hi (totalized lo hi A)
+  unfolding totalized
+  total-complete = record { next = λ p x h l u. ⊎-elim (λ (e : p ≡ A .size). (loopOn lo hi (A .size), loop-in lo hi A v, sym e, refl, l, u)) (λ g. inside p x g l u) (eq-or-lt-of-le {n = p} {m = A .size} (omega arith)) }
+    where
+      inside : (p x : ℕ) → p < A .size → lo ≤ x → x ≤ hi → (e : Transition) × e ∈ totalized lo hi A .transitions × (e .from ≡ p) × (e .kind ≡ 1) × (e .first ≤ x) × (x ≤ e .last)
+      inside p x g l u =
+          ⊎-elim (λ (e, m, c, k, f, g). (e, kept-in lo hi A v m, c, k, f, g)) (λ (h, m, i). (holeTo (A .size) p h, hole-in lo hi A v p h g m, refl, refl, i .above, i .below))
+          (held-or-free p x l u)
+
+  module _ (ranges : (e : Transition) → e ∈ A .transitions → e .kind ≡ 1) (apart : (q : ℕ) → q < A .size → overlapping (rangesOf (leaving A q)) ≡ false) where
+    pub own-functional : Functional A
+    own-functional =
+        record {
+          ranges = ranges;
+          single = λ d e x m n c h k.
+              let q = d .from in
+              let none : Shared (rangesOf (leaving A q)) → ⊥ = λ s. false≢true (sym (apart q (v .states .froms d m)) ∙ overlap-shared (rangesOf (leaving A q)) (leaving-sorted A q v) .1 s) in
+              ap (λ (t : Transition). t .to) (same-member x d e (rangesOf (leaving A q)) none (ranged A v q d (leaving-in A v q d m refl) (ranges d m)) (ranged A v q e (leaving-in A v q e n (sym c)) (ranges e n)) h k);
+        }
+
+    pub total-functional : Functional (totalized lo hi A)
+    total-functional = record { ranges = λ e m. one e (origin lo hi A v e m); single = λ d e x m n c h k. same d e x (origin lo hi A v d m) (origin lo hi A v e n) c h k }
+      where
+        one : (e : Transition) → Origin lo hi A e → e .kind ≡ 1
+        one e (kept m) = ranges e m
+        one e (hole q h l m c) = rw c
+        one e (loop c) = rw c
+
+        mixed : (d e : Transition) (x : ℕ) → d ∈ A .transitions → Origin lo hi A e → ((q : ℕ) (h : Span) → h ∈ holesOf lo hi (leaving A q) → e ≡ holeTo (A .size) q h → d .from ≡ e .from → holds x d ≡ true → holds x e ≡ true → ⊥) → d .from ≡ e .from → holds x d ≡ true → holds x e ≡ true → d .to ≡ e .to
+        mixed d e x m (kept n) f c h k = own-functional .single d e x m n c h k
+        mixed d e x m (hole q g l n b) f c h k = absurd (f q g n b c h k)
+        mixed d e x m (loop b) f c h k = absurd (omega (arith, v .states .froms d m, c ∙ ap (λ (t : Transition). t .from) b))
+
+        clash : (d e : Transition) (x : ℕ) → d ∈ A .transitions → (q : ℕ) (h : Span) → h ∈ holesOf lo hi (leaving A q) → e ≡ holeTo (A .size) q h → d .from ≡ e .from → holds x d ≡ true → holds x e ≡ true → ⊥
+        clash d e x m q h n b c i k =
+            let j = holds-ends x (holeTo (A .size) q h) (rw b at k) in
+            false≢true (sym (free-symbol q h n x (j .0) (j .1) d m (c ∙ ap (λ (t : Transition). t .from) b) (ranges d m)) ∙ i)
+
+        same : (d e : Transition) (x : ℕ) → Origin lo hi A d → Origin lo hi A e → d .from ≡ e .from → holds x d ≡ true → holds x e ≡ true → d .to ≡ e .to
+        same d e x (kept m) o c h k = mixed d e x m o (clash d e x m) c h k
+        same d e x (hole q g l n b) (kept m) c h k = sym (mixed e d x m (hole q g l n b) (clash e d x m) (sym c) k h)
+        same d e x (hole q g l n b) (hole p f i j a) c h k = rw (b, a)
+        same d e x (hole q g l n b) (loop a) c h k = rw (b, a)
+        same d e x (loop b) (kept m) c h k = sym (mixed e d x m (loop b) (clash e d x m) (sym c) k h)
+        same d e x (loop b) (hole p f i j a) c h k = rw (b, a)
+        same d e x (loop b) (loop a) c h k = rw (b, a)

@@ -1,0 +1,21 @@
+-- `copy_words` meets its contract: `i` words are written.
+use Prim.Native.Nat.{_+_, _-_, _≤_}
+use mathlib.Core.Path.{_≡_}
+use lib.ListN.{length, take}
+use Rattle.lists.specs.Written.{Written}
+use Rattle.labels.proofs.Putting.{copyLaws}
+use Rattle.totality.proofs.copy_words.Statement.{statement}
+use Rattle.totality.proofs.copy_words.Tie as tie
+
+abbrev Inv-loop : tie.InvT-loop
+Inv-loop out₀ at words end₀ i₀ out end i = (i ≤ length words) × (end ≡ at + i) × (length out ≡ length out₀) × Written out₀ at (take i words) out end
+
+abbrev μ-loop : tie.MeasureT-loop
+μ-loop out₀ at words end₀ i₀ out end i = length words - i
+
+pub copy-words-spec : {M : Type 1} → statement M
+copy-words-spec =
+    tie.close
+    (tie.spec Inv-loop μ-loop (λ c. search copyLaws) (λ c. search copyLaws) (λ c. search copyLaws) (λ c. search copyLaws)
+    (λ c. search copyLaws) (λ c. search copyLaws) (λ c. search copyLaws) (λ c. search copyLaws) (λ c. search copyLaws)
+    (λ c. search copyLaws) (λ c. search copyLaws))

@@ -1,0 +1,13 @@
+-- `make_total` meets its contract: 21, 22, or the totalized sheet and its labels.
+use Rattle.totality.proofs.Answers.{totalMadeLaws}
+use Rattle.totality.proofs.make_total.Statement.{statement}
+use Rattle.totality.proofs.make_total.Tie as tie
+
+pub make-total-spec : {M : Type 1} → statement M
+make-total-spec =
+    tie.close
+    (tie.spec (λ c. search totalMadeLaws) (λ c. search totalMadeLaws) (λ c. search totalMadeLaws) (λ c. search totalMadeLaws)
+    (λ c. search totalMadeLaws) (λ c. search totalMadeLaws) (λ c. search totalMadeLaws) (λ c κs. search totalMadeLaws)
+    (λ c. search totalMadeLaws) (λ c. search totalMadeLaws) (λ c. search totalMadeLaws) (λ c. search totalMadeLaws)
+    (λ c. search totalMadeLaws) (λ c κs. search totalMadeLaws) (λ c κs. search totalMadeLaws) (λ c. search totalMadeLaws)
+    (λ c. search totalMadeLaws) (λ c. search totalMadeLaws) (λ c. search totalMadeLaws))

@@ -1,0 +1,5 @@
+-- Totality and complement: the operations on automata, their answers, and what their code is told by.
+pub mod Totality
+pub mod Answers
+pub mod Merging
+pub mod Deterministic
