@@ -45,6 +45,7 @@ fn are_rows(rows: &[u64], n: usize, case: &[u32], at: usize) -> bool
     next == case.len()
 }
 
+// Whether the case has, behind the accepted sheet, the closures of its states.
 fn closures_of(sheet: &[u32], case: &[u32]) -> bool
     requires { ⌜ Accepted (now sheet) ⌝ }
 {
@@ -54,6 +55,7 @@ fn closures_of(sheet: &[u32], case: &[u32]) -> bool
     are_rows(&rows, n, case, 1 + sheet.len())
 }
 
+// The sheet, then for each state its closure as a list.
 pub fn of_sheet(case: &[u32]) -> bool {
     let sheet = replay::list(case, 0);
     match sheets::check(sheet) {

@@ -37,8 +37,8 @@ fn common(case: &[u32]) -> bool {
     }
 }
 
-// Stores a sheet of 64 states that has the given ranges from state 0 to states 0, 1 and so on; answers its length, or 0 where there
-// are over 64 ranges.
+// Stores a sheet of 64 states that has the given ranges from state 0 to states 0, 1 and so on, so that equal ranges are different records;
+// answers its length, or 0 where there are over 64 ranges.
 fn put_sheet(pairs: &[u32], sheet: &mut [u32]) -> usize
     requires { ⌜ 388 ≤ length (now sheet) ⌝ }
     ensures { λ r. ⌜ r ≤ 388 ⌝ }

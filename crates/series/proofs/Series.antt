@@ -1,14 +1,13 @@
 -- Laws of the test of a series, as its functions ask them: what the answer for a line says of the result.
 use Prim.Native.Nat.{ℕ, _-_, _≤_, _<_}
 use mathlib.Core.List.{List}
-use mathlib.Core.Option.{Option, none, some}
-use mathlib.Core.Path.{_≡_, refl, sym, _∙_, ap}
+use mathlib.Core.Option.{none, some}
+use mathlib.Core.Path.{_≡_, sym, _∙_, ap}
 use native.Mathlib.Omega.{arith}
 use borrow.Author.Needs.{needs}
 use borrow.Author.Tests.{le-leb, lt-leb, lt-ltb, le-ltb, eq-eqb, ne-eqb}
 use lib.ListN.{length, take}
 use lib.Seq.{sets}
-use Rattle.refusal.specs.Answer.{Answer}
 use Rattle.replay.specs.Lines.{Line, answer, lineAt}
 use Rattle.replay.specs.declared.Numbers.{Numbers}
 use Rattle.replay.specs.declared.Numbers.the-variants.{Stored, TooMany, Malformed}

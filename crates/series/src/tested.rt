@@ -1,6 +1,5 @@
 // The answer for the bytes of a sheet and a series.
 ghost use mathlib.Core.Path.{_≡_};
-ghost use Rattle.replay.specs.Lines.{answer, lineAt};
 ghost use Rattle.series.specs.Series.{testedOf, withSeries, seriesOf};
 use replay::Numbers;
 use words::Acceptance;
