@@ -1,5 +1,6 @@
 -- The replies of the C functions. Of a function with one answer: the refusal's number and what was lent for the answer unchanged, or 0 and the answer.
 use Prim.Native.Nat.{ℕ}
+use mathlib.Core.Bool.{Bool, true, false}
 use mathlib.Core.List.{List}
 use Rattle.output.specs.Output.{Lengths, Output}
 use Rattle.refusal.specs.Answer.{Answer, refused, given}
@@ -14,6 +15,12 @@ replied code answer = record { code = code; answer = answer }
 abbrev pub reply : ℕ → Answer ℕ → Reply
 reply old (refused n) = replied n old
 reply old (given k) = replied 0 k
+
+-- a yes is 1, a no 0
+abbrev pub replyBit : ℕ → Answer Bool → Reply
+replyBit old (refused n) = replied n old
+replyBit old (given true) = replied 0 1
+replyBit old (given false) = replied 0 0
 
 -- the reply of a function with two outputs: the lengths too are unchanged after a refusal
 pub record Built : Type 0 where
