@@ -7,6 +7,7 @@
 // compare --emit text --seed 1 --count 400
 // compare --emit ranges --seed 1 --count 400
 // compare --emit closures --seed 1 --count 400
+// compare --emit determinize --seed 1 --count 200
 ghost use mathlib.Core.Path.{_≡_};
 ghost use Prim.Native.Nat.{_+_, _<_};
 use libc::STDOUT_FILENO;
@@ -15,6 +16,7 @@ use replay::Tally;
 mod acceptance;
 mod closures;
 mod inputs;
+mod operations;
 mod symbols;
 
 enum Kind {
@@ -24,6 +26,7 @@ enum Kind {
     Text,
     Ranges,
     Closures,
+    Determinize,
 }
 
 // Whether the answer in a case is the one that the port gives.
@@ -35,6 +38,7 @@ fn agrees(kind: Kind, case: &[u32]) -> bool {
         Kind::Text => acceptance::text(case),
         Kind::Ranges => symbols::ranges_of(case),
         Kind::Closures => closures::of_sheet(case),
+        Kind::Determinize => operations::determinized(case),
     }
 }
 
@@ -81,4 +85,5 @@ fn main() {
     replay_file(Kind::Text, b"text");
     replay_file(Kind::Ranges, b"ranges");
     replay_file(Kind::Closures, b"closures");
+    replay_file(Kind::Determinize, b"determinize");
 }

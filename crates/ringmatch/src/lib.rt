@@ -76,7 +76,14 @@ pub extern "C" fn ringmatch_determinize(
 // A sheet with a sink to which each state's holes lead, and its labels with `sink` behind them. Outputs as for `ringmatch_determinize`.
 // Refusals: 20, 1 to 6, 10, 21, 22.
 #[no_mangle]
-pub extern "C" fn ringmatch_totalize(sheet: &[u32], labels: &[u8], out: &mut [u32], names: &mut [u8], words: &mut u64, bytes: &mut u64) -> u32
+pub extern "C" fn ringmatch_totalize(
+    sheet: &[u32],
+    labels: &[u8],
+    out: &mut [u32],
+    names: &mut [u8],
+    words: &mut u64,
+    bytes: &mut u64,
+) -> u32
     ensures { λ code. ⌜ built code (now (words .exit)) (now (bytes .exit)) (now (out .exit)) (now (names .exit)) ≡ buildReply (now (words .entry)) (now (bytes .entry)) (outputs (now (out .entry)) (now (names .entry)) (roomFirst (now (out .entry)) (now (names .entry)) (totalizeAnswer 0 4294967295 (now (sheet .entry)) (now (labels .entry))))) ⌝ }
 {
     reply_made(totality::totalize(sheet, labels, out, names), words, bytes)
@@ -85,18 +92,40 @@ pub extern "C" fn ringmatch_totalize(sheet: &[u32], labels: &[u8], out: &mut [u3
 // A sheet, totalized only if `ringmatch_is_nfa`, with acceptance flipped, and its labels. Outputs as for `ringmatch_determinize`.
 // Refusals: 20, 1 to 6, 10, 21, 22.
 #[no_mangle]
-pub extern "C" fn ringmatch_complement(sheet: &[u32], labels: &[u8], out: &mut [u32], names: &mut [u8], words: &mut u64, bytes: &mut u64) -> u32
+pub extern "C" fn ringmatch_complement(
+    sheet: &[u32],
+    labels: &[u8],
+    out: &mut [u32],
+    names: &mut [u8],
+    words: &mut u64,
+    bytes: &mut u64,
+) -> u32
     ensures { λ code. ⌜ built code (now (words .exit)) (now (bytes .exit)) (now (out .exit)) (now (names .exit)) ≡ buildReply (now (words .entry)) (now (bytes .entry)) (outputs (now (out .entry)) (now (names .entry)) (roomFirst (now (out .entry)) (now (names .entry)) (complementAnswer 0 4294967295 (now (sheet .entry)) (now (labels .entry))))) ⌝ }
 {
-    reply_made(totality::complement(sheet, labels, out, names), words, bytes)
+    reply_made(
+        totality::complement(sheet, labels, out, names),
+        words,
+        bytes,
+    )
 }
 
 // A sheet without epsilons that accepts the same words, and its labels. Outputs as for `ringmatch_determinize`. Refusals: 20, 1 to 6, 10, 22.
 #[no_mangle]
-pub extern "C" fn ringmatch_epsilon_eliminate(sheet: &[u32], labels: &[u8], out: &mut [u32], names: &mut [u8], words: &mut u64, bytes: &mut u64) -> u32
+pub extern "C" fn ringmatch_epsilon_eliminate(
+    sheet: &[u32],
+    labels: &[u8],
+    out: &mut [u32],
+    names: &mut [u8],
+    words: &mut u64,
+    bytes: &mut u64,
+) -> u32
     ensures { λ code. ⌜ built code (now (words .exit)) (now (bytes .exit)) (now (out .exit)) (now (names .exit)) ≡ buildReply (now (words .entry)) (now (bytes .entry)) (outputs (now (out .entry)) (now (names .entry)) (roomFirst (now (out .entry)) (now (names .entry)) (eliminateAnswer (now (sheet .entry)) (now (labels .entry))))) ⌝ }
 {
-    reply_made(epsilon::epsilon_eliminate(sheet, labels, out, names), words, bytes)
+    reply_made(
+        epsilon::epsilon_eliminate(sheet, labels, out, names),
+        words,
+        bytes,
+    )
 }
 
 // The number of the refusal, or 0 with the answer stored: 1 for true, 0 for false.

@@ -116,9 +116,10 @@ module _ (lo hi : ℕ) (s b : List ℕ) (f : fault s ≡ 0) (g : labelsFault (st
   unfolding totalPattern totalized
   totalize-accepted c P e =
       let r = limited-result (totalPattern lo hi (read s) (readLabels b)) P (sym totalize-answer ∙ e) in
-      rw (r .0)
-      (write-accepted (totalized lo hi (read s)) (totalized-well lo hi (read s) (read-well s (accepted s f)) c) (r .1),
-      labels-accepted (stateCount s + 1) (readLabels b ++ sinkLabel ∷ []) (with-sink (labels-read (stateCount s) b g)) (length-append (readLabels b) (sinkLabel ∷ []) ∙ ap (λ n. n + 1) (length-read (stateCount s) b g)))
+      rw (r .0) (
+        write-accepted (totalized lo hi (read s)) (totalized-well lo hi (read s) (read-well s (accepted s f)) c) (r .1),
+        labels-accepted (stateCount s + 1) (readLabels b ++ sinkLabel ∷ []) (with-sink (labels-read (stateCount s) b g)) (length-append (readLabels b) (sinkLabel ∷ []) ∙ ap (λ n. n + 1) (length-read (stateCount s) b g)),
+      )
 
   complement-answer : complementAnswer lo hi s b ≡ limited (complementPattern lo hi (read s) (readLabels b))
   unfolding complementAnswer sheetFirst labelsFirst
@@ -166,9 +167,10 @@ module _ (lo hi : ℕ) (s b : List ℕ) (f : fault s ≡ 0) (g : labelsFault (st
   unfolding complementPattern
   complement-accepted c P e =
       let r = limited-result (complementPattern lo hi (read s) (readLabels b)) P (sym complement-answer ∙ e) in
-      rw (r .0)
-      (write-accepted (complemented lo hi (read s)) (complemented-well lo hi (read s) c (read-well s (accepted s f))) (r .1),
-      go (isNfa lo hi (read s)) refl)
+      rw (r .0) (
+        write-accepted (complemented lo hi (read s)) (complemented-well lo hi (read s) c (read-well s (accepted s f))) (r .1),
+        go (isNfa lo hi (read s)) refl,
+      )
     where
       go : (t : Bool) → isNfa lo hi (read s) ≡ t → labelsFault (complemented lo hi (read s) .size) (writeLabels (cond t (readLabels b ++ sinkLabel ∷ []) (readLabels b))) ≡ 0
       go true t =
