@@ -19,7 +19,7 @@ use Rattle.labels.proofs.Labels.{label-list, count-read}
 use Rattle.output.specs.Made.{outputOf}
 use Rattle.output.specs.Output.{Output, Pattern, outputs, roomFirst, labelsFirst}
 use Rattle.output.specs.declared.Made.the-variants.{Lengths, Refused}
-use Rattle.output.proofs.Answers.{made-given, made-refused, labels-passed, labels-refused, room-lacking, room-enough, room-words, room-bytes}
+use Rattle.output.proofs.Answers.{made-given, made-refused, labels-accepted, labels-passed, labels-refused, room-lacking, room-enough, room-words, room-bytes}
 use Rattle.refusal.specs.Answer.{Answer}
 use Rattle.refusal.specs.declared.InputRefusal.{InputRefusal}
 use Rattle.refusal.specs.declared.Refusal.the-variants.{Input, State}
@@ -34,7 +34,8 @@ use Rattle.sheets.proofs.Accepted.{check-accepted}
 use Rattle.sheets.proofs.Checking.{sheet-passed, sheet-refused}
 use Rattle.words.proofs.Epsilons.{fresh}
 use Rattle.epsilon.specs.Eliminate.{closureRanges, allStates, eliminated, limited, eliminateAnswer}
-use Rattle.epsilon.specs.Storing.{Stored, TransitionsOf, Ready}
+use Rattle.output.specs.Storing.{Stored}
+use Rattle.epsilon.specs.Tables.{TransitionsOf, Ready}
 
 -- the transitions of all states are gathered
 module _ (s : List ℕ) (a : Accepted s) (buf : List ℕ) (end : ℕ) (t : Stored buf end (flatMap (closureRanges (read s)) (allStates (read s)))) where
@@ -75,10 +76,7 @@ module _ (n : ℕ) (b : List ℕ) (r : labelled.Checked) (e : labelCheck.checked
   pub labels-stopped : (i : InputRefusal) → r ≡ labelAnswer.Refused i → (o l : List ℕ) → outputOf (Refused (Input i)) o l ≡ outputs o l (labelsFirst n b a)
   labels-stopped i h o l = made-refused o l (Input i) _ (labels-refused n b a r e i h)
 
-pub labels-fault : (n : ℕ) (b : List ℕ) (r : labelled.Checked) → labelCheck.checkedNumber r ≡ labelsFault n b → r ≡ labelAnswer.Accepted → labelsFault n b ≡ 0
-labels-fault n b r e h = sym e ∙ ap labelCheck.checkedNumber h
-
-pub ruleset checkedLaws = (labels-fault, labels-given, labels-stopped, needs)
+pub ruleset checkedLaws = (labels-accepted, labels-given, labels-stopped, needs)
 
 -- the room of the outputs, and the check of the sheet
 pub sheet-ready : (o l s : List ℕ) (w : Bool) → w ≡ (ltb (length o) 10500 || ltb (length l) 16642) → w ≡ false → (r : Checked) → checkedNumber r ≡ fault s → r ≡ sheetAnswer.Accepted → Ready s o l

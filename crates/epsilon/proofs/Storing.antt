@@ -1,8 +1,7 @@
 -- Gathering transitions in order: the laws by which the loops are proved.
 use Prim.Native.Nat.{ℕ, _+_, _-_, _*_, _≤_, _<_}
 use mathlib.Core.Bool.{Bool, true, false, cond}
-use mathlib.Core.List.{List, [], _∷_, _++_, map, flatMap, append-nil, append-assoc, List·Memᴰ·append-cases, Memᴰ·append-left, Memᴰ·append-right}
-use mathlib.Core.Logic.{⊎-elim}
+use mathlib.Core.List.{List, [], _∷_, _++_, map, flatMap}
 use mathlib.Core.Path.{_≡_, refl, sym, _∙_, ap, subst}
 use native.Mathlib.Omega.{arith}
 use borrow.Author.Needs.{needs}
@@ -13,14 +12,14 @@ use Rattle.lists.specs.Lists.{keep, tabulate}
 use Rattle.lists.specs.Written.{Written}
 use Rattle.lists.proofs.Lists.{tabulate-at, length-tabulate}
 use Rattle.lists.proofs.Parts.{drop-at}
-use Rattle.lists.proofs.Written.{written-length}
 use Rattle.automata.specs.Automaton.{Transition, leaving, rangesOf}
-use Rattle.automata.specs.Ordered.{insert, inOrder}
+use Rattle.automata.specs.Ordered.{insert}
 use Rattle.automata.specs.Records.{readRecords, writeRecords, recordAt}
-use Rattle.automata.proofs.Ordered.{inOrder-in, inOrder-out, inOrder-ext, inOrder-same, inOrder-more, inOrder-grows}
 use Rattle.automata.proofs.Records.{records-at, records-end, part-record, read-write}
-use Rattle.output.specs.Ordered.{Listed, recordsIn}
-use Rattle.output.proofs.Inserting.{listed-none, listed-in, listed-again, listed-insert}
+use Rattle.output.specs.Ordered.{recordsIn}
+use Rattle.output.specs.Storing.{Room, Stored, Left}
+use Rattle.output.proofs.Storing.{room-none, stored-same, stored-one, left-begin, left-end, left-next, left-over}
+use Rattle.output.proofs.Inserting.{listed-none, listed-in}
 use Rattle.sets.specs.Sets.{Set, Canon, membersFrom, nextMember}
 use Rattle.sets.specs.BitSet.{setAt}
 use Rattle.sets.specs.Words.{putAt}
@@ -37,49 +36,7 @@ use Rattle.words.specs.Simulation.{closure}
 use Rattle.words.proofs.Closures.{closure-canon}
 use Rattle.words.proofs.Visiting.{member-here, member-later}
 use Rattle.epsilon.specs.Eliminate.{leavingFrom, movedTo, rangesFrom, closureRanges, allStates}
-use Rattle.epsilon.specs.Storing.{Room, Stored, Left, ClosuresOf}
-
--- putting in order what is partly in order
-order-again : (xs ys : List Transition) → inOrder (inOrder xs ++ ys) ≡ inOrder (xs ++ ys)
-order-again xs ys =
-    inOrder-ext _ _
-    (λ x. (
-      λ m. ⊎-elim (λ n. Memᴰ·append-left ys (inOrder-out x xs n)) (λ n. Memᴰ·append-right xs n) (List·Memᴰ·append-cases (inOrder xs) m),
-      λ m. ⊎-elim (λ n. Memᴰ·append-left ys (inOrder-in n)) (λ n. Memᴰ·append-right (inOrder xs) n) (List·Memᴰ·append-cases xs m),
-    ))
-
--- where the transitions are not too many there is room for one more
-pub stored-room : (buf : List ℕ) (end : ℕ) (es : List Transition) → Stored buf end es → end ≤ 10240 → Room buf end
-stored-room buf end es s h = record { long = s .long; few = h; listed = listed-again buf 0 end (inOrder es) (s .listed h) }
-
--- the records of the memory, and the rest
-module _ (buf : List ℕ) (end : ℕ) (es : List Transition) where
-  left-begin : (rest : List Transition) → Room buf end → Left buf end rest (recordsIn buf 0 end ++ rest)
-  left-begin rest r = record { room = r; left = refl }
-
-  left-end : Left buf end [] es → Stored buf end es
-  left-end l =
-      let r = l .room in
-      let e : recordsIn buf 0 end ≡ inOrder es = sym (inOrder-same _ (r .listed .ascends)) ∙ ap inOrder (sym (append-nil (recordsIn buf 0 end))) ∙ l .left in
-      record { long = r .long; listed = λ h. subst (Listed buf 0 end) e (r .listed); over = λ h. let f = r .few in absurd (omega arith) }
-
-  -- a part of the rest is added
-  module _ (part rest : List Transition) (l : Left buf end (part ++ rest) es) (m : List ℕ) (next : ℕ) (s : Stored m next (recordsIn buf 0 end ++ part)) where
-    whole : inOrder ((recordsIn buf 0 end ++ part) ++ rest) ≡ inOrder es
-    whole = ap inOrder (append-assoc (recordsIn buf 0 end) part rest) ∙ l .left
-
-    left-next : next ≤ 10240 → Left m next rest es
-    left-next h =
-        record {
-          room = stored-room m next _ s h;
-          left = ap (λ (x : List Transition). inOrder (x ++ rest)) (listed-in m 0 next _ (s .listed h)) ∙ order-again (recordsIn buf 0 end ++ part) rest ∙ whole;
-        }
-
-    left-over : 10240 < next → Stored m next es
-    left-over h =
-        let g = inOrder-grows (recordsIn buf 0 end ++ part) rest in
-        let o = s .over h in
-        record { long = s .long; listed = λ k. absurd (omega arith); over = λ k. omega (arith, ap length whole) }
+use Rattle.epsilon.specs.Tables.{ClosuresOf}
 
 -- one record
 module _ (buf : List ℕ) (end p : ℕ) (r : Room buf end) (e : Transition) where
@@ -92,16 +49,10 @@ module _ (buf : List ℕ) (end p : ℕ) (r : Room buf end) (e : Transition) wher
   moved-none h = rw (ne-eqb (e .kind) 1 h)
 
   pub range-other : (e .kind ≡ 1 → ⊥) → Stored buf end (recordsIn buf 0 end ++ movedTo p (e ∷ []))
-  range-other h = left-end buf end _ (record { room = r; left = ap (λ (x : List Transition). inOrder (recordsIn buf 0 end ++ x)) (sym (moved-none h)) })
+  range-other h = rw (moved-none h) (stored-same buf end r)
 
   pub range-put : e .kind ≡ 1 → (m : List ℕ) (next : ℕ) → Written buf 0 (writeRecords (insert (leavingFrom p e) (recordsIn buf 0 end))) m next → Stored m next (recordsIn buf 0 end ++ movedTo p (e ∷ []))
-  range-put h m next w =
-      let ds : List Transition = recordsIn buf 0 end in
-      let l = listed-insert buf m 0 end next ds (leavingFrom p e) (r .listed) (let f = r .few in let g = r .long in omega arith) w in
-      let q : insert (leavingFrom p e) ds ≡ inOrder (ds ++ movedTo p (e ∷ [])) =
-      ap (insert (leavingFrom p e)) (sym (inOrder-same ds (r .listed .ascends))) ∙ sym (inOrder-more ds (leavingFrom p e)) ∙ ap (λ (x : List Transition). inOrder (ds ++ x)) (sym (moved-one h)) in
-      let k = subst (Listed m 0 next) q l in
-      record { long = written-length buf m _ 0 next w ∙ r .long; listed = λ h. k; over = λ h. omega (arith, k .behind) }
+  range-put h m next w = rw (moved-one h) (stored-one buf end r (leavingFrom p e) m next w)
 
 pub ruleset rangeLaws = (range-other, range-put, needs)
 
@@ -115,7 +66,7 @@ moved-cons p e es = go (eqb (e .kind) 1)
     go false = refl
 
 pub run-begins : (buf run : List ℕ) (end p : ℕ) → Room buf end → Left buf end (movedTo p (readRecords (drop 0 run))) (recordsIn buf 0 end ++ movedTo p (readRecords run))
-run-begins buf run end p r = left-begin buf end [] _ r
+run-begins buf run end p r = left-begin buf end _ r
 
 module _ (buf run : List ℕ) (end p at : ℕ) (es : List Transition) (l : Left buf end (movedTo p (readRecords (drop at run))) es) where
   pub run-ended : length run - at < 5 → Stored buf end es
@@ -177,7 +128,7 @@ module _ (s starts c : List ℕ) (t : Tables s starts c) (p : ℕ) (l : p < stat
     unfolding closureRanges
     closure-begins buf end q r h =
         let i : membersFrom q (setAt v 0) ≡ closure (read s) p = visit-start (setAt v 0) (at-canon v 0) q h ∙ known in
-        subst (λ (S : Set). Left buf end (rangesFrom (read s) p S) (recordsIn buf 0 end ++ rangesFrom (read s) p (closure (read s) p))) (sym i) (left-begin buf end [] (rangesFrom (read s) p (closure (read s) p)) r)
+        subst (λ (S : Set). Left buf end (rangesFrom (read s) p S) (recordsIn buf 0 end ++ rangesFrom (read s) p (closure (read s) p))) (sym i) (left-begin buf end (rangesFrom (read s) p (closure (read s) p)) r)
 
     pub closure-run : (q : ℕ) → q ≡ nextMember (setAt v 0) q → q < 256 → RunAt s starts q
     closure-run q h b = run-at s (t .accepted) starts q (t .indexed) (has-below (stateCount s) (setAt v 0) (row-canon s c (tables-closures s starts c t) p l old v e o) q (visit-has (setAt v 0) (at-canon v 0) q h b))
@@ -222,7 +173,7 @@ module _ (s : List ℕ) where
   all-begins buf h =
       let l = listed-none buf 0 (omega arith) in
       let e : recordsIn buf 0 0 ≡ [] = listed-in buf 0 0 [] l in
-      record { room = record { long = h; few = omega arith; listed = listed-again buf 0 0 [] l }; left = rw e }
+      record { room = room-none buf h; left = rw e }
 
   module _ (buf : List ℕ) (end p : ℕ) (es : List Transition) (l : Left buf end (flatMap (closureRanges (read s)) (drop p (allStates (read s)))) es) where
     pub all-room : Room buf end

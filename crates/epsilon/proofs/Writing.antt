@@ -21,7 +21,7 @@ use Rattle.sheets.specs.Sheet.{stateCount, read, write}
 use Rattle.words.specs.Simulation.{closure, kindOf}
 use Rattle.words.proofs.Reading.{begin-tables}
 use Rattle.epsilon.specs.Eliminate.{closureKinds, eliminated}
-use Rattle.epsilon.specs.Storing.{ClosuresOf, TransitionsOf}
+use Rattle.epsilon.specs.Tables.{ClosuresOf, TransitionsOf}
 use Rattle.epsilon.proofs.Storing.{row-inside, row-closure, row-canon}
 
 pub ruleset gatherLaws = (begin-tables, needs)

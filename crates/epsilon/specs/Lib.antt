@@ -1,4 +1,4 @@
 -- Epsilon elimination.
 pub mod Eliminate
 pub mod Meaning
-pub mod Storing
+pub mod Tables

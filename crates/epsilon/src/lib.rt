@@ -9,6 +9,7 @@ ghost use Rattle.automata.specs.Records.{recordAt, readRecords};
 ghost use Rattle.labels.specs.Labels.{labelsFault, readLabels};
 ghost use Rattle.output.specs.Made.{outputOf};
 ghost use Rattle.output.specs.Ordered.{recordsIn};
+ghost use Rattle.output.specs.Storing.{Room, Stored};
 ghost use Rattle.output.specs.Output.{outputs, roomFirst, labelsFirst};
 ghost use Rattle.sheets.specs.Accepted.{Accepted};
 ghost use Rattle.sheets.specs.Sheet.{stateCount, read, write};
@@ -16,7 +17,7 @@ ghost use Rattle.words.specs.Epsilons.{Fresh};
 ghost use Rattle.words.specs.Gather.{Tables};
 ghost use Rattle.words.specs.Simulation.{closure, kindOf};
 ghost use Rattle.epsilon.specs.Eliminate.{movedTo, closureRanges, closureKinds, allStates, eliminated, limited, eliminateAnswer};
-ghost use Rattle.epsilon.specs.Storing.{Room, Stored, ClosuresOf, TransitionsOf, Ready};
+ghost use Rattle.epsilon.specs.Tables.{ClosuresOf, TransitionsOf, Ready};
 use output::Made;
 use refusal::Refusal;
 use refusal::StateRefusal;
@@ -140,6 +141,7 @@ fn put_sheet(s: &[u32], closures: &[u64], records: &[u32], out: &mut [u32]) -> u
     let behind = output::put_word(out, count, (records.len() / 5) as u32);
     output::put_words(out, behind, records)
 }
+
 // Eliminates the epsilons of an accepted sheet with an accepted list of labels.
 fn eliminate_accepted(s: &[u32], labels: &[u8], out: &mut [u32], names: &mut [u8]) -> Made
     requires { ⌜ Ready (now s) (now out) (now names) × (labelsFault (stateCount (now s)) (now labels) ≡ 0) ⌝ }

@@ -58,14 +58,14 @@ module _ (o l : List ℕ) (r : Bool) (e : r ≡ (ltb (length o) 10500 || ltb (le
   pub room-bytes : 16642 ≤ length l
   room-bytes = ltb-false _ _ (or-false (ltb (length o) 10500) _ (sym e ∙ h) .1)
 
--- what the check of the labels says of an answer that their fault precedes
-module _ {X : Type 0} (n : ℕ) (b : List ℕ) (a : Answer X) (r : Checked) (e : checkedNumber r ≡ labelsFault n b) where
-  pub labels-accepted : r ≡ the-variants.Accepted → labelsFault n b ≡ 0
-  labels-accepted h = sym e ∙ ap checkedNumber h
+-- what the check of the labels says of them, and of an answer that their fault precedes
+pub labels-accepted : (n : ℕ) (b : List ℕ) (r : Checked) → checkedNumber r ≡ labelsFault n b → r ≡ the-variants.Accepted → labelsFault n b ≡ 0
+labels-accepted n b r e h = sym e ∙ ap checkedNumber h
 
+module _ {X : Type 0} (n : ℕ) (b : List ℕ) (a : Answer X) (r : Checked) (e : checkedNumber r ≡ labelsFault n b) where
   pub labels-passed : r ≡ the-variants.Accepted → labelsFirst n b a ≡ a
   unfolding labelsFirst
-  labels-passed h = rw (eq-eqb (labelsFault n b) 0 (labels-accepted h))
+  labels-passed h = rw (eq-eqb (labelsFault n b) 0 (labels-accepted n b r e h))
 
   pub labels-refused : (i : InputRefusal) → r ≡ the-variants.Refused i → labelsFirst n b a ≡ refused (inputNumber i)
   unfolding labelsFirst

@@ -2,3 +2,4 @@
 pub mod Writing
 pub mod Answers
 pub mod Inserting
+pub mod Storing

@@ -2,3 +2,4 @@
 pub mod Output
 pub mod Made
 pub mod Ordered
+pub mod Storing

@@ -7,7 +7,7 @@ use Rattle.sets.specs.Sets.{membersFrom, nextMember}
 use Rattle.sets.specs.BitSet.{setAt}
 use Rattle.sheets.specs.Sheet.{read}
 use Rattle.epsilon.specs.Eliminate.{rangesFrom, closureRanges}
-use Rattle.epsilon.specs.Storing.{Left}
+use Rattle.output.specs.Storing.{Left}
 use Rattle.epsilon.proofs.Storing.{closureLaws}
 use Rattle.epsilon.proofs.add_closure.Statement.{statement}
 use Rattle.epsilon.proofs.add_closure.Tie as tie

@@ -4,7 +4,7 @@ use mathlib.Core.List.{flatMap}
 use lib.ListN.{drop}
 use Rattle.sheets.specs.Sheet.{stateCount, read}
 use Rattle.epsilon.specs.Eliminate.{closureRanges, allStates}
-use Rattle.epsilon.specs.Storing.{Left}
+use Rattle.output.specs.Storing.{Left}
 use Rattle.epsilon.proofs.Storing.{allLaws}
 use Rattle.epsilon.proofs.add_closures.Statement.{statement}
 use Rattle.epsilon.proofs.add_closures.Tie as tie

@@ -5,7 +5,7 @@ use lib.ListN.{length, drop}
 use Rattle.automata.specs.Records.{readRecords}
 use Rattle.output.specs.Ordered.{recordsIn}
 use Rattle.epsilon.specs.Eliminate.{movedTo}
-use Rattle.epsilon.specs.Storing.{Left}
+use Rattle.output.specs.Storing.{Left}
 use Rattle.epsilon.proofs.Storing.{runLaws}
 use Rattle.epsilon.proofs.add_run.Statement.{statement}
 use Rattle.epsilon.proofs.add_run.Tie as tie
