@@ -1,0 +1,78 @@
+-- Laws on members: of a list of images, at a place, and of lists that ascend or have no element twice.
+use Prim.Native.Nat.{ℕ, zero, suc, _≤_, _<_}
+use mathlib.Core.Bool.{Bool, true, false, cond}
+use mathlib.Core.List.{List, [], _∷_, _++_, map, List·Memᴰ·head, List·Memᴰ·tail, List·Memᴰ·not-nil, List·Memᴰ·cases-cons, List·Memᴰ·append-cases, List·Memᴰ·eq-of-singleton, Memᴰ·cast}
+use mathlib.Core.Logic.{⊎-elim}
+use mathlib.Core.Path.{_≡_, refl, sym, _∙_, ap}
+use native.Mathlib.Omega.{arith}
+use lib.ListN.{getD, length}
+use Rattle.lists.specs.Lists.{_∈_, keep, Ascending, Distinct}
+use Rattle.lists.proofs.Lists.{keep-out}
+
+pub map-out : {X Y : Type 0} (f : X → Y) (l : List X) (y : Y) → y ∈ map f l → (x : X) × x ∈ l × (y ≡ f x)
+map-out f [] y m = elim m [ ]
+map-out f (x ∷ l) y m =
+    ⊎-elim (λ e. (x, List·Memᴰ·head refl, e)) (λ k. let r = map-out f l y k in (r .0, List·Memᴰ·tail (r .1), r .2)) (List·Memᴰ·cases-cons m)
+
+pub map-in : {X Y : Type 0} (f : X → Y) {x : X} {l : List X} → x ∈ l → f x ∈ map f l
+map-in f (List·Memᴰ·head e) = List·Memᴰ·head (ap f e)
+map-in f (List·Memᴰ·tail m) = List·Memᴰ·tail (map-in f m)
+
+pub at-in : {X : Type 0} (l : List X) (j : ℕ) (d : X) → j < length l → getD l j d ∈ l
+at-in [] j d h = absurd (omega arith)
+at-in (x ∷ l) zero d h = List·Memᴰ·head refl
+at-in (x ∷ l) (suc j) d h = List·Memᴰ·tail (at-in l j d (omega arith))
+
+module _ {X : Type 0} where
+  pub distinct-end : (x : X) (l : List X) → Distinct l → (x ∈ l → ⊥) → Distinct (l ++ x ∷ [])
+  distinct-end x [] Distinct.none f = Distinct.more (λ m. List·Memᴰ·not-nil m) Distinct.none
+  distinct-end x (y ∷ l) (Distinct.more g d) f =
+      Distinct.more (λ m. ⊎-elim g (λ k. f (List·Memᴰ·head (sym (List·Memᴰ·eq-of-singleton k)))) (List·Memᴰ·append-cases l m))
+      (distinct-end x l d (λ m. f (List·Memᴰ·tail m)))
+
+  -- a list without one of its members
+  unfoldable pub without : {x : X} {l : List X} → x ∈ l → List X
+  without {l = y ∷ l} (List·Memᴰ·head e) = l
+  without {l = y ∷ l} (List·Memᴰ·tail m) = y ∷ without m
+
+  pub without-length : {x : X} {l : List X} (m : x ∈ l) → length l ≡ suc (length (without m))
+  unfolding without
+  without-length (List·Memᴰ·head e) = refl
+  without-length (List·Memᴰ·tail m) = ap suc (without-length m)
+
+  pub without-in : {x : X} {l : List X} (m : x ∈ l) (y : X) → y ∈ l → (y ≡ x → ⊥) → y ∈ without m
+  unfolding without
+  without-in {l = z ∷ l} (List·Memᴰ·head e) y k n = ⊎-elim (λ (q : y ≡ z). absurd (n (q ∙ sym e))) (λ k. k) (List·Memᴰ·cases-cons k)
+  without-in {l = z ∷ l} (List·Memᴰ·tail m) y k n = ⊎-elim (λ q. List·Memᴰ·head q) (λ k. List·Memᴰ·tail (without-in m y k n)) (List·Memᴰ·cases-cons k)
+
+  -- distinct elements that are all members of a list are no more than its elements
+  pub distinct-length : (k l : List X) → Distinct k → ((x : X) → x ∈ k → x ∈ l) → length k ≤ length l
+  distinct-length [] l d h = omega arith
+  distinct-length (x ∷ k) l (Distinct.more f d) h =
+      let m = h x (List·Memᴰ·head refl) in
+      let n = without-length m in
+      let p = distinct-length k (without m) d (λ y i. without-in m y (h y (List·Memᴰ·tail i)) (λ q. f (Memᴰ·cast (sym q) i))) in
+      omega arith
+
+-- images are distinct where no two elements have the same
+pub distinct-map : {X Y : Type 0} (f : X → Y) {l : List X} → ((x y : X) → x ∈ l → y ∈ l → f x ≡ f y → x ≡ y) → Distinct l → Distinct (map f l)
+distinct-map f h Distinct.none = Distinct.none
+distinct-map f {l = x ∷ l} h (Distinct.more g d) =
+    Distinct.more
+    (λ m. let r = map-out f l (f x) m in let q = h x (r .0) (List·Memᴰ·head refl) (List·Memᴰ·tail (r .1)) (r .2) in g (Memᴰ·cast q (r .1)))
+    (distinct-map f (λ y z m n. h y z (List·Memᴰ·tail m) (List·Memᴰ·tail n)) d)
+
+module _ {X : Type 0} {R : X → X → Type 0} where
+  pub ascending-keep : (f : X → Bool) {l : List X} → Ascending R l → Ascending R (keep f l)
+  unfolding keep
+  ascending-keep f Ascending.none = Ascending.none
+  ascending-keep f {l = x ∷ l} (Ascending.more g a) = go (f x) (ascending-keep f a)
+    where
+      go : (b : Bool) → Ascending R (keep f l) → Ascending R (cond b (x ∷ keep f l) (keep f l))
+      go true k = Ascending.more (λ y m. g y (keep-out f y l m .0)) k
+      go false k = k
+
+  -- where nothing is related to itself no element stands twice
+  pub ascending-distinct : ((x : X) → R x x → ⊥) → {l : List X} → Ascending R l → Distinct l
+  ascending-distinct h Ascending.none = Distinct.none
+  ascending-distinct h (Ascending.more {x} g a) = Distinct.more (λ m. h x (g x m)) (ascending-distinct h a)
