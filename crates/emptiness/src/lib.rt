@@ -5,14 +5,14 @@ ghost use mathlib.Core.Path.{_≡_};
 ghost use Prim.Native.Nat.{_<_};
 ghost use lib.ListN.{length};
 ghost use Rattle.automata.specs.Records.{recordAt, readRecords};
+ghost use Rattle.refusal.specs.Decision.{decisionOf};
 ghost use Rattle.sets.specs.BitSet.{setAt};
 ghost use Rattle.sheets.specs.Accepted.{Accepted};
 ghost use Rattle.sheets.specs.Sheet.{read};
 ghost use Rattle.words.specs.Epsilons.{Named};
-ghost use Rattle.emptiness.specs.Answer.{answerOf};
 ghost use Rattle.emptiness.specs.Queue.{Line, Met, Ready};
 ghost use Rattle.emptiness.specs.Reachable.{reachable, hasReachableAccepting, reachableAnswer};
-use refusal::InputRefusal;
+use refusal::Decision;
 use sheets::Checked;
 
 // The target of the record r joins the queue, if it was not met before. Like the next function it answers the queue's end.
@@ -73,18 +73,12 @@ fn reaches_accepting(s: &[u32]) -> bool
     0 < words::kind_of(s, &seen)
 }
 
-// The answer of `has_reachable_accepting_state`. A sheet is empty when it is false.
-pub enum Reachability {
-    Is(bool),
-    Refused(InputRefusal),
-}
-
-// Whether a state that accepts is reached from the start, by any number of transitions.
-pub fn has_reachable_accepting_state(s: &[u32]) -> Reachability
-    ensures { λ r. ⌜ answerOf r ≡ reachableAnswer (now (s .entry)) ⌝ }
+// Whether a state that accepts is reached from the start, by any number of transitions. A sheet is empty when none is.
+pub fn has_reachable_accepting_state(s: &[u32]) -> Decision
+    ensures { λ r. ⌜ decisionOf r ≡ reachableAnswer (now (s .entry)) ⌝ }
 {
     match sheets::check(s) {
-        Checked::Accepted => Reachability::Is(reaches_accepting(s)),
-        Checked::Refused(r) => Reachability::Refused(r),
+        Checked::Accepted => Decision::Is(reaches_accepting(s)),
+        Checked::Refused(r) => Decision::Refused(r),
     }
 }

@@ -44,6 +44,12 @@ pub enum Refusal {
     State(StateRefusal),
 }
 
+// The answer to a question about sheets and labels.
+pub enum Decision {
+    Is(bool),
+    Refused(InputRefusal),
+}
+
 // Document 01's number of a refusal that comes from the input.
 pub fn input_number(r: InputRefusal) -> u32
     ensures { λ n. ⌜ n ≡ inputNumber r ⌝ }

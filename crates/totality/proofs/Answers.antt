@@ -8,7 +8,7 @@ use native.Mathlib.Omega.{arith}
 use mir.Syntax.{w64}
 use mir.Val.{Fits}
 use borrow.Author.Needs.{needs}
-use borrow.Author.Tests.{lt-ltb, le-ltb, eq-eqb, ne-eqb, eqb-true}
+use borrow.Author.Tests.{lt-ltb, le-ltb, eqb-true}
 use lib.Dec.{ltb, eqb}
 use lib.ListN.{length, take, drop, replicate, length-drop, length-replicate}
 use lib.Seq.{drop-at, sets}
@@ -26,13 +26,12 @@ use Rattle.labels.proofs.Places.{few-count}
 use Rattle.output.specs.declared.Made.{Made}
 use Rattle.output.specs.declared.Made.the-variants.{Lengths, Refused}
 use Rattle.output.specs.Made.{outputOf}
-use Rattle.output.specs.Output.{Pattern, outputs, roomFirst}
-use Rattle.output.proofs.Answers.{made-given, room-lacking, room-enough, room-words, room-bytes}
+use Rattle.output.specs.Output.{Pattern, outputs, roomFirst, labelsFirst}
+use Rattle.output.proofs.Answers.{made-given, room-lacking, room-enough, room-words, room-bytes, labels-passed, labels-refused}
 use Rattle.refusal.specs.declared.Refusal.the-variants.{State}
 use Rattle.refusal.specs.declared.StateRefusal.the-variants.{States, Transitions}
 use Rattle.refusal.specs.Answer.{Answer, refused, given}
 use Rattle.refusal.specs.declared.InputRefusal.{InputRefusal}
-use Rattle.refusal.specs.declared.InputRefusal.the-variants.{SheetLength, Start, Counts, AcceptWord, Record, RecordOrder, Epsilon, Grammar, Utf8, Labels}
 use Rattle.refusal.specs.declared.Refusal.{Refusal}
 use Rattle.refusal.specs.Number.{inputNumber, numberOf}
 use Rattle.labels.specs.declared.Checked as labels
@@ -49,7 +48,7 @@ use Rattle.sheets.proofs.Accepted.{accepted, check-accepted}
 use Rattle.sheets.specs.Accepted.{Accepted}
 use Rattle.sheets.specs.Sheet.{stateCount, recordCount, recordsAt, read, write}
 use Rattle.sheets.proofs.Meaning.{read-well, read-fits, write-read-sheet}
-use Rattle.totality.specs.Answers.{labelsFirst, inputsFirst, inputsOf, passed, limited, turnedPattern, flippedPattern, totalPattern, complementPattern, totalizeAnswer, complementAnswer, isNfaAnswer}
+use Rattle.totality.specs.Answers.{inputsFirst, inputsOf, passed, limited, turnedPattern, flippedPattern, totalPattern, complementPattern, totalizeAnswer, complementAnswer, isNfaAnswer}
 use Rattle.totality.specs.declared.Inputs as inputs
 use Rattle.totality.specs.declared.Inputs.the-variants as input
 use Rattle.totality.specs.Merging.{turned, headWords, Small, Ready}
@@ -184,19 +183,6 @@ pub ruleset readyLaws = (fresh-ready, needs)
 
 pub ruleset complementLaws = (complement-totalized, complement-flipped, needs)
 
--- no refusal has the number 0
-input-some : (i : InputRefusal) → inputNumber i ≡ 0 → ⊥
-input-some SheetLength h = omega arith
-input-some Start h = omega arith
-input-some Counts h = omega arith
-input-some AcceptWord h = omega arith
-input-some Record h = omega arith
-input-some RecordOrder h = omega arith
-input-some Epsilon h = omega arith
-input-some Grammar h = omega arith
-input-some Utf8 h = omega arith
-input-some Labels h = omega arith
-
 -- the check of the inputs
 module _ (s b o l : List ℕ) (r : Bool) (e : r ≡ (ltb (length o) 10500 || ltb (length l) 16642)) where
   pub inputs-short : r ≡ true → refused 20 ≡ inputsFirst s b o l passed
@@ -210,14 +196,12 @@ module _ (s b o l : List ℕ) (r : Bool) (e : r ≡ (ltb (length o) 10500 || ltb
 
     module _ (p : f ≡ sheet.Accepted) (k : labels.Checked) (m : labelsNumber k ≡ labelsFault (stateCount s) b) where
       pub inputs-labels : (i : InputRefusal) → k ≡ label.Refused i → refused (inputNumber i) ≡ inputsFirst s b o l passed
-      unfolding inputsFirst labelsFirst
-      inputs-labels i q =
-          let n : labelsFault (stateCount s) b ≡ inputNumber i = sym m ∙ ap labelsNumber q in
-          sym (room-enough o l _ r e h ∙ sheet-passed s _ f g p ∙ rw (ne-eqb (labelsFault (stateCount s) b) 0 (λ z. input-some i (sym n ∙ z))) (ap refused n))
+      unfolding inputsFirst
+      inputs-labels i q = sym (room-enough o l _ r e h ∙ sheet-passed s _ f g p ∙ labels-refused (stateCount s) b passed k m i q)
 
       pub inputs-good : k ≡ label.Accepted → passed ≡ inputsFirst s b o l passed
-      unfolding inputsFirst labelsFirst
-      inputs-good q = sym (room-enough o l _ r e h ∙ sheet-passed s _ f g p ∙ rw (eq-eqb (labelsFault (stateCount s) b) 0 (sym m ∙ ap labelsNumber q)))
+      unfolding inputsFirst
+      inputs-good q = sym (room-enough o l _ r e h ∙ sheet-passed s _ f g p ∙ labels-passed (stateCount s) b passed k m q)
 
 pub ruleset checkLaws = (inputs-short, inputs-sheet, inputs-labels, inputs-good, check-accepted, needs)
 

@@ -13,14 +13,14 @@ use Rattle.automata.specs.WellFormed.{Fits}
 use Rattle.labels.specs.Forms.{sinkLabel}
 use Rattle.labels.specs.Labels.{AllLabels, none, more, labelsFault, readLabels, writeLabels}
 use Rattle.labels.proofs.Labels.{labels-read, length-read, fault-write}
-use Rattle.output.specs.Output.{Pattern}
+use Rattle.output.specs.Output.{Pattern, labelsFirst}
 use Rattle.refusal.specs.Answer.{refused, given}
 use Rattle.sheets.specs.Checked.{sheetFirst}
 use Rattle.sheets.specs.Fault.{fault}
 use Rattle.sheets.specs.Sheet.{stateCount, read, write}
 use Rattle.sheets.proofs.Accepted.{accepted}
 use Rattle.sheets.proofs.Meaning.{read-well, read-fits, write-accepted}
-use Rattle.totality.specs.Answers.{labelsFirst, limited, totalPattern, complementPattern, totalizeAnswer, complementAnswer}
+use Rattle.totality.specs.Answers.{limited, totalPattern, complementPattern, totalizeAnswer, complementAnswer}
 use Rattle.totality.specs.Totality.{isNfa, totalized, transitionCount, flipped, complemented}
 use Rattle.totality.proofs.Answers.{limited-states, limited-transitions, limited-given}
 use Rattle.totality.proofs.Rows.{length-totalized}

@@ -2,27 +2,21 @@
 use Prim.Native.Nat.{ℕ}
 use mathlib.Core.Bool.{Bool, true, cond}
 use mathlib.Core.List.{List, [], _∷_, _++_}
-use lib.Dec.{eqb, ltb}
+use lib.Dec.{ltb}
 use lib.ListN.{length}
 use Rattle.automata.specs.Automaton.{Automaton}
 use Rattle.automata.specs.WellFormed.{mostStates, mostTransitions}
-use Rattle.labels.specs.Labels.{labelsFault, readLabels}
+use Rattle.labels.specs.Labels.{readLabels}
 use Rattle.labels.specs.Forms.{sinkLabel}
-use Rattle.output.specs.Output.{Pattern, roomFirst}
+use Rattle.output.specs.Output.{Pattern, roomFirst, labelsFirst}
 use Rattle.refusal.specs.Answer.{Answer, refused, given}
-use Rattle.refusal.specs.Number.{inputNumber, numberOf}
+use Rattle.refusal.specs.Number.{numberOf}
 use Rattle.sheets.specs.Checked.{sheetFirst}
 use Rattle.sheets.specs.Sheet.{stateCount, read}
-use Rattle.totality.specs.declared.Nfa.{Nfa}
-use Rattle.totality.specs.declared.Nfa.the-variants as nfa
 use Rattle.totality.specs.declared.Inputs.{Inputs}
 use Rattle.totality.specs.declared.Inputs.the-variants as inputs
 use Rattle.totality.specs.Merging.{turned}
 use Rattle.totality.specs.Totality.{isNfa, totalized, flipped, complemented}
-
--- the fault of b as the labels of n states, or else the answer a
-unfoldable pub labelsFirst : {X : Type 0} → ℕ → List ℕ → Answer X → Answer X
-labelsFirst n b a = cond (eqb (labelsFault n b) 0) a (refused (labelsFault n b))
 
 -- 21 where there are too many states, 22 where there are too many transitions, or else the result
 unfoldable pub limited : Pattern → Answer Pattern
@@ -54,11 +48,6 @@ complementPattern lo hi A ls = record { automaton = complemented lo hi A; labels
 
 unfoldable pub complementAnswer : ℕ → ℕ → List ℕ → List ℕ → Answer Pattern
 complementAnswer lo hi s b = sheetFirst s (labelsFirst (stateCount s) b (limited (complementPattern lo hi (read s) (readLabels b))))
-
--- the answer of the code of `is_nfa`
-abbrev pub answerOf : Nfa → Answer Bool
-answerOf (nfa.Is b) = given b
-answerOf (nfa.Refused r) = refused (inputNumber r)
 
 -- 20, the sheet's fault, the labels' fault, or else the answer a
 unfoldable pub inputsFirst : {X : Type 0} → List ℕ → List ℕ → List ℕ → List ℕ → Answer X → Answer X

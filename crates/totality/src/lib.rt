@@ -13,21 +13,16 @@ ghost use Rattle.output.specs.Made.{outputOf};
 ghost use Rattle.output.specs.Output.{outputs, roomFirst};
 ghost use Rattle.ranges.specs.Missing.{Sorted};
 ghost use Rattle.refusal.specs.Answer.{given};
+ghost use Rattle.refusal.specs.Decision.{decisionOf};
 ghost use Rattle.sheets.specs.Accepted.{Accepted};
 ghost use Rattle.sheets.specs.Sheet.{stateCount, read, write};
 ghost use Rattle.totality.specs.Totality.{states, hasEpsilon, isNfaAt, isNfa, filled, filledIn, flipped, totalized, holesIn};
 ghost use Rattle.totality.specs.Merging.{readSpans, leading, Mergeable, merged, Whole, Fillable, acceptWord, turned, headWords, frontWords, Small, Ready};
-ghost use Rattle.totality.specs.Answers.{answerOf, isNfaAnswer, inputsFirst, inputsOf, passed, limited, turnedPattern, flippedPattern, complementPattern, totalizeAnswer, complementAnswer};
+ghost use Rattle.totality.specs.Answers.{isNfaAnswer, inputsFirst, inputsOf, passed, limited, turnedPattern, flippedPattern, complementPattern, totalizeAnswer, complementAnswer};
 use output::Made;
-use refusal::InputRefusal;
+use refusal::Decision;
 use refusal::Refusal;
 use refusal::StateRefusal;
-
-// The answer of `is_nfa`.
-pub enum Nfa {
-    Is(bool),
-    Refused(InputRefusal),
-}
 
 // What the inputs and outputs of an operation are before it begins.
 pub enum Inputs {
@@ -94,21 +89,6 @@ fn count_holes(s: &[u32], starts: &[u32], lower: u32, upper: u32, holes: &mut [u
     count
 }
 
-// Copies the words to at. Like the functions below it answers the place behind what it wrote.
-fn copy_words(out: &mut [u32], at: usize, words: &[u32]) -> usize
-    requires { ⌜ at + length (now words) ≤ length (now out) ⌝ }
-    ensures { λ r. ⌜ Written (now (out .entry)) at (now (words .entry)) (now (out .exit)) r ⌝ }
-{
-    let mut end = at;
-    let mut i = 0;
-    while i < words.len() {
-        out[end] = words[i];
-        end += 1;
-        i += 1;
-    }
-    end
-}
-
 // The place behind the records from i on that come before a hole that begins at low.
 fn records_before(run: &[u32], i: usize, low: u32) -> usize
     requires { ⌜ i ≤ length (now run) ⌝ }
@@ -125,6 +105,7 @@ fn records_before(run: &[u32], i: usize, low: u32) -> usize
 }
 
 // Writes the records of the run and the holes of its state q, led to the sink, in order: the records before each hole, and then the hole.
+// Like the functions below it answers the place behind what it wrote.
 fn put_merged(run: &[u32], holes: &[u32], q: u32, sink: u32, out: &mut [u32], at: usize) -> usize
     requires { ⌜ Mergeable sink q (readRecords (now run)) (readSpans (now holes)) × Whole (now run) ⌝ }
     requires { ⌜ at + length (writeRecords (merged sink q (now run) (now holes))) ≤ length (now out) ⌝ }
@@ -135,12 +116,12 @@ fn put_merged(run: &[u32], holes: &[u32], q: u32, sink: u32, out: &mut [u32], at
     let mut j: usize = 0;
     while 2 <= holes.len() - j {
         let k = records_before(run, i, holes[j]);
-        end = copy_words(out, end, &run[i..k]);
+        end = output::put_words(out, end, &run[i..k]);
         end = output::put_record(out, end, q, 1, holes[j], holes[j + 1], sink);
         i = k;
         j += 2;
     }
-    copy_words(out, end, &run[i..])
+    output::put_words(out, end, &run[i..])
 }
 
 // Writes the records of the run of the state q with its holes from lower to upper.
@@ -320,7 +301,7 @@ fn make_flipped(s: &[u32], labels: &[u8], out: &mut [u32], names: &mut [u8]) -> 
 {
     let n = s[2];
     let counted = put_head(s, true, n, out);
-    let words = copy_words(out, counted, &s[n as usize + 3..]);
+    let words = output::put_words(out, counted, &s[n as usize + 3..]);
     let bytes = labels::copy_all(names, labels);
     Made::Lengths(words, bytes)
 }
@@ -379,12 +360,12 @@ fn make_complement(
 }
 
 // Whether a sheet has an epsilon, an overlap or a hole.
-pub fn is_nfa(s: &[u32]) -> Nfa
-    ensures { λ r. ⌜ answerOf r ≡ isNfaAnswer 0 4294967295 (now (s .entry)) ⌝ }
+pub fn is_nfa(s: &[u32]) -> Decision
+    ensures { λ r. ⌜ decisionOf r ≡ isNfaAnswer 0 4294967295 (now (s .entry)) ⌝ }
 {
     match sheets::check(s) {
-        sheets::Checked::Accepted => Nfa::Is(decide_nfa(s, 0, 4294967295)),
-        sheets::Checked::Refused(r) => Nfa::Refused(r),
+        sheets::Checked::Accepted => Decision::Is(decide_nfa(s, 0, 4294967295)),
+        sheets::Checked::Refused(r) => Decision::Refused(r),
     }
 }
 

@@ -23,6 +23,6 @@ put-merged-spec =
     (λ c κs. search mergeLaws) (λ c. search mergeLaws) (λ c. search mergeLaws) (λ c. search mergeLaws) (λ c. search mergeLaws)
     (λ c κs. search mergeLaws) (λ c. search mergeLaws) (λ c. search mergeLaws) (λ c. search mergeLaws) (λ c. search mergeLaws)
     (λ c. search mergeLaws) (λ c κs. search mergeLaws) (λ c. search mergeLaws) (λ c. search mergeLaws)
-    (λ c. (search needs, search needs, search needs, search (merge-whole, needs), search (merge-mergeable, needs), hole-next _ _ _ _ _ _ _ _ (c .before .before .before .before .before .before .before .before .before .before .before .before .before .before .before .before .before .before .args .holes .now) _ (c .before .before .before .before .before .before .before .before .before .before .before .before .before .before .loop .j) (c .before .before .before .before .before .before .before .before .before .before .before .before .before .before .loop .inv .5) (c .before .before .before .before .before .before .before .before .before .before .before .before .before .before .loop .inv .3) (c .before .before .before .before .before .before .before .before .before .before .before .before .before .before .loop .inv .4) (c .before .before .before .before .before .before .before .before .before .before .before .before .before .loop-test .taken) _ (c .before .before .before .before .before .before .before .before .before .before .before .records-before .ensures .0) (c .before .before .before .before .before .before .before .before .before .before .before .records-before .ensures .1) _ _ (c .before .before .before .before .before .before .before .before .copy-words .ensures) _ _ (c .before .before .put-record .ensures)))
+    (λ c. (search needs, search needs, search needs, search (merge-whole, needs), search (merge-mergeable, needs), hole-next _ _ _ _ _ _ _ _ (c .before .before .before .before .before .before .before .before .before .before .before .before .before .before .before .before .before .before .args .holes .now) _ (c .before .before .before .before .before .before .before .before .before .before .before .before .before .before .loop .j) (c .before .before .before .before .before .before .before .before .before .before .before .before .before .before .loop .inv .5) (c .before .before .before .before .before .before .before .before .before .before .before .before .before .before .loop .inv .3) (c .before .before .before .before .before .before .before .before .before .before .before .before .before .before .loop .inv .4) (c .before .before .before .before .before .before .before .before .before .before .before .before .before .loop-test .taken) _ (c .before .before .before .before .before .before .before .before .before .before .before .records-before .ensures .0) (c .before .before .before .before .before .before .before .before .before .before .before .records-before .ensures .1) _ _ (c .before .before .before .before .before .before .before .before .put-words .ensures) _ _ (c .before .before .put-record .ensures)))
     (λ c. search mergeLaws) (λ c. search mergeLaws) (λ c. search mergeLaws) (λ c. search mergeLaws) (λ c κs. search mergeLaws)
     (λ c. search mergeLaws) (λ c. search mergeLaws))
