@@ -15,11 +15,19 @@ use Rattle.refusal.specs.declared.InputRefusal.{InputRefusal}
 use Rattle.words.specs.Acceptance.{answerOf}
 use Rattle.words.specs.declared.Acceptance.{Acceptance}
 use Rattle.words.specs.declared.Acceptance.the-variants
-use Rattle.totality.specs.declared.Nfa.{Nfa}
-use Rattle.totality.specs.declared.Nfa.the-variants as nfa-variants
-use Rattle.totality.specs.declared.Nfa.the-variants.{Is}
-use Rattle.totality.specs.Answers
-use Rattle.ringmatch.specs.Reply.{reply, replyBit, replied, built, buildReply}
+use Rattle.equality.specs.declared.Verdict.{Verdict}
+use Rattle.equality.specs.declared.Verdict.the-variants as verdict
+use Rattle.equality.specs.Equality.{Judged}
+use Rattle.equality.specs.Forced.{Two}
+use Rattle.parser.specs.declared.Parsed.{Parsed}
+use Rattle.parser.specs.declared.Parsed.the-variants as parsed
+use Rattle.parser.specs.Parsed.{parsedOf}
+use Rattle.parser.specs.Parsed as parser
+use Rattle.refusal.specs.Decision.{decisionOf}
+use Rattle.refusal.specs.declared.Decision.{Decision}
+use Rattle.refusal.specs.declared.Decision.the-variants as decision
+use Rattle.refusal.specs.declared.Decision.the-variants.{Is}
+use Rattle.ringmatch.specs.Reply.{reply, replyBit, replied, built, buildReply, read, readReply, VerdictReply, told, tellVerdict, Told}
 
 pub reply-given : (old k : ℕ) (r : Acceptance) → r ≡ the-variants.Kind k → replied 0 k ≡ reply old (answerOf r)
 reply-given old k r e = ap (λ x. reply old (answerOf x)) (sym e)
@@ -46,16 +54,43 @@ pub ruleset mades = (made-lengths, made-refused, made-passed, needs)
 pub ruleset replies = (reply-given, reply-refused, reply-passed, needs)
 
 -- the reply to a question
-pub nfa-yes : (old : ℕ) (r : Nfa) (b : Bool) → r ≡ Is b → b ≡ true → replied 0 1 ≡ replyBit old (Answers.answerOf r)
-nfa-yes old r b e h = sym (ap (λ x. replyBit old (Answers.answerOf x)) e ∙ ap (λ x. replyBit old (Answers.answerOf (Is x))) h)
+pub decision-yes : (old : ℕ) (r : Decision) (b : Bool) → r ≡ Is b → b ≡ true → replied 0 1 ≡ replyBit old (decisionOf r)
+decision-yes old r b e h = sym (ap (λ x. replyBit old (decisionOf x)) e ∙ ap (λ x. replyBit old (decisionOf (Is x))) h)
 
-pub nfa-no : (old : ℕ) (r : Nfa) (b : Bool) → r ≡ Is b → b ≡ false → replied 0 0 ≡ replyBit old (Answers.answerOf r)
-nfa-no old r b e h = sym (ap (λ x. replyBit old (Answers.answerOf x)) e ∙ ap (λ x. replyBit old (Answers.answerOf (Is x))) h)
+pub decision-no : (old : ℕ) (r : Decision) (b : Bool) → r ≡ Is b → b ≡ false → replied 0 0 ≡ replyBit old (decisionOf r)
+decision-no old r b e h = sym (ap (λ x. replyBit old (decisionOf x)) e ∙ ap (λ x. replyBit old (decisionOf (Is x))) h)
 
-pub nfa-refused : (old n : ℕ) (r : Nfa) (i : InputRefusal) → n ≡ inputNumber i → r ≡ nfa-variants.Refused i → replied n old ≡ replyBit old (Answers.answerOf r)
-nfa-refused old n r i h e = ap (λ x. replied x old) h ∙ ap (λ x. replyBit old (Answers.answerOf x)) (sym e)
+pub decision-refused : (old n : ℕ) (r : Decision) (i : InputRefusal) → n ≡ inputNumber i → r ≡ decision.Refused i → replied n old ≡ replyBit old (decisionOf r)
+decision-refused old n r i h e = ap (λ x. replied x old) h ∙ ap (λ x. replyBit old (decisionOf x)) (sym e)
 
-pub nfa-passed : (code old new : ℕ) (r : Nfa) (a : Answer Bool) → replied code new ≡ replyBit old (Answers.answerOf r) → Answers.answerOf r ≡ a → replied code new ≡ replyBit old a
-nfa-passed code old new r a e h = e ∙ ap (replyBit old) h
+pub decision-passed : (code old new : ℕ) (r : Decision) (a : Answer Bool) → replied code new ≡ replyBit old (decisionOf r) → decisionOf r ≡ a → replied code new ≡ replyBit old a
+decision-passed code old new r a e h = e ∙ ap (replyBit old) h
 
-pub ruleset nfas = (nfa-yes, nfa-no, nfa-refused, nfa-passed, needs)
+pub ruleset decisions = (decision-yes, decision-no, decision-refused, decision-passed, needs)
+
+-- the reply of the pattern reader
+pub parsed-lengths : (x y z n w b : ℕ) (r : Parsed) → r ≡ parsed.Read n w b → (o l : List ℕ) → read 0 n w b o l ≡ readReply x y z (parsedOf r o l)
+parsed-lengths x y z n w b r e o l = ap (λ m. readReply x y z (parsedOf m o l)) (sym e)
+
+pub parsed-refused : (x y z n : ℕ) (r : Parsed) (i : Refusal) → n ≡ numberOf i → r ≡ parsed.Refused i → (o l : List ℕ) → read n x y z o l ≡ readReply x y z (parsedOf r o l)
+parsed-refused x y z n r i h e o l = ap (λ k. read k x y z o l) h ∙ ap (λ m. readReply x y z (parsedOf m o l)) (sym e)
+
+pub parsed-passed : (code x y z n w b : ℕ) (r : Parsed) (o l : List ℕ) (a : parser.Output) → ((o l : List ℕ) → read code n w b o l ≡ readReply x y z (parsedOf r o l)) → parsedOf r o l ≡ a → read code n w b o l ≡ readReply x y z a
+parsed-passed code x y z n w b r o l a e h = e o l ∙ ap (readReply x y z) h
+
+pub ruleset parses = (parsed-lengths, parsed-refused, parsed-passed, needs)
+
+-- the reply of exact equality
+pub verdict-same : (s n joins : ℕ) (r : Verdict) → r ≡ verdict.Same joins → told 0 1 joins ≡ tellVerdict s n r
+verdict-same s n joins r e = ap (tellVerdict s n) (sym e)
+
+pub verdict-different : (s n m : ℕ) (r : Verdict) → r ≡ verdict.Different m → told 0 0 m ≡ tellVerdict s n r
+verdict-different s n m r e = ap (tellVerdict s n) (sym e)
+
+pub verdict-refused : (s n k : ℕ) (r : Verdict) (i : Refusal) → k ≡ numberOf i → r ≡ verdict.Refused i → told k s n ≡ tellVerdict s n r
+verdict-refused s n k r i h e = ap (λ x. told x s n) h ∙ ap (tellVerdict s n) (sym e)
+
+pub verdict-told : (t : Answer Two) (o o′ : List ℕ) (s n : ℕ) (a : VerdictReply) (r : Verdict) → Judged t o o′ r → a ≡ tellVerdict s n r → Told t o o′ s n a
+verdict-told t o o′ s n a r j e = record { verdict = r; judged = j; is = e }
+
+pub ruleset verdicts = (verdict-same, verdict-different, verdict-refused, verdict-told, needs)

@@ -3,16 +3,24 @@
 ghost use mathlib.Core.Path.{_≡_};
 ghost use mathlib.Core.List.{List};
 ghost use Prim.Native.Nat.{ℕ};
+ghost use Rattle.automata.specs.WellFormed.{lastSymbol};
 ghost use Rattle.determinize.specs.Sheets.{determinizeSheet};
-ghost use Rattle.output.specs.Made.{outputOf};
+ghost use Rattle.emptiness.specs.Reachable.{reachableAnswer};
 ghost use Rattle.epsilon.specs.Eliminate.{eliminateAnswer};
+ghost use Rattle.equality.specs.Equality.{compared};
+ghost use Rattle.output.specs.Made.{outputOf};
 ghost use Rattle.output.specs.Output.{outputs, roomFirst};
-ghost use Rattle.ringmatch.specs.Reply.{reply, replyBit, replied, built, buildReply};
-ghost use Rattle.totality.specs.Answers;
+ghost use Rattle.parser.specs.Parsed.{parsed, parsedOf};
+ghost use Rattle.parser.specs.Pattern.{parse};
+ghost use Rattle.product.specs.Product.{intersection};
+ghost use Rattle.refusal.specs.Decision.{decisionOf};
+ghost use Rattle.ringmatch.specs.Reply.{reply, replyBit, replied, built, buildReply, read, readReply, told, tellVerdict, Told};
 ghost use Rattle.totality.specs.Answers.{isNfaAnswer, totalizeAnswer, complementAnswer};
 ghost use Rattle.words.specs.Acceptance.{acceptsWords, acceptsText, answerOf};
+use equality::Verdict;
 use output::Made;
-use totality::Nfa;
+use parser::Parsed;
+use refusal::Decision;
 use words::Acceptance;
 
 // The number of an acceptance's refusal, or 0 with the answer stored.
@@ -39,6 +47,58 @@ fn reply_made(r: Made, words: &mut u64, bytes: &mut u64) -> u32
             0
         }
         Made::Refused(i) => refusal::number(i),
+    }
+}
+
+// The number of the refusal, or 0 with the answer stored: 1 for true, 0 for false.
+fn reply_decision(r: Decision, answer: &mut u32) -> u32
+    ensures { λ code. ⌜ replied code (now (answer .exit)) ≡ replyBit (now (answer .entry)) (decisionOf r) ⌝ }
+{
+    match r {
+        Decision::Is(b) => {
+            if b {
+                *answer = 1;
+                return 0;
+            }
+            *answer = 0;
+            0
+        }
+        Decision::Refused(i) => refusal::input_number(i),
+    }
+}
+
+// The number of the refusal of a text, or 0 with the bytes read and the lengths of the outputs stored.
+fn reply_parsed(r: Parsed, bytes_read: &mut u64, words: &mut u64, bytes: &mut u64) -> u32
+    ensures { λ code. ⌜ ((o l : List ℕ) → read code (now («bytes_read» .exit)) (now (words .exit)) (now (bytes .exit)) o l ≡ readReply (now («bytes_read» .entry)) (now (words .entry)) (now (bytes .entry)) (parsedOf r o l)) ⌝ }
+{
+    match r {
+        Parsed::Read(n, w, b) => {
+            *bytes_read = n as u64;
+            *words = w as u64;
+            *bytes = b as u64;
+            0
+        }
+        Parsed::Refused(i) => refusal::number(i),
+    }
+}
+
+// The number of a verdict's refusal, or 0 with the verdict stored: same is 1 and number the joins, or same is 0 and number the
+// length of the difference word.
+fn reply_verdict(r: Verdict, same: &mut u32, number: &mut u64) -> u32
+    ensures { λ code. ⌜ told code (now (same .exit)) (now (number .exit)) ≡ tellVerdict (now (same .entry)) (now (number .entry)) r ⌝ }
+{
+    match r {
+        Verdict::Same(joins) => {
+            *same = 1;
+            *number = joins as u64;
+            0
+        }
+        Verdict::Different(n) => {
+            *same = 0;
+            *number = n as u64;
+            0
+        }
+        Verdict::Refused(i) => refusal::number(i),
     }
 }
 
@@ -128,27 +188,70 @@ pub extern "C" fn ringmatch_epsilon_eliminate(
     )
 }
 
-// The number of the refusal, or 0 with the answer stored: 1 for true, 0 for false.
-fn reply_nfa(r: Nfa, answer: &mut u32) -> u32
-    ensures { λ code. ⌜ replied code (now (answer .exit)) ≡ replyBit (now (answer .entry)) (Answers.answerOf r) ⌝ }
-{
-    match r {
-        Nfa::Is(b) => {
-            if b {
-                *answer = 1;
-                return 0;
-            }
-            *answer = 0;
-            0
-        }
-        Nfa::Refused(i) => refusal::input_number(i),
-    }
-}
-
 // Whether a sheet has an epsilon, an overlap or a hole: answer is 1 if so, else 0. Refusals: 1 to 6.
 #[no_mangle]
 pub extern "C" fn ringmatch_is_nfa(sheet: &[u32], answer: &mut u32) -> u32
     ensures { λ code. ⌜ replied code (now (answer .exit)) ≡ replyBit (now (answer .entry)) (isNfaAnswer 0 4294967295 (now (sheet .entry))) ⌝ }
 {
-    reply_nfa(totality::is_nfa(sheet), answer)
+    reply_decision(totality::is_nfa(sheet), answer)
+}
+
+// Whether a state that accepts is reached from the start: answer is 1 if so, else 0, and then no word is accepted. Refusals: 1 to 6.
+#[no_mangle]
+pub extern "C" fn ringmatch_has_reachable_accepting_state(sheet: &[u32], answer: &mut u32) -> u32
+    ensures { λ code. ⌜ replied code (now (answer .exit)) ≡ replyBit (now (answer .entry)) (reachableAnswer (now (sheet .entry))) ⌝ }
+{
+    reply_decision(emptiness::has_reachable_accepting_state(sheet), answer)
+}
+
+// The product of two sheets and its labels `(0, 1)`. Outputs as for `ringmatch_determinize`. Refusals: 20, 1 to 6 of a, then of b, 21, 7, 22.
+#[no_mangle]
+pub extern "C" fn ringmatch_intersection(
+    a: &[u32],
+    b: &[u32],
+    out: &mut [u32],
+    names: &mut [u8],
+    words: &mut u64,
+    bytes: &mut u64,
+) -> u32
+    ensures { λ code. ⌜ built code (now (words .exit)) (now (bytes .exit)) (now (out .exit)) (now (names .exit)) ≡ buildReply (now (words .entry)) (now (bytes .entry)) (outputs (now (out .entry)) (now (names .entry)) (roomFirst (now (out .entry)) (now (names .entry)) (intersection (now (a .entry)) (now (b .entry))))) ⌝ }
+{
+    reply_made(product::intersection(a, b, out, names), words, bytes)
+}
+
+// The pattern at the front of a text: its sheet, its labels, and bytes_read. Outputs as for `ringmatch_determinize`.
+// Refusals: 20, 8, 21, 22.
+#[no_mangle]
+pub extern "C" fn ringmatch_parse_automaton(
+    text: &[u8],
+    out: &mut [u32],
+    names: &mut [u8],
+    bytes_read: &mut u64,
+    words: &mut u64,
+    bytes: &mut u64,
+) -> u32
+    ensures { λ code. ⌜ read code (now («bytes_read» .exit)) (now (words .exit)) (now (bytes .exit)) (now (out .exit)) (now (names .exit)) ≡ readReply (now («bytes_read» .entry)) (now (words .entry)) (now (bytes .entry)) (parsed (now (out .entry)) (now (names .entry)) (roomFirst (now (out .entry)) (now (names .entry)) (parse (now (text .entry))))) ⌝ }
+{
+    reply_parsed(
+        parser::parse_automaton(text, out, names),
+        bytes_read,
+        words,
+        bytes,
+    )
+}
+
+// Whether two sheets accept the same words: same is 1 and number the joins made, or same is 0 and number the length of a word that
+// exactly one accepts, which then stands at the front of word, of at least 510 words. Refusals: 20, 1 to 6 of a, then of b, 21 and
+// 22 of a, then of b.
+#[no_mangle]
+pub extern "C" fn ringmatch_equality(
+    a: &[u32],
+    b: &[u32],
+    word: &mut [u32],
+    same: &mut u32,
+    number: &mut u64,
+) -> u32
+    ensures { λ code. ⌜ Told (compared 0 lastSymbol (now (a .entry)) (now (b .entry)) (now (word .entry))) (now (word .entry)) (now (word .exit)) (now (same .entry)) (now (number .entry)) (told code (now (same .exit)) (now (number .exit))) ⌝ }
+{
+    reply_verdict(equality::equality(a, b, word), same, number)
 }
