@@ -8,6 +8,14 @@
 // compare --emit ranges --seed 1 --count 400
 // compare --emit closures --seed 1 --count 400
 // compare --emit determinize --seed 1 --count 200
+// compare --emit product --seed 1 --count 200
+// compare --emit totalize --seed 1 --count 200
+// compare --emit complement --seed 1 --count 200
+// compare --emit epsilon_eliminate --seed 1 --count 200
+// compare --emit is_nfa --seed 1 --count 200
+// compare --emit nonempty --seed 1 --count 200
+// compare --emit parse --seed 1 --count 200
+// compare --emit equality --seed 1 --count 200
 ghost use mathlib.Core.Path.{_≡_};
 ghost use Prim.Native.Nat.{_+_, _<_};
 use libc::STDOUT_FILENO;
@@ -17,7 +25,9 @@ mod acceptance;
 mod closures;
 mod inputs;
 mod operations;
+mod questions;
 mod symbols;
+mod verdicts;
 
 enum Kind {
     Sheets,
@@ -27,6 +37,14 @@ enum Kind {
     Ranges,
     Closures,
     Determinize,
+    Product,
+    Totalize,
+    Complement,
+    EpsilonEliminate,
+    IsNfa,
+    Nonempty,
+    Parse,
+    Equality,
 }
 
 // Whether the answer in a case is the one that the port gives.
@@ -39,6 +57,14 @@ fn agrees(kind: Kind, case: &[u32]) -> bool {
         Kind::Ranges => symbols::ranges_of(case),
         Kind::Closures => closures::of_sheet(case),
         Kind::Determinize => operations::determinized(case),
+        Kind::Product => operations::intersected(case),
+        Kind::Totalize => operations::totalized(case),
+        Kind::Complement => operations::complemented(case),
+        Kind::EpsilonEliminate => operations::epsilon_eliminated(case),
+        Kind::IsNfa => questions::nfa(case),
+        Kind::Nonempty => questions::nonempty(case),
+        Kind::Parse => operations::parsed(case),
+        Kind::Equality => verdicts::compared(case),
     }
 }
 
@@ -86,4 +112,12 @@ fn main() {
     replay_file(Kind::Ranges, b"ranges");
     replay_file(Kind::Closures, b"closures");
     replay_file(Kind::Determinize, b"determinize");
+    replay_file(Kind::Product, b"product");
+    replay_file(Kind::Totalize, b"totalize");
+    replay_file(Kind::Complement, b"complement");
+    replay_file(Kind::EpsilonEliminate, b"epsilon_eliminate");
+    replay_file(Kind::IsNfa, b"is_nfa");
+    replay_file(Kind::Nonempty, b"nonempty");
+    replay_file(Kind::Parse, b"parse");
+    replay_file(Kind::Equality, b"equality");
 }
