@@ -48,7 +48,8 @@ fn run(rng: &mut Rng, n: usize, operations: usize, finds: usize) {
 }
 
 fn main() {
-    let seed = std::env::args().nth(1).map_or(20240607, |seed| seed.parse().expect("a seed is a number"));
+    let seed =
+        std::env::args().nth(1).map_or(20240607, |seed| seed.parse().expect("a seed is a number"));
     let mut rng = Rng(seed);
     for n in [0, 1, 2, 3, 5, 8] {
         run(&mut rng, n, 12, 4);

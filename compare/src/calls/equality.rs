@@ -90,6 +90,9 @@ pub fn compare(call: port::Equality, plan: &Plan, tally: &mut Tally) {
             check(&mut rng, "tiny", a.words(), b.words());
         }
     }
+    for (a, b) in pairs::edges() {
+        check(&mut rng, "edge", a.words(), b.words());
+    }
     for _ in 0..plan.rounds {
         let (sort, a, b) = pairs::any(&mut rng);
         check(&mut rng, sort, a, b);

@@ -19,6 +19,9 @@ pub fn compare(call: port::IsEquivalent, plan: &Plan, tally: &mut Tally) {
         }
     }
     let mut rng = plan.rng("is_equivalent");
+    for (a, b) in pairs::edges() {
+        check("edge", a.words(), b.words());
+    }
     for _ in 0..plan.rounds {
         let (sort, a, b) = pairs::any(&mut rng);
         check(sort, a, b);

@@ -35,6 +35,12 @@ pub fn compare(call: port::ParseAutomaton, plan: &Plan, tally: &mut Tally) {
         );
     };
     let mut rng = plan.rng("parse_automaton");
+    for text in patterns::edits() {
+        check(&mut rng, "one edit", text);
+    }
+    for text in patterns::rules() {
+        check(&mut rng, "rule", text);
+    }
     for _ in 0..plan.rounds {
         let (sort, text) = patterns::any(&mut rng);
         check(&mut rng, sort, text);

@@ -143,6 +143,64 @@ fn limits(rng: &mut Rng) -> (Sheet, Sheet) {
     }
 }
 
+/// Two rings of coprime lengths that part first on a word as long as both lengths less 2: their
+/// accept words are a word of both periods.
+fn coprime_rings(p: usize, q: usize) -> (Sheet, Sheet) {
+    let length = p + q - 2;
+    let mut class: Vec<usize> = (0..length).collect();
+    for i in 0..length {
+        for j in [i + p, i + q] {
+            if j < length && class[i] != class[j] {
+                let (old, new) = (class[j], class[i]);
+                class.iter_mut().filter(|c| **c == old).for_each(|c| *c = new);
+            }
+        }
+    }
+    let accept = |n: usize| (0..n).map(|i| (class[i % length] == class[0]) as u32).collect();
+    (sheets::ring(accept(p)), sheets::ring(accept(q)))
+}
+
+/// The sheet with an epsilon from its start to its start.
+fn with_epsilon(mut sheet: Sheet) -> Sheet {
+    sheet.records.push([sheet.start, EPSILON, 0, 0, sheet.start]);
+    sheet.sort();
+    sheet
+}
+
+/// Pairs on both sides of each limit: 256 and 257 pairs, with and without an epsilon beside them;
+/// 2,048 and 2,049 transitions; 255 and 256 sets; and pairs that part only on one long word.
+pub fn edges() -> Vec<(Sheet, Sheet)> {
+    let ring = |n| sheets::chain(n, true);
+    let chain = |n| sheets::chain(n, false);
+    let products = [
+        (ring(256), ring(2)),
+        (sheets::lasso(1, 128), ring(256)),
+        (ring(256), sheets::lasso(1, 128)),
+        (sheets::complete(16, 1), sheets::complete(16, 1)),
+        (sheets::complete(16, 1), sheets::complete(17, 1)),
+    ];
+    let mut result = products.to_vec();
+    for (a, b) in products {
+        result.push((with_epsilon(a.clone()), b.clone()));
+        result.push((a, with_epsilon(b)));
+    }
+    result.extend([
+        (sheets::nested(32, true), sheets::nested(64, false)),
+        (sheets::nested(3, true), sheets::nested(683, false)),
+        (sheets::nested(1, true), sheets::nested(2048, false)),
+        (chain(255), chain(254)),
+        (chain(255), chain(255)),
+        (chain(256), chain(255)),
+        (chain(255), chain(256)),
+        (chain(255), ring(255)),
+    ]);
+    for (p, q) in [(2, 3), (5, 7), (16, 17), (127, 128), (254, 253), (255, 254), (255, 2)] {
+        result.push(coprime_rings(p, q));
+        result.push((ring(p), ring(q)));
+    }
+    result
+}
+
 /// Two sheets as words, with the name of their sort.
 pub fn any(rng: &mut Rng) -> (&'static str, Vec<u32>, Vec<u32>) {
     match rng.below(100) {

@@ -88,22 +88,27 @@ fn pattern(rng: &mut Rng, most: usize) -> String {
     text + ";" + space(rng) + "};"
 }
 
+/// A pattern of that many states.
+fn with_states(states: usize) -> String {
+    let chain: String = (1..states).map(|i| format!(" s{} -> s{i} [0, 0];", i - 1)).collect();
+    format!("automaton L {{ init s0;{chain} accepting s0; }};")
+}
+
+/// A pattern of that many transitions; a repeated one counts once.
+fn with_transitions(transitions: usize) -> String {
+    let repeats = |i| if i == 5 { 3 } else { 1 };
+    let loops: String =
+        (0..transitions).map(|i| format!(" s0 -> s0 [{i}, {i}];").repeat(repeats(i))).collect();
+    format!("automaton L {{ init s0;{loops} accepting s0; }};")
+}
+
 /// A pattern whose states or transitions are at a limit.
 fn limit(rng: &mut Rng) -> String {
-    let mut text = "automaton L { init s0;".to_owned();
     if rng.one_in(2) {
-        for i in 1..rng.within(255, 258) {
-            text += &format!(" s{} -> s{i} [0, 0];", i - 1);
-        }
+        with_states(rng.within(255, 258))
     } else {
-        let count = rng.within(2047, 2050);
-        for i in 0..count {
-            // Repeated ones count once.
-            let repeats = if i == 5 { 3 } else { 1 };
-            text += &format!(" s0 -> s0 [{i}, {i}];").repeat(repeats);
-        }
+        with_transitions(rng.within(2047, 2050))
     }
-    text + " accepting s0; };"
 }
 
 /// Something behind a pattern, which is left unread.
@@ -129,6 +134,87 @@ fn byte(rng: &mut Rng) -> u8 {
 pub fn short(rng: &mut Rng) -> Vec<u8> {
     let text = pattern(rng, 2).into_bytes();
     if rng.one_in(3) { damaged(rng, &text, byte) } else { text }
+}
+
+/// A text with every piece of the grammar and every sort of space.
+const FULL: &str = "automaton\tP_1 {\r\n init p;\n p -> q [0, 007];\taccepting->p[8 ,9];\n q->p [ 4294967295,4294967295]; p -> q [0, 7];\n accepting q , p,none;\n};x";
+
+/// The full text with one byte changed, one left out or one put in, and every prefix of it.
+pub fn edits() -> Vec<Vec<u8>> {
+    let full = FULL.as_bytes();
+    let mut texts = vec![full.to_vec()];
+    for at in 0..=full.len() {
+        texts.push(full[..at].to_vec());
+        for byte in 0..=255 {
+            let (before, behind) = (&full[..at], &full[at..]);
+            texts.push([before, &[byte], behind].concat());
+            if let Some(rest) = behind.get(1..) {
+                texts.push([before, &[byte], rest].concat());
+                texts.push([before, rest].concat());
+            }
+        }
+    }
+    texts
+}
+
+/// Each rule of the grammar broken in turn, and names, states and transitions at their limits.
+pub fn rules() -> Vec<Vec<u8>> {
+    let long = "n".repeat(MAX_NAME);
+    let longer = "n".repeat(MAX_NAME + 1);
+    let mut texts: Vec<String> = [
+        " automaton A { init p; accepting p; };",
+        "automaton A { init p ; accepting p; };",
+        "automaton A { init p; accepting p ; };",
+        "automaton A { init p; p -> p [0, 9 ]; accepting p; };",
+        "automaton A { init p; p -> p [0, 9] ; accepting p; };",
+        "automaton A { init p; accepting p; } ;",
+        "automaton A{init p;accepting p;};",
+        "automatonA { init p; accepting p; };",
+        "automaton A { initp; accepting p; };",
+        "automaton A { init p; acceptingp; };",
+        "automaton A { init p; accepting; };",
+        "automaton A { init p; accepting p,; };",
+        "automaton A { init p; accepting p q; };",
+        "automaton A { accepting p; };",
+        "automaton A { init p; };",
+        "automaton A { init p; accepting p; }",
+        "automaton 1A { init p; accepting p; };",
+        "automaton A { init _p; accepting p; };",
+        "automaton A { init p; p -> p [9, 0]; accepting p; };",
+        "automaton A { init p; p -> p [0, 4294967296]; accepting p; };",
+        "automaton A { init p; p -> p [, 9]; accepting p; };",
+        "automaton A { init p; p -> p [0 9]; accepting p; };",
+        "automaton A { init p; p - > p [0, 9]; accepting p; };",
+        "automaton A { init p; p -> p (0, 9); accepting p; };",
+        "automaton A { init accepting; accepting -> p [0, 9]; accepting p; };",
+        "automaton A { init init; init -> automaton [0, 9]; accepting automaton; };",
+        "automaton A { init p; accepting q; };",
+        "automaton A { init p; p -> p [-1, 9]; accepting p; };",
+        "automaton A { init p; p -> p [+1, 9]; accepting p; };",
+        "automaton A { init p; accepting p; accepting p; };",
+        "automaton A { init p; accepting p; p -> p [0, 9]; };",
+        "automaton\u{b}A { init p; accepting p; };",
+        "automaton\u{a0}A { init p; accepting p; };",
+    ]
+    .map(str::to_owned)
+    .to_vec();
+    for name in [&long, &longer] {
+        texts.push(format!("automaton {name} {{ init p; accepting p; }};"));
+        texts.push(format!("automaton A {{ init {name}; accepting p; }};"));
+        texts.push(format!("automaton A {{ init p; {name} -> p [0, 9]; accepting p; }};"));
+        texts.push(format!("automaton A {{ init p; p -> {name} [0, 9]; accepting p; }};"));
+        texts.push(format!("automaton A {{ init p; accepting p, {name}; }};"));
+        texts.push(format!("automaton A {{ init p; accepting p; }};{name}"));
+    }
+    for states in [255, 256, 257] {
+        texts.push(with_states(states));
+        texts.push(with_states(states) + " ;");
+        texts.push(with_states(states).replace("};", "} ;"));
+    }
+    for transitions in [2047, 2048, 2049] {
+        texts.push(with_transitions(transitions));
+    }
+    texts.into_iter().map(String::into_bytes).collect()
 }
 
 /// A text, with the name of its sort.

@@ -129,6 +129,20 @@ pub fn chain(states: usize, closed: bool) -> Sheet {
     Sheet { start: 0, accept, records }
 }
 
+/// A ring of states, each led to the next by (0, 0), with the given accept words.
+pub fn ring(accept: Vec<u32>) -> Sheet {
+    let states = accept.len() as u32;
+    let records = (0..states).map(|from| [from, RANGE, 0, 0, (from + 1) % states]).collect();
+    Sheet { start: 0, accept, records }
+}
+
+/// A chain of `tail` states that leads into a ring of `length` states, the last of which accepts.
+pub fn lasso(tail: usize, length: usize) -> Sheet {
+    let mut sheet = chain(tail + length, false);
+    sheet.records.push([(tail + length) as u32 - 1, RANGE, 0, 0, tail as u32]);
+    sheet
+}
+
 /// Accepts where the symbol `k` from the end is 1: `k` + 1 states, 2 to the `k` sets.
 pub fn from_the_end(k: usize) -> Sheet {
     let mut records = vec![[0, RANGE, 0, 1, 0], [0, RANGE, 1, 1, 1]];
