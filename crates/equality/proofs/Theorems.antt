@@ -1,4 +1,4 @@
--- Demand 3: what the verdict says of every word, against Rabin and Scott's acceptance. Assumes nothing.
+-- What the verdict says of every word, against Rabin and Scott's acceptance: demand 3 but for its products, which crate `crossed` adds. Assumes nothing.
 use Prim.Native.Nat.{ℕ, zero, suc, _≤_, _<_}
 use mathlib.Core.List.{List}
 use mathlib.Core.Logic.{_⊎_, inl, inr, _↔_}
@@ -8,7 +8,7 @@ use borrow.Author.Tests.{le-ltb}
 use lib.ListN.{length, take}
 use lib.Seq.{length-take-le}
 use Rattle.automata.specs.Automaton.{Automaton, Accepts, Word}
-use Rattle.automata.specs.WellFormed.{WellFormed, lastSymbol}
+use Rattle.automata.specs.WellFormed.{WellFormed}
 use Rattle.refusal.specs.Answer.{Answer, given}
 use Rattle.sheets.specs.Checked.{sheetFirst}
 use Rattle.sheets.specs.Fault.{fault}
@@ -132,8 +132,3 @@ module _ (low high : ℕ) (a b o o′ : List ℕ) (r : Verdict) (first : fault a
         let d = determinize-given low high (read a) (well-a .states) (la .0) (la .1) in
         let e = determinize-given low high (read b) (well-b .states) (lb .0) (lb .1) in
         (record { one = d .0; two = e .0; low = low; high = high }, d .1, e .1, equality-exact (d .0) (e .0) (d .1) (e .1))
-
--- demand 3, with the contract of `equality` as a premise: words of u32 symbols are those of symbols from 0 to 4294967295
-pub demand-3 : (a b o o′ : List ℕ) (r : Verdict) → Judged (compared 0 lastSymbol a b o) o o′ r → fault a ≡ 0 → fault b ≡ 0 → 510 ≤ length o → Limits 0 lastSymbol (read a) → Limits 0 lastSymbol (read b)
-    → (t : Two) × (determinize 0 lastSymbol (read a) ≡ given (t .one)) × (determinize 0 lastSymbol (read b) ≡ given (t .two)) × Exact 0 lastSymbol (read a) (read b) t o o′ r
-demand-3 a b o o′ r judged first second room la lb = equality-within 0 lastSymbol a b o o′ r first second room judged la lb

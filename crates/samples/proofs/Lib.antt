@@ -1,2 +1,7 @@
 -- The starred samples of document 01.
+pub mod Patterns
+pub mod Overlap
+pub mod Single
+pub mod Three
+pub mod Verdicts
 pub mod Starred

@@ -4,46 +4,37 @@ use mathlib.Core.Bool.{true, false}
 use mathlib.Core.List.{List, [], _∷_}
 use mathlib.Core.Option.{some}
 use mathlib.Core.Path.{_≡_, refl}
-use lib.ListN.{length}
+use lib.ListN.{length, take}
 use Rattle.lists.specs.Lists.{any, keep, tabulate}
-use Rattle.automata.specs.Automaton.{Transition, Automaton, holds}
-use Rattle.automata.specs.Records.{wordsOf, readRecords}
+use Rattle.automata.specs.Automaton.{holds}
+use Rattle.automata.specs.Records.{readRecords}
 use Rattle.automata.specs.WellFormed.{lastSymbol}
 use Rattle.determinize.specs.Partition.{Part, partOf, partition}
-use Rattle.determinize.specs.Determinize.{targets, add, meet, explore, table, states, transitionOf, transitionsOf, transitionsFrom, built, limited, answerOf, determinize}
+use Rattle.determinize.specs.Determinize.{targets, determinize}
 use Rattle.ranges.specs.Span.{Span, intersectRanges, startsBelow, overlapping}
 use Rattle.ranges.specs.Cuts.{nearer, nextCut, spans, cutAll}
 use Rattle.ranges.specs.Missing.{covered, missing}
+use Rattle.equality.specs.Equality.{compared, Judged}
+use Rattle.equality.specs.declared.Verdict.{Verdict}
+use Rattle.equality.specs.declared.Verdict.the-variants.{Same, Different}
 use Rattle.refusal.specs.Answer.{given}
-use Rattle.sets.specs.Sets.{Set, has, pickFrom, same, index}
+use Rattle.sets.specs.Sets.{Set, has, pickFrom}
 use Rattle.sets.specs.Closure.{through, closed}
 use Rattle.sheets.specs.Checked.{sheetFirst}
 use Rattle.sheets.specs.Fault.{isBad, recordFault, recordsFault, transitionsFault, statesFault, fault}
-use Rattle.sheets.specs.Sheet.{read}
+use Rattle.sheets.specs.Sheet.{read, write}
+use Rattle.totality.specs.Totality.{complemented}
 use Rattle.words.specs.Acceptance.{acceptsWords}
 use Rattle.words.specs.Simulation.{isEpsilon, epsilonRow, closures, closure, outgoing, step, startSet, simulate, least, kindOf, kind}
-
-abbrev range : ℕ → ℕ → ℕ → ℕ → Transition
-range p a b q = record { from = p; kind = 1; first = a; last = b; to = q }
+use Rattle.samples.proofs.Patterns.{range, A, B, C, O, DA, determinized}
+use Rattle.samples.proofs.Overlap.{overlap-5}
+use Rattle.samples.proofs.Verdicts.{same-4, differ-9}
 
 abbrev span : ℕ → ℕ → Span
 span a b = record { low = a; high = b }
 
 abbrev part : ℕ → ℕ → Set → Part
 part a b S = record { low = a; high = b; targets = S }
-
--- the sheet of the pattern A
-abbrev A : List ℕ
-A = 1 ∷ 0 ∷ 2 ∷ 0 ∷ 1 ∷ 1 ∷ 0 ∷ 1 ∷ 0 ∷ 9 ∷ 1 ∷ []
-
--- A determinized
-abbrev D : Automaton
-D = record {
-  size = 3;
-  start = 0;
-  accept = 0 ∷ 1 ∷ 0 ∷ [];
-  transitions = range 0 0 9 1 ∷ range 0 10 lastSymbol 2 ∷ range 1 0 lastSymbol 2 ∷ range 2 0 lastSymbol 2 ∷ [];
-}
 
 pub starred :
     -- holes of nothing, and of (5, 4294967295)
@@ -60,8 +51,14 @@ pub starred :
     × (acceptsWords A (10 ∷ []) ≡ given 0)
     × (acceptsWords A [] ≡ given 0)
     -- A determinized: 3 states, 4 transitions
-    × (determinize 0 lastSymbol (read A) ≡ given D)
-    × (D .size ≡ 3)
-    × (length (D .transitions) ≡ 4)
-unfolding any keep tabulate holds readRecords has pickFrom same index through closed isEpsilon epsilonRow closures closure outgoing step startSet simulate least kindOf kind nearer nextCut spans cutAll covered missing intersectRanges startsBelow overlapping partOf partition targets add meet explore table states transitionOf transitionsOf transitionsFrom built limited answerOf determinize isBad recordFault recordsFault transitionsFault statesFault fault sheetFirst acceptsWords
-starred = (refl, refl, refl, refl, refl, refl, refl, refl, refl, refl, refl, refl)
+    × (determinize 0 lastSymbol (read A) ≡ given DA)
+    × (DA .size ≡ 3)
+    × (length (DA .transitions) ≡ 4)
+    -- an automaton with an overlap and its complement both accept 5
+    × (acceptsWords O (5 ∷ []) ≡ given 1)
+    × (acceptsWords (write (complemented 0 lastSymbol (read O))) (5 ∷ []) ≡ given 1)
+    -- A and B are the same with 4 joins, whatever buffer is lent; A and C differ, and the word is 9
+    × ((o o′ : List ℕ) (r : Verdict) → 510 ≤ length o → Judged (compared 0 lastSymbol A B o) o o′ r → r ≡ Same 4)
+    × ((o o′ : List ℕ) (r : Verdict) → 510 ≤ length o → Judged (compared 0 lastSymbol A C o) o o′ r → (r ≡ Different 1) × (take 1 o′ ≡ 9 ∷ []))
+unfolding any keep tabulate holds readRecords has pickFrom through closed isEpsilon epsilonRow closures closure outgoing step startSet simulate least kindOf kind nearer nextCut spans cutAll covered missing intersectRanges startsBelow overlapping partOf partition isBad recordFault recordsFault transitionsFault statesFault fault sheetFirst acceptsWords
+starred = (refl, refl, refl, refl, refl, refl, refl, refl, refl, determinized .0, refl, refl, overlap-5 .0, overlap-5 .1, same-4, differ-9)

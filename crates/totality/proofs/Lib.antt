@@ -10,4 +10,3 @@ pub mod Totalized
 pub mod Words
 pub mod Deterministic
 pub mod Limits
-pub mod Samples

@@ -1,0 +1,2 @@
+-- The calls that the products of demand 3 are made by.
+pub mod Crossed
