@@ -19,14 +19,14 @@ use Rattle.labels.specs.Forms.{numbered}
 use Rattle.labels.specs.Labels.{labelsFault, writeLabels}
 use Rattle.labels.proofs.Labels.{read-write, fault-write}
 use Rattle.labels.proofs.Whole.{labels-numbered, length-numbered}
-use Rattle.output.specs.Output.{Pattern, sheetSize, labelsSize, roomFirst}
+use Rattle.output.specs.Output.{Pattern, sheetSize, labelsSize, roomFirst, labelsFirst}
 use Rattle.refusal.specs.Answer.{Answer, refused, given}
 use Rattle.sheets.specs.Checked.{sheetFirst}
 use Rattle.sheets.specs.Fault.{fault}
 use Rattle.sheets.specs.Sheet
 use Rattle.sheets.proofs.Accepted.{accepted}
 use Rattle.sheets.proofs.Meaning.{read-well, read-write-sheet, write-accepted}
-use Rattle.totality.specs.Answers.{labelsFirst, complementPattern, complementAnswer}
+use Rattle.totality.specs.Answers.{complementPattern, complementAnswer}
 use Rattle.totality.specs.Totality.{isNfa, flipped, complemented}
 use Rattle.totality.proofs.Answers.{limited-given}
 use Rattle.totality.proofs.Deterministic.{nfa-settled, nfa-exact, complement-words}
