@@ -1,0 +1,3 @@
+-- The theory of `is_equivalent`, and what the functions' proofs cite.
+pub mod Triggers
+

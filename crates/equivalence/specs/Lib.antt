@@ -1,0 +1,3 @@
+-- `is_equivalent`: triggers, its definition, and what its code holds of pairs of states.
+pub mod Triggers
+pub mod Equivalent
