@@ -1,5 +1,9 @@
 -- The theory of `is_equivalent`, and what the functions' proofs cite.
 pub mod Triggers
-pub mod Pairs
+pub mod Exact
 pub mod Words
 pub mod Theorems
+pub mod Joining
+pub mod Rows
+pub mod Reading
+pub mod Turning

@@ -9,7 +9,7 @@ use Rattle.automata.specs.WellFormed.{WellFormed, lastSymbol}
 use Rattle.product.specs.Reached.{EpsilonFree}
 use Rattle.totality.proofs.Words.{own-functional}
 use Rattle.equivalence.specs.Equivalent.{Reached, Alike, equivalent, OverlapFree}
-use Rattle.equivalence.proofs.Pairs.{exact, exact-false}
+use Rattle.equivalence.proofs.Exact.{exact, exact-false}
 use Rattle.equivalence.proofs.Words.{words-beside, all-turn}
 
 module _ (A B : Automaton) (v : WellFormed A) (u : WellFormed B) where
