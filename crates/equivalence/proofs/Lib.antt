@@ -7,3 +7,5 @@ pub mod Joining
 pub mod Rows
 pub mod Reading
 pub mod Turning
+pub mod Comparing
+pub mod Bisimulation
