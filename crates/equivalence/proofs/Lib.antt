@@ -9,3 +9,5 @@ pub mod Reading
 pub mod Turning
 pub mod Comparing
 pub mod Bisimulation
+pub mod Going
+pub mod Answers
