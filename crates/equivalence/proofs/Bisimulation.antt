@@ -1,6 +1,6 @@
 -- What the joins of a finished walk mean. States that are joined have the same acceptance and the same triggers, and what equal triggers lead
 -- to is joined again: this holds of each pair, so of all that the pairs generate, and so of every reached pair. Assumes nothing.
-use Prim.Native.Nat.{ℕ, _+_, _-_, _≤_, _<_}
+use Prim.Native.Nat.{ℕ, _+_, _-_, _<_}
 use mathlib.Core.Bool.{cond}
 use mathlib.Core.List.{List, map}
 use mathlib.Core.Path.{_≡_, refl, sym, ap, subst, _∙_}
@@ -8,7 +8,6 @@ use native.Mathlib.Omega.{arith}
 use borrow.Author.Tests.{lt-ltb, le-ltb}
 use lib.Dec.{ltb}
 use lib.ListN.{getD}
-use Rattle.lists.specs.Lists.{_∈_}
 use Rattle.lists.proofs.Members.{map-in, map-out}
 use Rattle.automata.specs.Automaton.{Transition, Automaton, InBounds, leaving}
 use Rattle.equivalence.specs.declared.Pairs.{Pairs}

@@ -6,7 +6,7 @@ use mathlib.Core.Logic.{⊎-elim}
 use mathlib.Core.Path.{_≡_, refl, sym, ap, subst, _∙_}
 use native.Mathlib.Omega.{arith}
 use borrow.Author.Needs.{needs}
-use borrow.Author.Tests.{lt-ltb, le-ltb, ltb-true, ltb-false}
+use borrow.Author.Tests.{ltb-true, ltb-false}
 use lib.Dec.{ltb}
 use lib.ListN.{length, getD, take, drop}
 use Rattle.lists.specs.Lists.{_∈_}
@@ -17,12 +17,12 @@ use Rattle.automata.proofs.Records.{records-at, records-end}
 use Rattle.dsu.specs.Classes.{Classes, none, old, new}
 use Rattle.equivalence.specs.declared.Pairs.{Pairs}
 use Rattle.equivalence.specs.Triggers.{SameTrigger, Within, sameTrigger}
-use Rattle.equivalence.specs.Rows.{behindRow, leadersBehind, leaders, RowEnd}
-use Rattle.equivalence.specs.Walking.{classes, oneAt, twoAt, Good, Grown, CanOffer, Offered, Runs, CanTurn, Origin, Comes, Joined, Saw, Turned}
+use Rattle.equivalence.specs.Rows.{leadersBehind, leaders, RowEnd}
+use Rattle.equivalence.specs.Walking.{Good, Grown, CanOffer, Offered, Runs, CanTurn, Comes, Saw, Turned}
 use Rattle.equivalence.proofs.Triggers.{trigger-test, trigger-apart, trigger-chain, not-true, not-false}
 use Rattle.equivalence.proofs.Reading.{test-parts}
 use Rattle.equivalence.proofs.Rows.{leaders-rest, leaders-out, leaders-led}
-use Rattle.equivalence.proofs.Turning.{Zipped, whole, next, zipped-left, zipped-right, zipped-grown, Matched, zipped-matched, zipped-heads, zipped-left-over, zipped-right-over}
+use Rattle.equivalence.proofs.Turning.{Zipped, whole, next, zipped-left, zipped-right, zipped-grown, zipped-matched, zipped-heads, zipped-left-over, zipped-right-over}
 
 -- some number, some class
 classes-positive : {R : ℕ → ℕ → Type 0} {n k : ℕ} → Classes R n k → 0 < n → 0 < k

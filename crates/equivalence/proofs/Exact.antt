@@ -1,7 +1,7 @@
 -- The pairs of the graph are those that equal triggers reach; there are no more than states of the one times states of the other. Assumes nothing.
-use Prim.Native.Nat.{ℕ, zero, suc, _+_, _*_, _≤_, _<_}
-use mathlib.Core.Bool.{Bool, true, false, not}
-use mathlib.Core.List.{List, [], _∷_, _++_, map, flatMap, List·Memᴰ·head, List·Memᴰ·tail, List·Memᴰ·append-cases, Memᴰ·append-left, Memᴰ·append-right}
+use Prim.Native.Nat.{ℕ, _*_, _<_}
+use mathlib.Core.Bool.{Bool, true, false, not, false≢true}
+use mathlib.Core.List.{List, [], _∷_, map, flatMap, List·Memᴰ·head, List·Memᴰ·tail, List·Memᴰ·append-cases, Memᴰ·append-left, Memᴰ·append-right}
 use mathlib.Core.Logic.{_↔_, ⊎-elim}
 use mathlib.Core.Path.{_≡_, refl, sym, _∙_, ap, subst}
 use native.Mathlib.Nat.{add-comm, suc-mul}
@@ -9,19 +9,19 @@ use native.Mathlib.Omega.{arith}
 use borrow.Author.Tests.{eq-eqb, eqb-true}
 use lib.Dec.{eqb}
 use lib.ListN.{length, getD, length-append, length-map}
-use Rattle.lists.specs.Lists.{_∈_, any, keep, tabulate}
-use Rattle.lists.proofs.Lists.{any-in, any-out, keep-in, keep-out, tabulate-at, length-tabulate}
+use Rattle.lists.specs.Lists.{_∈_, keep, tabulate}
+use Rattle.lists.proofs.Lists.{any-out, keep-in, keep-out, tabulate-at, length-tabulate}
 use Rattle.lists.proofs.Members.{map-in, map-out, at-in, distinct-length}
 use Rattle.lists.proofs.Tests.{test, and-both, and-parts}
 use Rattle.automata.specs.Automaton.{Transition, Automaton, InBounds, leaving}
 use Rattle.search.specs.Search.{Found, over, found, table}
 use Rattle.search.specs.Reached as Search
 use Rattle.search.proofs.Queue.{over-exact, table-all}
-use Rattle.product.specs.Product.{Pair, samePair}
-use Rattle.product.proofs.Pairs.{pair-eq, same-decides}
+use Rattle.product.specs.Product.{Pair}
+use Rattle.product.proofs.Pairs.{same-decides}
 use Rattle.equivalence.specs.Triggers.{SameTrigger, First, sameTrigger, firsts, within}
 use Rattle.equivalence.specs.Equivalent.{Reached, start, step, Alike, alike, targetsWith, targets, pairs, allAlike, equivalent}
-use Rattle.equivalence.proofs.Triggers.{trigger-test, trigger-passes, not-true, not-false, none-out, none-in, firsts-out, firsts-in, within-test, within-passes}
+use Rattle.equivalence.proofs.Triggers.{trigger-test, trigger-passes, not-true, not-false, none-out, firsts-out, firsts-in, within-test, within-passes}
 
 -- lists of lists
 flat-in : {X Y : Type 0} (f : X → List Y) {x : X} {y : Y} {l : List X} → x ∈ l → y ∈ f x → y ∈ flatMap f l
@@ -116,34 +116,31 @@ module _ (A B : Automaton) where
         let l = distinct-length (m .0) every (m .1 .distinct) (λ p k. let b = reached-in (graph-reached (m .1 .reached p k)) in every-in p (b .0) (b .1)) in
         omega (arith, m .2, every-length)
 
-    -- true exactly when no reached pair differs
+    -- the table has all reached pairs, and one of them differs or none
+    abbrev differ : Pair → Bool
+    differ p = not (alike A B p)
+
+    settled : (f : Found Pair) → table (pairs A B) (A .size * B .size) ≡ f → (T : List Pair) × (f ≡ found T) × Search.AllReached (pairs A B) T
+    settled over e = absurd (few (over-exact (pairs A B) pairs-decides (A .size * B .size) .0 e))
+    settled (found T) e = (T, refl, table-all (pairs A B) pairs-decides (A .size * B .size) T e)
+
+    all-true : equivalent A B ≡ true → (p q : ℕ) → Reached A B p q → Alike A B p q
+    unfolding equivalent allAlike
+    all-true h p q r =
+        let (T, e, t) = settled (table (pairs A B) (A .size * B .size)) refl in
+        let x : Pair = record { left = p; right = q } in
+        alike-test x (⊎-elim (λ s. s) (λ (s : alike A B x ≡ false). absurd (none-out differ T (rw e at h) x (t .whole x (reached-graph r)) (ap not s))) (test (alike A B x)))
+
+    some-false : equivalent A B ≡ false → (p q : ℕ) × Reached A B p q × (Alike A B p q → ⊥)
+    unfolding equivalent allAlike
+    some-false h =
+        let (T, e, t) = settled (table (pairs A B) (A .size * B .size)) refl in
+        let (p, m, s) = any-out differ T (not-false _ (rw e at h)) in
+        (p .left, p .right, graph-reached (t .good .reached p m), λ a. false≢true (sym (not-true (alike A B p) s) ∙ alike-passes p a))
+
+    -- true exactly when no reached pair differs, false exactly when one does
     pub exact : (equivalent A B ≡ true) ↔ ((p q : ℕ) → Reached A B p q → Alike A B p q)
-    unfolding equivalent allAlike
-    exact = go (table (pairs A B) (A .size * B .size)) refl
-      where
-        go : (f : Found Pair) → table (pairs A B) (A .size * B .size) ≡ f → (allAlike A B f ≡ true) ↔ ((p q : ℕ) → Reached A B p q → Alike A B p q)
-        go over e = absurd (few (over-exact (pairs A B) pairs-decides (A .size * B .size) .0 e))
-        go (found T) e =
-            let t = table-all (pairs A B) pairs-decides (A .size * B .size) T e in (
-              λ h p q r. alike-test (record { left = p; right = q }) (passes T h (record { left = p; right = q }) (t .whole (record { left = p; right = q }) (reached-graph r))),
-              λ h. none-in (λ p. not (alike A B p)) T (λ p m u. absurd (none-true (alike A B p) (alike-passes p (h (p .left) (p .right) (graph-reached (t .good .reached p m)))) u)),
-            )
-          where
-            none-true : (b : Bool) → b ≡ true → not b ≡ true → ⊥
-            none-true b s u = let z : true ≡ false = sym s ∙ not-true b u in absurd (let y : _≡_ {A = ℕ} 0 1 = cc in omega arith)
+    exact = (all-true, λ h. ⊎-elim (λ t. t) (λ (f : equivalent A B ≡ false). let (p, q, r, n) = some-false f in absurd (n (h p q r))) (test (equivalent A B)))
 
-            passes : (T : List Pair) → not (any (λ p. not (alike A B p)) T) ≡ true → (p : Pair) → p ∈ T → alike A B p ≡ true
-            passes T h p m = ⊎-elim (λ t. t) (λ (t : alike A B p ≡ false). absurd (none-out (λ p. not (alike A B p)) T h p m (ap not t))) (test (alike A B p))
-
-    -- false exactly when some reached pair differs
     pub exact-false : (equivalent A B ≡ false) ↔ ((p q : ℕ) × Reached A B p q × (Alike A B p q → ⊥))
-    unfolding equivalent allAlike
-    exact-false = (λ h. go (table (pairs A B) (A .size * B .size)) refl h, λ (p, q, r, n). ⊎-elim (λ (t : equivalent A B ≡ true). absurd (n (exact .0 t p q r))) (λ t. t) (test (equivalent A B)))
-      where
-        go : (f : Found Pair) → table (pairs A B) (A .size * B .size) ≡ f → allAlike A B f ≡ false → (p q : ℕ) × Reached A B p q × (Alike A B p q → ⊥)
-        go over e h = absurd (few (over-exact (pairs A B) pairs-decides (A .size * B .size) .0 e))
-        go (found T) e h =
-            let t = table-all (pairs A B) pairs-decides (A .size * B .size) T e in
-            let r = any-out (λ p. not (alike A B p)) T (not-false _ h) in
-            let p = r .0 in
-            (p .left, p .right, graph-reached (t .good .reached p (r .1)), λ a. let z : true ≡ false = sym (alike-passes p a) ∙ not-true (alike A B p) (r .2) in absurd (let y : _≡_ {A = ℕ} 0 1 = cc in omega arith))
+    exact-false = (some-false, λ (p, q, r, n). ⊎-elim (λ (t : equivalent A B ≡ true). absurd (n (all-true t p q r))) (λ f. f) (test (equivalent A B)))

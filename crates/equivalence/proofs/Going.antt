@@ -11,10 +11,9 @@ use lib.Dec.{ltb}
 use lib.ListN.{length, getD}
 use lib.Seq.{sets}
 use mathlib.Core.Logic.{⊎-elim}
-use Rattle.lists.specs.Lists.{_∈_}
 use Rattle.lists.proofs.Members.{ascending-keep}
 use Rattle.lists.proofs.Tests.{test}
-use Rattle.automata.specs.Automaton.{Transition, Automaton, InBounds, leaving}
+use Rattle.automata.specs.Automaton.{Transition, Automaton, leaving}
 use Rattle.automata.specs.Records.{readRecords, writeRecords}
 use Rattle.automata.specs.WellFormed.{WellFormed}
 use Rattle.automata.proofs.Records.{read-write}
@@ -25,9 +24,8 @@ use Rattle.sheets.proofs.Meaning.{read-well}
 use Rattle.sheets.proofs.Runs.{run-at, starts-indexed}
 use Rattle.totality.proofs.Rows.{leaves}
 use Rattle.equivalence.specs.declared.Pairs.{Pairs}
-use Rattle.equivalence.specs.Triggers.{SameTrigger, First, Within}
 use Rattle.equivalence.specs.Equivalent.{Reached, start, step, Alike, equivalent}
-use Rattle.equivalence.specs.Walking.{classes, oneAt, twoAt, Good, Fresh, CanOffer, Offered, Runs, CanTurn, Joined, Saw, Turned, Follows, Going}
+use Rattle.equivalence.specs.Walking.{classes, oneAt, twoAt, Good, Fresh, CanOffer, Offered, Runs, CanTurn, Saw, Turned, Follows, Going}
 use Rattle.equivalence.proofs.Triggers.{trigger-turn, trigger-chain, first-target, not-true, not-false}
 use Rattle.equivalence.proofs.Exact.{reached-in, exact, exact-false}
 use Rattle.equivalence.proofs.Rows.{Sorted, leaders-ascend, leaders-first, leaders-led}

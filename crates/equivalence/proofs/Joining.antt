@@ -3,16 +3,16 @@ use Prim.Native.Nat.{ℕ, _+_, _≤_, _<_}
 use mathlib.Core.Path.{_≡_, refl, sym, ap, subst, _∙_}
 use mathlib.Core.List.{List}
 use native.Mathlib.Omega.{arith}
-use lib.ListN.{length, getD, set, length-set}
+use lib.ListN.{length, set, length-set}
 use lib.Seq.{getD-set-same, getD-set-other}
 use Rattle.dsu.specs.declared.FindAnswer.{FindAnswer}
 use Rattle.dsu.specs.declared.Answer.{Answer}
 use Rattle.dsu.specs.Classes.{Classes, Joined, before, across, back}
 use Rattle.dsu.specs.Sets.{newOf, findOf, unionOf}
-use Rattle.dsu.specs.Laws.{Valid, classOf, Same, rootOf, FindLaw, UnionLaw}
+use Rattle.dsu.specs.Laws.{classOf, Same, rootOf, FindLaw, UnionLaw}
 use Rattle.dsu.proofs.Laws.{new-law, find-law, union-law}
 use Rattle.equivalence.specs.declared.Pairs.{Pairs}
-use Rattle.equivalence.specs.Walking.{classes, oneAt, twoAt, Generated, pair, same, turn, chain, Good, Grown, Fresh, CanOffer, Offered}
+use Rattle.equivalence.specs.Walking.{classes, oneAt, twoAt, Generated, pair, same, turn, chain, Fresh, CanOffer, Offered}
 
 -- more pairs generate more
 generated-more : {n1 : ℕ} {w r : Pairs} → w .made ≤ r .made → ((i : ℕ) → i < w .made → oneAt r i ≡ oneAt w i) → ((i : ℕ) → i < w .made → twoAt r i ≡ twoAt w i) → {x y : ℕ} → Generated n1 w x y → Generated n1 r x y

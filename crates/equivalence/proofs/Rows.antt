@@ -6,9 +6,8 @@ use mathlib.Core.Logic.{_⊎_, inl, inr, ⊎-elim}
 use mathlib.Core.Path.{_≡_, refl, sym, _∙_}
 use native.Mathlib.Omega.{arith}
 use Rattle.lists.specs.Lists.{_∈_, Ascending, none, more}
-use Rattle.lists.proofs.Tests.{test}
 use Rattle.automata.specs.Automaton.{Transition}
-use Rattle.automata.specs.WellFormed.{Lex, here, later, Before}
+use Rattle.automata.specs.WellFormed.{here, later, Before}
 use Rattle.automata.proofs.Ordered.{lex-trans, lex-irreflexive}
 use Rattle.equivalence.specs.Triggers.{SameTrigger, First, sameTrigger}
 use Rattle.equivalence.specs.Rows.{behindRow, leadersBehind, leaders, Lower}

@@ -1,11 +1,10 @@
 -- Triggers: the tests are what they test, and each trigger has a first record. Assumes nothing.
-use Prim.Native.Nat.{ℕ, _≤_}
 use mathlib.Core.Bool.{Bool, true, false, not, false≢true}
 use mathlib.Core.List.{List, [], _∷_, List·Memᴰ·head, List·Memᴰ·tail, List·Memᴰ·cases-cons}
-use mathlib.Core.Logic.{_⊎_, inl, inr, ⊎-elim, _↔_}
+use mathlib.Core.Logic.{_⊎_, inl, inr, ⊎-elim}
 use mathlib.Core.Path.{_≡_, refl, sym, _∙_, ap}
 use native.Mathlib.Omega.{arith}
-use borrow.Author.Tests.{eq-eqb, eqb-true, lt-ltb, ltb-true, ltb-false}
+use borrow.Author.Tests.{eq-eqb, eqb-true, ltb-true, ltb-false}
 use lib.Dec.{eqb, ltb}
 use Rattle.lists.specs.Lists.{_∈_, any}
 use Rattle.lists.proofs.Lists.{any-in, any-out, keep-in, keep-out}
@@ -34,9 +33,6 @@ pub trigger-passes : {d e : Transition} → SameTrigger d e → sameTrigger d e 
 unfolding sameTrigger
 trigger-passes {d} {e} s =
     and-both (eqb (d .kind) (e .kind)) _ (eq-eqb _ _ (s .kind)) (and-both (eqb (d .first) (e .first)) _ (eq-eqb _ _ (s .first)) (eq-eqb _ _ (s .last)))
-
-pub trigger-fails : (d e : Transition) → (SameTrigger d e → ⊥) → sameTrigger d e ≡ false
-trigger-fails d e n = ⊎-elim (λ t. absurd (n (trigger-test d e t))) (λ f. f) (test (sameTrigger d e))
 
 pub trigger-apart : (d e : Transition) → sameTrigger d e ≡ false → SameTrigger d e → ⊥
 trigger-apart d e f s = false≢true (sym f ∙ trigger-passes s)

@@ -1,17 +1,15 @@
 -- The one pass over two runs: what holds after some of their equal triggers. Assumes nothing.
-use Prim.Native.Nat.{ℕ, _+_, _-_, _≤_, _<_}
-use mathlib.Core.Bool.{Bool, true, false, not}
+use Prim.Native.Nat.{ℕ, _+_, _-_, _<_}
 use mathlib.Core.List.{List, [], _∷_, List·Memᴰ·head, List·Memᴰ·tail, List·Memᴰ·cases-cons}
 use mathlib.Core.Logic.{⊎-elim}
-use mathlib.Core.Path.{_≡_, refl, sym, ap, subst, _∙_}
-use native.Mathlib.Omega.{arith}
+use mathlib.Core.Path.{_≡_, refl}
 use Rattle.lists.specs.Lists.{_∈_, Ascending, more}
 use Rattle.automata.specs.Automaton.{Transition}
 use Rattle.automata.proofs.Ordered.{lex-trans, lex-irreflexive}
 use Rattle.equivalence.specs.declared.Pairs.{Pairs}
 use Rattle.equivalence.specs.Triggers.{SameTrigger, Within}
-use Rattle.equivalence.specs.Rows.{leaders, Lower}
-use Rattle.equivalence.specs.Walking.{classes, oneAt, twoAt, Grown}
+use Rattle.equivalence.specs.Rows.{Lower}
+use Rattle.equivalence.specs.Walking.{classes, Grown}
 use Rattle.equivalence.proofs.Triggers.{trigger-turn, trigger-chain}
 use Rattle.equivalence.proofs.Rows.{lower-apart, lower-right}
 

@@ -1,17 +1,16 @@
 -- On automata without epsilons or overlaps, where no reached pair differs: each run of the one has a run of the other beside it. Assumes nothing.
 use Prim.Native.Nat.{ℕ, _<_}
 use mathlib.Core.List.{List}
-use mathlib.Core.Path.{_≡_, refl, sym, _∙_, subst}
+use mathlib.Core.Path.{sym, _∙_, subst}
 use native.Mathlib.Nat.{le-refl}
 use native.Mathlib.Omega.{arith}
-use lib.ListN.{getD}
 use Rattle.lists.specs.Lists.{_∈_}
 use Rattle.automata.specs.Automaton.{Transition, Automaton, Run, stay, skip, read, Accepts, leaving}
 use Rattle.automata.specs.WellFormed.{WellFormed}
 use Rattle.ranges.proofs.Missing.{held}
 use Rattle.totality.proofs.Rows.{leaves, leaving-in}
 use Rattle.totality.proofs.Words.{Functional}
-use Rattle.equivalence.specs.Triggers.{SameTrigger, First}
+use Rattle.equivalence.specs.Triggers.{First}
 use Rattle.equivalence.specs.Equivalent.{Reached, start, step, Alike}
 use Rattle.equivalence.proofs.Triggers.{trigger-turn}
 

@@ -1,5 +1,5 @@
 -- Triggers, which `is_equivalent` compares (document 01, "Equality"): a transition's kind and its exact range. An epsilon is a trigger of its own.
-use Prim.Native.Nat.{ℕ, _≤_}
+use Prim.Native.Nat.{_≤_}
 use mathlib.Core.Bool.{Bool, not, _&&_}
 use mathlib.Core.List.{List}
 use mathlib.Core.Path.{_≡_}
