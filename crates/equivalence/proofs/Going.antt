@@ -85,17 +85,17 @@ module _ (a b starts-a starts-b : List ℕ) (n1 head : ℕ) (w : Pairs) (g : Goi
       (walked-alike (read a) (read b) (well-a .states) (well-b .states) w good (g .is-n) (g .started) (g .reached) (λ i l. g .alike i (omega arith)) (λ i l. g .follows i (omega arith))))
 
   module _ (h : head < w .made) where
-    pub walk-accept-a : Accepted a × (oneAt w head < stateCount a)
-    walk-accept-a = (g .first, inside head h .0)
+    pub walk-in-a : oneAt w head < stateCount a
+    walk-in-a = inside head h .0
 
-    pub walk-accept-b : Accepted b × (twoAt w head < stateCount b)
-    walk-accept-b = (g .second, inside head h .1)
+    pub walk-in-b : twoAt w head < stateCount b
+    walk-in-b = inside head h .1
 
     pub walk-run-a : RunAt a starts-a (oneAt w head)
-    walk-run-a = run-at a (g .first) starts-a (oneAt w head) (g .index-a) (inside head h .0)
+    walk-run-a = run-at a (g .first) starts-a (oneAt w head) (g .index-a) walk-in-a
 
     pub walk-run-b : RunAt b starts-b (twoAt w head)
-    walk-run-b = run-at b (g .second) starts-b (twoAt w head) (g .index-b) (inside head h .1)
+    walk-run-b = run-at b (g .second) starts-b (twoAt w head) (g .index-b) walk-in-b
 
     -- a reached pair that differs
     differs : (Alike (read a) (read b) (oneAt w head) (twoAt w head) → ⊥) → false ≡ equivalent (read a) (read b)
@@ -200,6 +200,6 @@ module _ (a b starts-a starts-b : List ℕ) (n1 head : ℕ) (w : Pairs) (g : Goi
                   (rw (same-one head h, same-two head h) here);
             }
 
-pub ruleset going = (walk-made, walk-ended, walk-accept-a, walk-accept-b, walk-run-a, walk-run-b, walk-rejects, walk-turn, walk-lacks, walk-next, needs)
+pub ruleset going = (walk-made, walk-ended, walk-in-a, walk-in-b, walk-run-a, walk-run-b, walk-rejects, walk-turn, walk-lacks, walk-next, needs)
 
 pub ruleset beginning = (walk-few, walk-can, walk-begin, needs)

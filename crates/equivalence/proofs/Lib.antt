@@ -3,6 +3,7 @@ pub mod Triggers
 pub mod Exact
 pub mod Words
 pub mod Theorems
+pub mod Samples
 pub mod Joining
 pub mod Rows
 pub mod Reading

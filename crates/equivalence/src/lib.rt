@@ -179,7 +179,12 @@ fn walk_pairs(
         if accept_word(a, p) != accept_word(b, q) {
             return false;
         }
-        let t = turn(sheets::run(a, starts_a, p), sheets::run(b, starts_b, q), n1, w);
+        let t = turn(
+            sheets::run(a, starts_a, p),
+            sheets::run(b, starts_b, q),
+            n1,
+            w,
+        );
         w = t.pairs;
         if !t.alike {
             return false;

@@ -1,7 +1,7 @@
 -- `walk_pairs` meets its contract: the pairs before `head` do not differ, and what they lead to is joined.
 use Prim.Native.Nat.{_-_}
 use Rattle.equivalence.specs.Walking.{Going}
-use Rattle.equivalence.proofs.Going.{going, walk-accept-a, walk-accept-b, walk-turn, walk-lacks, walk-next}
+use Rattle.equivalence.proofs.Going.{going, walk-turn, walk-lacks, walk-next}
 use Rattle.equivalence.proofs.walk_pairs.Statement.{statement}
 use Rattle.equivalence.proofs.walk_pairs.Tie as tie
 
@@ -10,12 +10,6 @@ Inv-loop a b starts-a starts-b n1 w₀ head₀ w head = Going a b starts-a start
 
 abbrev μ-loop : tie.MeasureT-loop
 μ-loop a b starts-a starts-b n1 w₀ head₀ w head = 512 - head
-
-accept-word-requires : tie.Need-accept-word-requires Inv-loop μ-loop
-accept-word-requires c κs = walk-accept-a _ _ _ _ _ _ _ (c .before .before .before .loop .inv) (c .before .before .loop-test .taken)
-
-accept-word-requires-2 : tie.Need-accept-word-requires-2 Inv-loop μ-loop
-accept-word-requires-2 c κs = walk-accept-b _ _ _ _ _ _ _ (c .before .before .before .before .loop .inv) (c .before .before .before .loop-test .taken)
 
 turn-requires : tie.Need-turn-requires Inv-loop μ-loop
 turn-requires c κs =
@@ -46,5 +40,5 @@ pub walk-pairs-spec : {M : Type 1} → statement M
 walk-pairs-spec =
     tie.close
     (tie.spec Inv-loop μ-loop (λ c. search going) (λ c. search going) (λ c. search going) (λ c. search going)
-    (λ c. search going) accept-word-requires accept-word-requires-2 (λ c. search going) (λ c κs. search going)
+    (λ c. search going) (λ c κs. search going) (λ c κs. search going) (λ c. search going) (λ c κs. search going)
     (λ c κs. search going) turn-requires returns-2 (λ c. search going) (λ c. search going) loop-again (λ c. search going))
