@@ -101,104 +101,103 @@ module _ (a b starts-a starts-b : List ℕ) (n1 head : ℕ) (w : Pairs) (g : Goi
     differs : (Alike (read a) (read b) (oneAt w head) (twoAt w head) → ⊥) → false ≡ equivalent (read a) (read b)
     differs n = sym (exact-false (read a) (read b) (well-a .states) (well-b .states) .1 (oneAt w head, twoAt w head, g .reached head h, n))
 
-    module _ (x y : ℕ) (is-x : x ≡ getD (read a .accept) (oneAt w head) 0) (is-y : y ≡ getD (read b .accept) (twoAt w head) 0) where
-      pub walk-rejects : (x ≡ y → ⊥) → false ≡ equivalent (read a) (read b)
-      walk-rejects n = differs (λ s. n (is-x ∙ s .accept ∙ sym is-y))
+    pub walk-rejects : (x y : ℕ) → x ≡ getD (read a .accept) (oneAt w head) 0 → y ≡ getD (read b .accept) (twoAt w head) 0 → (x ≡ y → ⊥) → false ≡ equivalent (read a) (read b)
+    walk-rejects x y is-x is-y n = differs (λ s. n (is-x ∙ s .accept ∙ sym is-y))
 
-      module _ (agree : x ≡ y) (ra rb : List ℕ) (is-a : ra ≡ writeRecords (leaving (read a) (oneAt w head))) (is-b : rb ≡ writeRecords (leaving (read b) (twoAt w head))) where
-        abbrev ds : List Transition
-        ds = leaving (read a) (oneAt w head)
+    module _ (ra rb : List ℕ) (is-a : ra ≡ writeRecords (leaving (read a) (oneAt w head))) (is-b : rb ≡ writeRecords (leaving (read b) (twoAt w head))) where
+      abbrev ds : List Transition
+      ds = leaving (read a) (oneAt w head)
 
-        abbrev es : List Transition
-        es = leaving (read b) (twoAt w head)
+      abbrev es : List Transition
+      es = leaving (read b) (twoAt w head)
 
-        read-a : readRecords ra ≡ ds
-        read-a = ap readRecords is-a ∙ read-write ds
+      read-a : readRecords ra ≡ ds
+      read-a = ap readRecords is-a ∙ read-write ds
 
-        read-b : readRecords rb ≡ es
-        read-b = ap readRecords is-b ∙ read-write es
+      read-b : readRecords rb ≡ es
+      read-b = ap readRecords is-b ∙ read-write es
 
-        sorted-a : Sorted (oneAt w head) ds
-        sorted-a = leaving-sorted (read a) well-a (oneAt w head)
+      sorted-a : Sorted (oneAt w head) ds
+      sorted-a = leaving-sorted (read a) well-a (oneAt w head)
 
-        sorted-b : Sorted (twoAt w head) es
-        sorted-b = leaving-sorted (read b) well-b (twoAt w head)
+      sorted-b : Sorted (twoAt w head) es
+      sorted-b = leaving-sorted (read b) well-b (twoAt w head)
 
-        runs : Runs n1 (w .sets .n) ds es
-        runs = record {
-          first = leaders-ascend (oneAt w head) ds sorted-a;
-          second = leaders-ascend (twoAt w head) es sorted-b;
-          first-in = λ d m. omega (arith, g .is-n, well-a .states .tos d (leaves (read a) well-a (oneAt w head) d m .0));
-          second-in = λ e m. omega (arith, g .is-n, g .is-n1, well-b .states .tos e (leaves (read b) well-b (twoAt w head) e m .0));
-        }
+      runs : Runs n1 (w .sets .n) ds es
+      runs = record {
+        first = leaders-ascend (oneAt w head) ds sorted-a;
+        second = leaders-ascend (twoAt w head) es sorted-b;
+        first-in = λ d m. omega (arith, g .is-n, well-a .states .tos d (leaves (read a) well-a (oneAt w head) d m .0));
+        second-in = λ e m. omega (arith, g .is-n, g .is-n1, well-b .states .tos e (leaves (read b) well-b (twoAt w head) e m .0));
+      }
 
-        pub walk-turn : CanTurn n1 (readRecords ra) (readRecords rb) w
-        walk-turn = record { good = g .good; runs = subst (λ (l : List Transition). Runs n1 (w .sets .n) l (readRecords rb)) (sym read-a) (subst (Runs n1 (w .sets .n) ds) (sym read-b) runs) }
+      pub walk-turn : CanTurn n1 (readRecords ra) (readRecords rb) w
+      walk-turn = record { good = g .good; runs = subst (λ (l : List Transition). Runs n1 (w .sets .n) l (readRecords rb)) (sym read-a) (subst (Runs n1 (w .sets .n) ds) (sym read-b) runs) }
 
-        module _ (r : Pairs) (alike : Bool) (turned : Turned n1 (readRecords ra) (readRecords rb) w r alike) where
-          t : Turned n1 ds es w r alike
-          t = subst (λ (l : List Transition). Turned n1 ds l w r alike) read-b (subst (λ (l : List Transition). Turned n1 l (readRecords rb) w r alike) read-a turned)
+      module _ (r : Pairs) (alike : Bool) (turned : Turned n1 (readRecords ra) (readRecords rb) w r alike) where
+        t : Turned n1 ds es w r alike
+        t = subst (λ (l : List Transition). Turned n1 ds l w r alike) read-b (subst (λ (l : List Transition). Turned n1 l (readRecords rb) w r alike) read-a turned)
 
-          -- a trigger is missing
-          pub walk-lacks : not alike ≡ true → false ≡ equivalent (read a) (read b)
-          walk-lacks e =
-              let s : Saw n1 ds es r false = subst (Saw n1 ds es r) (not-true alike e) (t .saw) in
-              differs (λ z. s (z .there) (z .back))
+        -- a trigger is missing
+        pub walk-lacks : not alike ≡ true → false ≡ equivalent (read a) (read b)
+        walk-lacks e =
+            let s : Saw n1 ds es r false = subst (Saw n1 ds es r) (not-true alike e) (t .saw) in
+            differs (λ z. s (z .there) (z .back))
 
-          -- the pair is done
-          module _ (e : not alike ≡ false) where
-            saw : Saw n1 ds es r true
-            saw = subst (Saw n1 ds es r) (not-false alike e) (t .saw)
+        -- the pair is done
+        module _ (e : not alike ≡ false) where
+          saw : Saw n1 ds es r true
+          saw = subst (Saw n1 ds es r) (not-false alike e) (t .saw)
 
-            same-one : (i : ℕ) → i < w .made → oneAt r i ≡ oneAt w i
-            same-one = t .grown .one
+          same-one : (i : ℕ) → i < w .made → oneAt r i ≡ oneAt w i
+          same-one = t .grown .one
 
-            same-two : (i : ℕ) → i < w .made → twoAt r i ≡ twoAt w i
-            same-two = t .grown .two
+          same-two : (i : ℕ) → i < w .made → twoAt r i ≡ twoAt w i
+          same-two = t .grown .two
 
-            -- the first records of equal triggers of this pair
-            here : Follows a b r (oneAt w head) (twoAt w head)
-            here d e p q s =
-                let (k, m, u) = leaders-led ds d (p .one) in
-                let (l, n, v) = leaders-led es e (q .one) in
-                let x : d .to ≡ k .to = first-target p (leaders-first (oneAt w head) ds sorted-a k m) u in
-                let y : e .to ≡ l .to = first-target q (leaders-first (twoAt w head) es sorted-b l n) v in
-                ap (classes r) x ∙ saw .2 k l m n (trigger-chain (trigger-turn u) (trigger-chain s v)) ∙ ap (classes r) (omega (arith, g .is-n1))
+          -- the first records of equal triggers of this pair
+          here : Follows a b r (oneAt w head) (twoAt w head)
+          here d e p q s =
+              let (k, m, u) = leaders-led ds d (p .one) in
+              let (l, n, v) = leaders-led es e (q .one) in
+              let x : d .to ≡ k .to = first-target p (leaders-first (oneAt w head) ds sorted-a k m) u in
+              let y : e .to ≡ l .to = first-target q (leaders-first (twoAt w head) es sorted-b l n) v in
+              ap (classes r) x ∙ saw .2 k l m n (trigger-chain (trigger-turn u) (trigger-chain s v)) ∙ ap (classes r) (omega (arith, g .is-n1))
 
-            -- and of those before
-            before : (i : ℕ) → i < head → Follows a b r (oneAt w i) (twoAt w i)
-            before i l d e p q s =
-                t .grown .kept (d .to) (stateCount a + e .to)
-                (omega (arith, g .is-n, well-a .states .tos d (leaves (read a) well-a (oneAt w i) d (p .one) .0)))
-                (omega (arith, g .is-n, well-b .states .tos e (leaves (read b) well-b (twoAt w i) e (q .one) .0))) (g .follows i l d e p q s)
+          -- and of those before
+          before : (i : ℕ) → i < head → Follows a b r (oneAt w i) (twoAt w i)
+          before i l d e p q s =
+              t .grown .kept (d .to) (stateCount a + e .to)
+              (omega (arith, g .is-n, well-a .states .tos d (leaves (read a) well-a (oneAt w i) d (p .one) .0)))
+              (omega (arith, g .is-n, well-b .states .tos e (leaves (read b) well-b (twoAt w i) e (q .one) .0))) (g .follows i l d e p q s)
 
-            came : (i : ℕ) → i < r .made → Reached (read a) (read b) (oneAt r i) (twoAt r i)
-            came i l =
-                ⊎-elim (λ (u : ltb i (w .made) ≡ true). let m = ltb-true i (w .made) u in rw (same-one i m, same-two i m) (g .reached i m))
-                (λ (u : ltb i (w .made) ≡ false).
-                let o = t .comes i (ltb-false i (w .made) u) l in
-                rw (o .to-left, o .to-right) (step (g .reached head h) (leaders-first (oneAt w head) ds sorted-a (o .left) (o .in-left)) (leaders-first (twoAt w head) es sorted-b (o .right) (o .in-right)) (o .same)))
-                (test (ltb i (w .made)))
+          came : (i : ℕ) → i < r .made → Reached (read a) (read b) (oneAt r i) (twoAt r i)
+          came i l =
+              ⊎-elim (λ (u : ltb i (w .made) ≡ true). let m = ltb-true i (w .made) u in rw (same-one i m, same-two i m) (g .reached i m))
+              (λ (u : ltb i (w .made) ≡ false).
+              let o = t .comes i (ltb-false i (w .made) u) l in
+              rw (o .to-left, o .to-right) (step (g .reached head h) (leaders-first (oneAt w head) ds sorted-a (o .left) (o .in-left)) (leaders-first (twoAt w head) es sorted-b (o .right) (o .in-right)) (o .same)))
+              (test (ltb i (w .made)))
 
-            pub walk-next : Going a b starts-a starts-b n1 (head + 1) r
-            walk-next = record {
-              first = g .first;
-              second = g .second;
-              index-a = g .index-a;
-              index-b = g .index-b;
-              is-n1 = g .is-n1;
-              good = t .good;
-              is-n = t .grown .same-n ∙ g .is-n;
-              started = t .grown .kept (getD a 1 0) (stateCount a + getD b 1 0) (omega (arith, g .is-n, g .first .start)) (omega (arith, g .is-n, g .second .start)) (g .started);
-              reached = came;
-              so-far = omega (arith, t .grown .more);
-              alike = below-more (λ (i : ℕ). Alike (read a) (read b) (oneAt r i) (twoAt r i)) head
-                  (λ i l. rw (same-one i (omega arith), same-two i (omega arith)) (g .alike i l))
-                  (rw (same-one head h, same-two head h) (record { accept = sym is-x ∙ agree ∙ is-y; there = saw .0; back = saw .1 }));
-              follows = below-more (λ (i : ℕ). Follows a b r (oneAt r i) (twoAt r i)) head
-                  (λ i l. rw (same-one i (omega arith), same-two i (omega arith)) (before i l))
-                  (rw (same-one head h, same-two head h) here);
-            }
+          pub walk-next : (x y : ℕ) → x ≡ getD (read a .accept) (oneAt w head) 0 → y ≡ getD (read b .accept) (twoAt w head) 0 → x ≡ y → Going a b starts-a starts-b n1 (head + 1) r
+          walk-next x y is-x is-y agree = record {
+            first = g .first;
+            second = g .second;
+            index-a = g .index-a;
+            index-b = g .index-b;
+            is-n1 = g .is-n1;
+            good = t .good;
+            is-n = t .grown .same-n ∙ g .is-n;
+            started = t .grown .kept (getD a 1 0) (stateCount a + getD b 1 0) (omega (arith, g .is-n, g .first .start)) (omega (arith, g .is-n, g .second .start)) (g .started);
+            reached = came;
+            so-far = omega (arith, t .grown .more);
+            alike = below-more (λ (i : ℕ). Alike (read a) (read b) (oneAt r i) (twoAt r i)) head
+                (λ i l. rw (same-one i (omega arith), same-two i (omega arith)) (g .alike i l))
+                (rw (same-one head h, same-two head h) (record { accept = sym is-x ∙ agree ∙ is-y; there = saw .0; back = saw .1 }));
+            follows = below-more (λ (i : ℕ). Follows a b r (oneAt r i) (twoAt r i)) head
+                (λ i l. rw (same-one i (omega arith), same-two i (omega arith)) (before i l))
+                (rw (same-one head h, same-two head h) here);
+          }
 
 pub ruleset going = (walk-made, walk-ended, walk-in-a, walk-in-b, walk-run-a, walk-run-b, walk-rejects, walk-turn, walk-lacks, walk-next, needs)
 

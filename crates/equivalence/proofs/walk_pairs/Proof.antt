@@ -13,19 +13,15 @@ abbrev μ-loop : tie.MeasureT-loop
 
 turn-requires : tie.Need-turn-requires Inv-loop μ-loop
 turn-requires c κs =
-    let a = c .before .before .before .before in
-    let l = a .before .before .before in
-    walk-turn _ _ _ _ _ _ _ (l .before .loop .inv) (l .loop-test .taken) _ _ (a .accept-word .ensures) (c .before .before .before .accept-word2 .ensures)
-    (c .before .before .if1 .left) _ _ (c .before .run .ensures) (c .run2 .ensures)
+    let l = c .before .before .before .before .before .before .before in
+    walk-turn _ _ _ _ _ _ _ (l .before .loop .inv) (l .loop-test .taken) _ _ (c .before .run .ensures) (c .run2 .ensures)
 
 returns-2 : tie.Need-returns-2 Inv-loop μ-loop
 returns-2 c =
     let t = c .before .before .before in
     let r = t .before in
-    let a = r .before .before .before .before in
-    let l = a .before .before .before in
-    walk-lacks _ _ _ _ _ _ _ (l .before .loop .inv) (l .loop-test .taken) _ _ (a .accept-word .ensures) (r .before .before .before .accept-word2 .ensures)
-    (r .before .before .if1 .left) _ _ (r .before .run .ensures) (r .run2 .ensures) _ _ (t .turn .ensures) (c .if2 .taken)
+    let l = r .before .before .before .before .before .before .before in
+    walk-lacks _ _ _ _ _ _ _ (l .before .loop .inv) (l .loop-test .taken) _ _ (r .before .run .ensures) (r .run2 .ensures) _ _ (t .turn .ensures) (c .if2 .taken)
 
 loop-again : tie.Need-loop-again Inv-loop μ-loop
 loop-again c =
@@ -33,8 +29,8 @@ loop-again c =
     let r = t .before in
     let a = r .before .before .before .before in
     let l = a .before .before .before in
-    walk-next _ _ _ _ _ _ _ (l .before .loop .inv) (l .loop-test .taken) _ _ (a .accept-word .ensures) (r .before .before .before .accept-word2 .ensures)
-    (r .before .before .if1 .left) _ _ (r .before .run .ensures) (r .run2 .ensures) _ _ (t .turn .ensures) (c .if2 .left)
+    walk-next _ _ _ _ _ _ _ (l .before .loop .inv) (l .loop-test .taken) _ _ (r .before .run .ensures) (r .run2 .ensures) _ _ (t .turn .ensures) (c .if2 .left)
+    _ _ (a .accept-word .ensures) (r .before .before .before .accept-word2 .ensures) (r .before .before .if1 .left)
 
 pub walk-pairs-spec : {M : Type 1} → statement M
 walk-pairs-spec =
