@@ -199,6 +199,4 @@ module _ (a b starts-a starts-b : List ℕ) (n1 head : ℕ) (w : Pairs) (g : Goi
                 (rw (same-one head h, same-two head h) here);
           }
 
-pub ruleset going = (walk-made, walk-ended, walk-in-a, walk-in-b, walk-run-a, walk-run-b, walk-rejects, walk-turn, walk-lacks, walk-next, needs)
-
-pub ruleset beginning = (walk-few, walk-can, walk-begin, needs)
+pub ruleset going = (walk-made, walk-ended, walk-in-a, walk-in-b, walk-run-a, walk-run-b, walk-rejects, needs)
