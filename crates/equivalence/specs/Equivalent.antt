@@ -1,0 +1,66 @@
+-- `is_equivalent` (document 01, "Equality"). It is true just when no pair of states that equal triggers reach, the first record of each
+-- trigger being followed, differs in acceptance or in its triggers. Triggers are taken in no order.
+use Prim.Native.Nat.{ℕ, _*_, _<_}
+use mathlib.Core.Bool.{Bool, false, not, _&&_}
+use mathlib.Core.List.{List, map, flatMap}
+use mathlib.Core.Path.{_≡_}
+use lib.Dec.{eqb}
+use lib.ListN.{getD}
+use Rattle.lists.specs.Lists.{any, keep}
+use Rattle.automata.specs.Automaton.{Transition, Automaton, leaving, rangesOf}
+use Rattle.ranges.specs.Span.{overlapping}
+use Rattle.refusal.specs.Answer.{Answer, given}
+use Rattle.search.specs.Search.{Graph, Found, over, found, table}
+use Rattle.sheets.specs.Checked.{sheetFirst}
+use Rattle.sheets.specs.Sheet.{read}
+use Rattle.product.specs.Product.{Pair, samePair}
+use Rattle.equivalence.specs.Triggers.{SameTrigger, First, Within, sameTrigger, firsts, within}
+
+-- the pair of the starts is reached, and the first records of equal triggers lead from a reached pair to another
+pub data Reached (A B : Automaton) : ℕ → ℕ → Type 0 where
+  start : Reached A B (A .start) (B .start)
+  step : {p q : ℕ} {d e : Transition} → Reached A B p q → First (leaving A p) d → First (leaving B q) e → SameTrigger d e → Reached A B (d .to) (e .to)
+
+-- a state of A and one of B differ neither in acceptance nor in their triggers
+pub record Alike (A B : Automaton) (p q : ℕ) : Type 0 where
+  pub accept : getD (A .accept) p 0 ≡ getD (B .accept) q 0
+  pub there : Within (leaving A p) (leaving B q)
+  pub back : Within (leaving B q) (leaving A p)
+
+-- the same as a test
+unfoldable pub alike : Automaton → Automaton → Pair → Bool
+alike A B p =
+    eqb (getD (A .accept) (p .left) 0) (getD (B .accept) (p .right) 0)
+    && (within (leaving A (p .left)) (leaving B (p .right)) && within (leaving B (p .right)) (leaving A (p .left)))
+
+-- the pairs to which equal triggers of ds and es lead
+unfoldable pub targetsWith : List Transition → Transition → List Pair
+targetsWith es d = map (λ e. record { left = d .to; right = e .to }) (keep (sameTrigger d) es)
+
+unfoldable pub targets : List Transition → List Transition → List Pair
+targets ds es = flatMap (targetsWith es) ds
+
+-- pairs lead to pairs by the first records of equal triggers
+unfoldable pub pairs : Automaton → Automaton → Graph Pair
+pairs A B = record {
+  same = samePair;
+  next = λ p. targets (firsts (leaving A (p .left))) (firsts (leaving B (p .right)));
+  start = record { left = A .start; right = B .start };
+}
+
+-- no pair of the table differs
+unfoldable pub allAlike : Automaton → Automaton → Found Pair → Bool
+allAlike A B over = false
+allAlike A B (found T) = not (any (λ p. not (alike A B p)) T)
+
+-- there are no more pairs than states of the one times states of the other
+unfoldable pub equivalent : Automaton → Automaton → Bool
+equivalent A B = allAlike A B (table (pairs A B) (A .size * B .size))
+
+-- the answer for two sheets: the first's fault, the second's, or the truth
+unfoldable pub equivalentAnswer : List ℕ → List ℕ → Answer Bool
+equivalentAnswer a b = sheetFirst a (sheetFirst b (given (equivalent (read a) (read b))))
+
+-- the ranges of no state overlap (document 01, "Ranges")
+abbrev pub OverlapFree : Automaton → Type 0
+OverlapFree A = (q : ℕ) → q < A .size → overlapping (rangesOf (leaving A q)) ≡ false
