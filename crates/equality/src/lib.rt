@@ -10,10 +10,10 @@ ghost use Rattle.sheets.specs.Sheet.{stateCount, read};
 ghost use Rattle.automata.specs.WellFormed.{lastSymbol};
 ghost use Rattle.determinize.specs.Deterministic.{Deterministic};
 ghost use Rattle.determinize.specs.Determinize.{determinize};
-ghost use Rattle.dsu.specs.Laws.{rootOf};
+ghost use Rattle.dsu.specs.Laws.{Valid, rootOf};
 ghost use Rattle.equality.specs.Successors.{acceptOf};
 ghost use Rattle.equality.specs.Walking.{Chained, Spelled};
-ghost use Rattle.equality.specs.Code.{twoOf, FirstOf, queue, Long, Begun, CanOffer, Offered, Ready, Saw, Going, Given};
+ghost use Rattle.equality.specs.Code.{twoOf, FirstOf, queue, Long, Begun, Tried, withPair, Ready, Saw, Going, Given};
 ghost use Rattle.equality.specs.Verdict.{Decided};
 ghost use Rattle.equality.specs.Equality.{withSecond, determinized, compared, Judged};
 use determinize::Determinized;
@@ -33,6 +33,12 @@ pub struct Pairs {
     pub by: [u32; 512],
     pub depth: [u32; 512],
     pub made: usize,
+}
+
+// The sets after two elements were joined, and whether they were not joined before.
+pub struct Attempt {
+    pub sets: DSU,
+    pub fresh: bool,
 }
 
 // The first symbol that two records share, if there is one.
@@ -126,25 +132,36 @@ fn begin(n1: usize, n2: usize, p: u32, q: u32) -> Pairs
     }
 }
 
-// The pair p, q, met from pair i by x: joined, and put behind the others, where it was not joined before.
-fn offer(mut w: Pairs, n1: usize, i: usize, x: u32, p: u32, q: u32) -> Pairs
-    requires { ⌜ CanOffer w n1 i p q ⌝ }
-    ensures { λ r. ⌜ Offered w r n1 i x p q ⌝ }
+// Two elements joined, where they were not joined before.
+fn join(sets: DSU, x: usize, y: usize) -> Attempt
+    requires { ⌜ Valid sets × (x < sets .n) × (y < sets .n) ⌝ }
+    ensures { λ r. ⌜ Tried sets (r .sets) x y (r .fresh) ⌝ }
 {
-    let s = w.sets;
-    let f = s.find(wide(p));
+    let f = sets.find(x);
     let s = f.sets;
-    let g = s.find(n1 + wide(q));
+    let g = s.find(y);
     let s = g.sets;
     let found = f.found;
     let other = g.found;
     if root(found) == root(other) {
-        w.sets = s;
-        return w;
+        return Attempt {
+            sets: s,
+            fresh: false,
+        };
     }
-    let u = s.union(wide(p), n1 + wide(q));
+    let u = s.union(x, y);
     let s = u.sets;
-    w.sets = s;
+    Attempt {
+        sets: s,
+        fresh: true,
+    }
+}
+
+// The pair p, q, met from pair i by x, put behind the others.
+fn push(mut w: Pairs, i: usize, x: u32, p: u32, q: u32) -> Pairs
+    requires { ⌜ Long w × (w .made < 512) × (i < w .made) × (getD (w .depth) i 0 ≤ i) ⌝ }
+    ensures { λ r. ⌜ r ≡ withPair w i x p q ⌝ }
+{
     let m = w.made;
     w.one[m] = p;
     w.two[m] = q;
@@ -206,8 +223,14 @@ fn turn(
                     if accept_word(a, p) != accept_word(b, q) {
                         break 'runs Seen::Differ(x);
                     }
-                    w = offer(w, n1, i, x, p, q);
                     k += 1;
+                    let s = w.sets;
+                    let t = join(s, p as usize, n1 + q as usize);
+                    let s = t.sets;
+                    w.sets = s;
+                    if t.fresh {
+                        w = push(w, i, x, p, q);
+                    }
                 }
             }
         }
