@@ -40,15 +40,14 @@ renamed {n} {e} {f} {g} {x} {y} same m = record {
     by-way p q a b (across h k) = across (sym (same p a) ∙ h ∙ same x (m .x-in)) (sym (same q b) ∙ k ∙ same y (m .y-in))
     by-way p q a b (back h k) = back (sym (same p a) ∙ h ∙ same y (m .y-in)) (sym (same q b) ∙ k ∙ same x (m .x-in))
 
-module _ (n1 n2 p q : ℕ) (pre : (n1 ≤ 256) × (n2 ≤ 256) × (p < n1) × (q < n2)) (f : Answer) (is-f : f ≡ newOf (n1 + n2)) (pp : ℕ) (is-pp : pp ≡ p) (qq : ℕ) (is-qq : qq ≡ q) (u : Answer) (is-u : u ≡ unionOf (f .sets) pp (n1 + qq)) where
+module _ (n1 n2 p q : ℕ) (pre : (n1 ≤ 256) × (n2 ≤ 256) × (p < n1) × (q < n2)) (f : Answer) (is-f : f ≡ newOf (n1 + n2)) (u : Answer) (is-u : u ≡ unionOf (f .sets) p (n1 + q)) where
   pub begin-law : (one two from by depth : List ℕ) → getD one 0 0 ≡ p → getD two 0 0 ≡ q → getD depth 0 0 ≡ 0 → Long (record { sets = u .sets; one = one; two = two; from = from; by = by; depth = depth; made = 1 }) → Begun (n1 + n2) n1 p q (record { sets = u .sets; one = one; two = two; from = from; by = by; depth = depth; made = 1 })
   begin-law one two from by depth a b c long =
       let l = new-law (n1 + n2) f is-f (omega arith) in
       let is-n = l .is-n in
       let apart : (classOf (f .sets) p ≡ classOf (f .sets) (n1 + q) → ⊥) = λ e. omega (arith, l .alone p (n1 + q) (omega arith) (omega arith) e) in
-      let is-u′ : u ≡ unionOf (f .sets) p (n1 + q) = rw (is-pp, is-qq) at is-u in
-      let m = unites (f .sets) p (n1 + q) u (l .valid) (omega arith) (omega arith) apart is-u′ in
-      let k = union-law (f .sets) p (n1 + q) u is-u′ (l .valid) (omega arith) (omega arith) in
+      let m = unites (f .sets) p (n1 + q) u (l .valid) (omega arith) (omega arith) apart is-u in
+      let k = union-law (f .sets) p (n1 + q) u is-u (l .valid) (omega arith) (omega arith) in
       record {
         sets = record { valid = k .valid; is-n = k .is-n ∙ is-n; few = omega arith; long = long };
         alone = classOf (f .sets);

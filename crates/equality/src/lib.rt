@@ -65,12 +65,6 @@ pub enum Verdict {
     Refused(Refusal),
 }
 
-fn wide(x: u32) -> usize
-    ensures { λ r. ⌜ r ≡ x ⌝ }
-{
-    x as usize
-}
-
 // The representative in an answer; 512, which is no element, in a refusal.
 fn root(f: Found) -> u32
     ensures { λ r. ⌜ r ≡ rootOf f ⌝ }
@@ -86,7 +80,7 @@ fn accept_word(s: &[u32], p: u32) -> u32
     requires { ⌜ Accepted (now s) × (p < stateCount (now s)) ⌝ }
     ensures { λ r. ⌜ r ≡ acceptOf (read (now (s .entry))) p ⌝ }
 {
-    s[wide(p) + 3]
+    s[p as usize + 3]
 }
 
 // The first symbol from low to high that the records d and e share.
@@ -112,7 +106,7 @@ fn begin(n1: usize, n2: usize, p: u32, q: u32) -> Pairs
 {
     let fresh = DSU::new(n1 + n2);
     let d = fresh.sets;
-    let joined = d.union(wide(p), n1 + wide(q));
+    let joined = d.union(p as usize, n1 + q as usize);
     let sets = joined.sets;
     let mut one = [0u32; 512];
     let mut two = [0u32; 512];
@@ -177,14 +171,14 @@ fn spell(w: Pairs, i: usize, x: u32, out: &mut [u32]) -> usize
     requires { ⌜ Chained (queue w) (w .made) × Long w × (i < w .made) × (w .made ≤ 512) × (getD (w .depth) i 0 < length (now out)) ⌝ }
     ensures { λ n. ⌜ Spelled (queue w) (w .made) i x n (now (out .entry)) (now (out .exit)) ⌝ }
 {
-    let mut at = wide(w.depth[i]);
+    let mut at = w.depth[i] as usize;
     let n = at + 1;
     out[at] = x;
     let mut c = i;
     while 0 < at {
         at -= 1;
         out[at] = w.by[c];
-        c = wide(w.from[c]);
+        c = w.from[c] as usize;
     }
     n
 }
@@ -296,8 +290,8 @@ fn walk(a: &[u32], b: &[u32], low: u32, high: u32, word: &mut [u32]) -> Verdict
     let mut starts_b = [0u32; 257];
     sheets::run_starts(a, &mut starts_a);
     sheets::run_starts(b, &mut starts_b);
-    let n1 = wide(a[2]);
-    let n2 = wide(b[2]);
+    let n1 = a[2] as usize;
+    let n2 = b[2] as usize;
     let w = begin(n1, n2, first, second);
     walk_pairs(a, b, &starts_a, &starts_b, low, high, n1, w, word)
 }
