@@ -19,8 +19,8 @@ use Rattle.equality.specs.declared.First.the-variants as first
 use Rattle.equality.specs.Successors.{acceptOf}
 use Rattle.equality.specs.Code.{FirstOf}
 
-pub accept-at : (s : List ℕ) (p pp : ℕ) → pp ≡ p → p < stateCount s → getD s (pp + 3) 0 ≡ acceptOf (read s) p
-accept-at s p pp e h = ap (λ (i : ℕ). getD s (i + 3) 0) e ∙ sym (getD-take (stateCount s) (drop 3 s) p 0 h ∙ getD-drop 3 s p 0 ∙ ap (λ (i : ℕ). getD s i 0) (omega arith))
+pub accept-at : (s : List ℕ) (p : ℕ) → p < stateCount s → getD s (p + 3) 0 ≡ acceptOf (read s) p
+accept-at s p h = sym (getD-take (stateCount s) (drop 3 s) p 0 h ∙ getD-drop 3 s p 0 ∙ ap (λ (i : ℕ). getD s i 0) (omega arith))
 
 -- the answer of `intersect_ranges`
 module _ (f₁ l₁ f₂ l₂ : ℕ) (r : Common) (e : spanOf r ≡ intersectRanges (record { low = f₁; high = l₁ }) (record { low = f₂; high = l₂ })) where

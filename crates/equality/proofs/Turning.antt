@@ -1,6 +1,7 @@
 -- The two runs of a pair: what holds after some of their common ranges. Assumes nothing.
 use Prim.Native.Nat.{ℕ, _+_, _*_, _-_, _/_, _≤_, _<_}
 use mathlib.Core.Path.{_≡_, sym, ap, subst, _∙_}
+use mathlib.Core.Bool.{Bool, true, false}
 use mathlib.Core.List.{List}
 use native.Mathlib.Omega.{arith}
 use borrow.Author.Count.{below-more}
@@ -12,6 +13,8 @@ use Rattle.automata.proofs.Records.{part-record}
 use Rattle.sheets.specs.Accepted.{Accepted}
 use Rattle.sheets.specs.Sheet.{stateCount, read}
 use Rattle.sheets.proofs.Meaning.{read-well}
+use Rattle.dsu.specs.declared.DSU.{DSU}
+use Rattle.dsu.specs.Laws.{Valid}
 use Rattle.equality.specs.declared.Pairs.{Pairs}
 use Rattle.equality.specs.declared.First.{First}
 use Rattle.equality.specs.declared.First.the-variants.{Symbol, Nothing}
@@ -19,8 +22,9 @@ use Rattle.equality.specs.declared.Seen.the-variants.{Alike, Differ}
 use Rattle.equality.specs.Successors.{successor, acceptOf}
 use Rattle.equality.specs.Forced.{states}
 use Rattle.equality.specs.Walking.{Queue, Merges}
-use Rattle.equality.specs.Code.{twoOf, Common, FirstOf, classes, queue, Sheets, CanOffer, Offered, had, put, Good, Ready, Saw}
+use Rattle.equality.specs.Code.{twoOf, Common, FirstOf, classes, queue, Sheets, Long, Tried, withSets, withPair, Offered, had, put, Good, Ready, Saw}
 use Rattle.equality.proofs.Forced.{Total}
+use Rattle.equality.proofs.Joining.{offer-had, offer-put}
 use Rattle.equality.proofs.Queue.{room, renamed, pushed}
 use Rattle.equality.proofs.Successors.{RunOf, run-of, next-inside}
 
@@ -190,21 +194,28 @@ module _ (a b : List ℕ) (low high : ℕ) (ra rb : List ℕ) (n1 i j k : ℕ) (
       next-q : successor (read b) (getD (w .two) i 0) x ≡ to-q
       next-q = run-b .leads k x (b-in k k-in) (common .above) (common .below) (common .first-two) (common .last-two)
 
-      pub turn-can : CanOffer w n1 i to-p to-q
-      turn-can = record {
-        sets = record { valid = ready .good .sets .valid; is-n = ap (λ (n : ℕ). n) (omega arith); few = omega (arith, ready .good .sets .is-n, ready .good .sets .few); long = ready .good .sets .long };
-        room = omega (arith, room (twoOf a b low high) (total a b low high (ready .sheets)) (classes w) (queue w) (w .made) (ready .good .walking), ready .good .sets .few);
-        i-in = ready .i-in;
-        p-in = omega (arith, to-a j j-in, ready .good .sets .is-n);
-        q-in = omega (arith, to-b k k-in, ready .good .sets .is-n, ready .is-n1);
-        shallow = ready .good .walking .shallow i (ready .i-in);
-      }
+      sets-few : w .sets .n ≤ 512
+      sets-few = omega (arith, ready .good .sets .is-n, ready .good .sets .few)
+
+      made-few : w .made < 512
+      made-few = omega (arith, room (twoOf a b low high) (total a b low high (ready .sheets)) (classes w) (queue w) (w .made) (ready .good .walking), ready .good .sets .few)
+
+      pub turn-join : Valid (w .sets) × (to-p < w .sets .n) × (n1 + to-q < w .sets .n)
+      turn-join = (ready .good .sets .valid, omega (arith, to-a j j-in, ready .good .sets .is-n), omega (arith, to-b k k-in, ready .good .sets .is-n, ready .is-n1))
+
+      pub turn-small : (to-p < 512) × (n1 + to-q < 512)
+      turn-small = (omega (arith, turn-join .1, sets-few), omega (arith, turn-join .2, sets-few))
+
+      pub turn-push : (d : DSU) → Long (withSets w d) × (w .made < 512) × (i < w .made) × (getD (w .depth) i 0 ≤ i)
+      turn-push d =
+          let l = ready .good .sets .long in
+          (record { one = l .one; two = l .two; from = l .from; by = l .by; depth = l .depth }, made-few, ready .i-in, ready .good .walking .shallow i (ready .i-in))
 
       module _ (m n : ℕ) (is-m : m ≡ acceptOf (read a) to-p) (is-n : n ≡ acceptOf (read b) to-q) where
         pub turn-differ : (m ≡ n → ⊥) → Saw (twoOf a b low high) i w (Differ x)
         turn-differ d = (ready .good, ready .i-in, common .above, common .below, rw (next-p, next-q) (λ s. d (is-m ∙ s ∙ sym is-n)))
 
-        pub turn-offer : m ≡ n → (v : Pairs) → Offered w v n1 i x to-p to-q → Turning a b low high ra rb n1 i j (k + 1) v
+        turn-offer : m ≡ n → (v : Pairs) → Offered w v n1 i x to-p to-q → Turning a b low high ra rb n1 i j (k + 1) v
         turn-offer s v o =
             let o′ : Offered w v (stateCount a) i x (successor (read a) (getD (w .one) i 0) x) (successor (read b) (getD (w .two) i 0) x) = rw (ready .is-n1, ← next-p, ← next-q) at o in
             let on = onward a b low high (ready .sheets) w v i x (ready .good) (ready .i-in) (common .above) (common .below) o′ (rw (next-p, next-q) (sym is-m ∙ s ∙ is-n)) in
@@ -230,4 +241,11 @@ module _ (a b : List ℕ) (low high : ℕ) (ra rb : List ℕ) (n1 i j k : ℕ) (
                   (λ y lo hi p q. rw (next-p, next-q) at (on .1));
             }
 
-pub ruleset turning = (turn-begin, turn-row, turn-done, turn-accept-a, turn-accept-b, turn-skip, turn-can, turn-differ, turn-offer, needs)
+        module _ (s : m ≡ n) (d : DSU) (fresh : Bool) (t : Tried (w .sets) d to-p (n1 + to-q) fresh) where
+          pub turn-had : fresh ≡ false → Turning a b low high ra rb n1 i j (k + 1) (withSets w d)
+          turn-had h = turn-offer s (withSets w d) (offer-had w n1 i x to-p to-q sets-few (ready .good .sets .long) d (rw h at t))
+
+          pub turn-put : fresh ≡ true → (v : Pairs) → v ≡ withPair (withSets w d) i x to-p to-q → Turning a b low high ra rb n1 i j (k + 1) v
+          turn-put h v is = turn-offer s v (rw is (offer-put w n1 i x to-p to-q sets-few (ready .good .sets .long) d (rw h at t) made-few))
+
+pub ruleset turning = (turn-begin, turn-row, turn-done, turn-accept-a, turn-accept-b, turn-skip, turn-differ, needs)

@@ -1,14 +1,16 @@
 -- What the functions of the walk ask and give.
 use Prim.Native.Nat.{ℕ, _+_, _≤_, _<_}
+use mathlib.Core.Bool.{Bool, true, false}
 use mathlib.Core.List.{List}
 use mathlib.Core.Path.{_≡_}
-use lib.ListN.{length, getD}
+use lib.ListN.{length, getD, set}
 use Rattle.automata.specs.Automaton.{Transition, leaving}
 use Rattle.automata.specs.Records.{writeRecords}
 use Rattle.sheets.specs.Accepted.{Accepted}
 use Rattle.sheets.specs.Runs.{Indexed}
 use Rattle.sheets.specs.Sheet.{stateCount, read}
 use Rattle.determinize.specs.Deterministic.{Deterministic}
+use Rattle.dsu.specs.declared.DSU.{DSU}
 use Rattle.dsu.specs.Classes.{Classes}
 use Rattle.dsu.specs.Laws.{Valid, classOf}
 use Rattle.equality.specs.declared.Pairs.{Pairs}
@@ -72,13 +74,26 @@ pub record Begun (n n1 p q : ℕ) (r : Pairs) : Type 0 where
   pub at-depth : getD (r .depth) 0 0 ≡ 0
   pub made : r .made ≡ 1
 
-pub record CanOffer (w : Pairs) (n1 i p q : ℕ) : Type 0 where
-  pub sets : Sets w (w .sets .n)
-  pub room : w .made < 512
-  pub i-in : i < w .made
-  pub p-in : p < w .sets .n
-  pub q-in : n1 + q < w .sets .n
-  pub shallow : getD (w .depth) i 0 ≤ i
+-- x and y were joined in d before, and e has the classes of d; or they were not, and e has them joined
+pub data Tried (d e : DSU) (x y : ℕ) : Bool → Type 0 where
+  old : Valid e → e .n ≡ d .n → classOf d x ≡ classOf d y → ((z : ℕ) → z < d .n → classOf e z ≡ classOf d z) → Tried d e x y false
+  new : Valid e → e .n ≡ d .n → Merges (d .n) (classOf d) (classOf e) x y → Tried d e x y true
+
+-- w with the pair p, q, met from pair i by x, behind the others
+unfoldable pub withPair : Pairs → ℕ → ℕ → ℕ → ℕ → Pairs
+withPair w i x p q = record {
+  sets = w .sets;
+  one = set (w .one) (w .made) p;
+  two = set (w .two) (w .made) q;
+  from = set (w .from) (w .made) i;
+  by = set (w .by) (w .made) x;
+  depth = set (w .depth) (w .made) (getD (w .depth) i 0 + 1);
+  made = w .made + 1;
+}
+
+-- w with other sets
+abbrev pub withSets : Pairs → DSU → Pairs
+withSets w d = record { sets = d; one = w .one; two = w .two; from = w .from; by = w .by; depth = w .depth; made = w .made }
 
 -- r is w where p and n1 + q were joined before; else they are now, and the pair is the last
 pub data Offered (w r : Pairs) (n1 i x p q : ℕ) : Type 0 where

@@ -10,10 +10,10 @@ ghost use Rattle.sheets.specs.Sheet.{stateCount, read};
 ghost use Rattle.automata.specs.WellFormed.{lastSymbol};
 ghost use Rattle.determinize.specs.Deterministic.{Deterministic};
 ghost use Rattle.determinize.specs.Determinize.{determinize};
-ghost use Rattle.dsu.specs.Laws.{rootOf};
+ghost use Rattle.dsu.specs.Laws.{Valid, rootOf};
 ghost use Rattle.equality.specs.Successors.{acceptOf};
 ghost use Rattle.equality.specs.Walking.{Chained, Spelled};
-ghost use Rattle.equality.specs.Code.{twoOf, FirstOf, queue, Long, Begun, CanOffer, Offered, Ready, Saw, Going, Given};
+ghost use Rattle.equality.specs.Code.{twoOf, FirstOf, queue, Long, Begun, Tried, withPair, Ready, Saw, Going, Given};
 ghost use Rattle.equality.specs.Verdict.{Decided};
 ghost use Rattle.equality.specs.Equality.{withSecond, determinized, compared, Judged};
 use determinize::Determinized;
@@ -33,6 +33,12 @@ pub struct Pairs {
     pub by: [u32; 512],
     pub depth: [u32; 512],
     pub made: usize,
+}
+
+// The sets after two elements were joined, and whether they were not joined before.
+pub struct Attempt {
+    pub sets: DSU,
+    pub fresh: bool,
 }
 
 // The first symbol that two records share, if there is one.
@@ -59,12 +65,6 @@ pub enum Verdict {
     Refused(Refusal),
 }
 
-fn wide(x: u32) -> usize
-    ensures { λ r. ⌜ r ≡ x ⌝ }
-{
-    x as usize
-}
-
 // The representative in an answer; 512, which is no element, in a refusal.
 fn root(f: Found) -> u32
     ensures { λ r. ⌜ r ≡ rootOf f ⌝ }
@@ -80,7 +80,7 @@ fn accept_word(s: &[u32], p: u32) -> u32
     requires { ⌜ Accepted (now s) × (p < stateCount (now s)) ⌝ }
     ensures { λ r. ⌜ r ≡ acceptOf (read (now (s .entry))) p ⌝ }
 {
-    s[wide(p) + 3]
+    s[p as usize + 3]
 }
 
 // The first symbol from low to high that the records d and e share.
@@ -106,7 +106,7 @@ fn begin(n1: usize, n2: usize, p: u32, q: u32) -> Pairs
 {
     let fresh = DSU::new(n1 + n2);
     let d = fresh.sets;
-    let joined = d.union(wide(p), n1 + wide(q));
+    let joined = d.union(p as usize, n1 + q as usize);
     let sets = joined.sets;
     let mut one = [0u32; 512];
     let mut two = [0u32; 512];
@@ -126,25 +126,36 @@ fn begin(n1: usize, n2: usize, p: u32, q: u32) -> Pairs
     }
 }
 
-// The pair p, q, met from pair i by x: joined, and put behind the others, where it was not joined before.
-fn offer(mut w: Pairs, n1: usize, i: usize, x: u32, p: u32, q: u32) -> Pairs
-    requires { ⌜ CanOffer w n1 i p q ⌝ }
-    ensures { λ r. ⌜ Offered w r n1 i x p q ⌝ }
+// Two elements joined, where they were not joined before.
+fn join(sets: DSU, x: usize, y: usize) -> Attempt
+    requires { ⌜ Valid sets × (x < sets .n) × (y < sets .n) ⌝ }
+    ensures { λ r. ⌜ Tried sets (r .sets) x y (r .fresh) ⌝ }
 {
-    let s = w.sets;
-    let f = s.find(wide(p));
+    let f = sets.find(x);
     let s = f.sets;
-    let g = s.find(n1 + wide(q));
+    let g = s.find(y);
     let s = g.sets;
     let found = f.found;
     let other = g.found;
     if root(found) == root(other) {
-        w.sets = s;
-        return w;
+        return Attempt {
+            sets: s,
+            fresh: false,
+        };
     }
-    let u = s.union(wide(p), n1 + wide(q));
+    let u = s.union(x, y);
     let s = u.sets;
-    w.sets = s;
+    Attempt {
+        sets: s,
+        fresh: true,
+    }
+}
+
+// The pair p, q, met from pair i by x, put behind the others.
+fn push(mut w: Pairs, i: usize, x: u32, p: u32, q: u32) -> Pairs
+    requires { ⌜ Long w × (w .made < 512) × (i < w .made) × (getD (w .depth) i 0 ≤ i) ⌝ }
+    ensures { λ r. ⌜ r ≡ withPair w i x p q ⌝ }
+{
     let m = w.made;
     w.one[m] = p;
     w.two[m] = q;
@@ -160,14 +171,14 @@ fn spell(w: Pairs, i: usize, x: u32, out: &mut [u32]) -> usize
     requires { ⌜ Chained (queue w) (w .made) × Long w × (i < w .made) × (w .made ≤ 512) × (getD (w .depth) i 0 < length (now out)) ⌝ }
     ensures { λ n. ⌜ Spelled (queue w) (w .made) i x n (now (out .entry)) (now (out .exit)) ⌝ }
 {
-    let mut at = wide(w.depth[i]);
+    let mut at = w.depth[i] as usize;
     let n = at + 1;
     out[at] = x;
     let mut c = i;
     while 0 < at {
         at -= 1;
         out[at] = w.by[c];
-        c = wide(w.from[c]);
+        c = w.from[c] as usize;
     }
     n
 }
@@ -206,8 +217,14 @@ fn turn(
                     if accept_word(a, p) != accept_word(b, q) {
                         break 'runs Seen::Differ(x);
                     }
-                    w = offer(w, n1, i, x, p, q);
                     k += 1;
+                    let s = w.sets;
+                    let t = join(s, p as usize, n1 + q as usize);
+                    let s = t.sets;
+                    w.sets = s;
+                    if t.fresh {
+                        w = push(w, i, x, p, q);
+                    }
                 }
             }
         }
@@ -273,8 +290,8 @@ fn walk(a: &[u32], b: &[u32], low: u32, high: u32, word: &mut [u32]) -> Verdict
     let mut starts_b = [0u32; 257];
     sheets::run_starts(a, &mut starts_a);
     sheets::run_starts(b, &mut starts_b);
-    let n1 = wide(a[2]);
-    let n2 = wide(b[2]);
+    let n1 = a[2] as usize;
+    let n2 = b[2] as usize;
     let w = begin(n1, n2, first, second);
     walk_pairs(a, b, &starts_a, &starts_b, low, high, n1, w, word)
 }

@@ -5,4 +5,4 @@ use Rattle.equality.proofs.accept_word.Tie as tie
 
 pub accept-word-spec : {M : Type 1} → statement M
 accept-word-spec =
-    tie.close (tie.spec (λ c κs. search reading) (λ c. search reading) (λ c. search reading) (λ c. search reading) (λ c. search reading))
+    tie.close (tie.spec (λ c. search reading) (λ c. search reading) (λ c. search reading) (λ c. search reading))

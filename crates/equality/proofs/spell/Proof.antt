@@ -17,18 +17,25 @@ abbrev μ-loop : tie.MeasureT-loop
 μ-loop i x out₀ w at₀ n c₀ out at c = at
 
 loop-holds : tie.Need-loop-holds Inv-loop μ-loop
-loop-holds c = let s = c .before .before .before in let e : c .wide .result ≡ getD (s .args .t1 .depth) (s .args .i) 0 = c .wide .ensures in spell-start _ _ _ _ (s .args .out .now) _ _ (s .pre .2) e (omega (arith, s .pre .4)) refl
+loop-holds c = let s = c .before in spell-start _ _ _ _ (s .args .out .now) _ _ (s .pre .2) refl (omega (arith, s .pre .4)) refl
 
 same-length : tie.Need-same-length Inv-loop μ-loop
-same-length c = let s = c .before .before .before .before .before in let l : length (c .before .loop .out) ≡ length (s .args .out .now) = c .before .loop .inv .long ∙ length-set (s .args .out .now) (c .before .before .wide .result) (s .args .x) in search needs
+same-length c =
+    let s = c .before .before .before in
+    let at = getD (s .args .t1 .depth) (s .args .i) 0 in
+    let l : length (c .before .loop .out) ≡ length (s .args .out .now) = c .before .loop .inv .long ∙ length-set (s .args .out .now) at (s .args .x) in
+    search needs
 
 returns : tie.Need-returns Inv-loop μ-loop
-returns c = let s = c .before .before .before .before .before in spell-done _ _ _ _ (s .pre .0) _ _ _ _ _ (c .before .loop .inv) (c .loop-test .left) (s .args .out .now) (drop-set-lt (c .before .before .wide .result + 1) (s .args .out .now) (c .before .before .wide .result) (s .args .x) (omega arith))
+returns c =
+    let s = c .before .before .before in
+    let at = getD (s .args .t1 .depth) (s .args .i) 0 in
+    spell-done _ _ _ _ (s .pre .0) _ _ _ _ _ (c .before .loop .inv) (c .loop-test .left) (s .args .out .now) (drop-set-lt (at + 1) (s .args .out .now) at (s .args .x) (omega arith))
 
 pub spell-spec : {M : Type 1} → statement M
 spell-spec =
     tie.close
-    (tie.spec Inv-loop μ-loop (λ c. search needs) (λ c. search needs) (λ c κs. search needs) (λ c. search needs)
+    (tie.spec Inv-loop μ-loop (λ c. search needs) (λ c. search needs) (λ c. search needs) (λ c. search needs)
     (λ c. search needs) (λ c. search needs) loop-holds (λ c. search needs) (λ c. search needs) (λ c. search needs)
-    (λ c. search needs) (λ c. search needs) (λ c. search needs) (λ c. search needs) (λ c κs. search needs) (λ c. search needs)
+    (λ c. search needs) (λ c. search needs) (λ c. search needs) (λ c. search needs) (λ c. search needs) (λ c. search needs)
     (λ c. search (spell-next, needs)) same-length returns)

@@ -8,10 +8,10 @@ use Rattle.equality.proofs.walk.Tie as tie
 walk-pairs-requires : tie.Need-walk-pairs-requires
 walk-pairs-requires c κs =
     let m = c .before .before .before in
-    let s = m .before .before .before .before .before .before .before .before .before in
+    let s = m .before .before .before .before .before .before .before in
     let e = s .before .before in
-    walk-begin _ _ _ _ _ (e .before .before .before .before .before .before .before .before .pre) _ _ _ _ (s .run-starts .ensures) (m .before .before .before .before .before .before .run-starts2 .ensures) refl refl _ _ _ _ _
-    (m .before .before .before .wide .ensures) (m .before .wide2 .ensures) (e .before .before .accept-word .ensures) (e .before .accept-word2 .ensures)
+    walk-begin _ _ _ _ _ (e .before .before .before .before .before .before .before .before .pre) _ _ _ _ (s .run-starts .ensures) (m .before .before .before .before .run-starts2 .ensures) refl refl _ _ _ _ _
+    refl refl (e .before .before .accept-word .ensures) (e .before .accept-word2 .ensures)
     (e .if1 .left) (m .begin .ensures)
 
 pub walk-spec : {M : Type 1} → statement M
@@ -19,5 +19,5 @@ walk-spec =
     tie.close
     (tie.spec (λ c. search needs) (λ c. search needs) (λ c κs. search needs) (λ c κs. search needs)
     (λ c. search (walk-first, needs)) (λ c. search needs) (λ c κs. search needs) (λ c. search needs) (λ c κs. search needs)
-    (λ c. search needs) (λ c κs. search needs) (λ c. search needs) (λ c κs. search needs) (λ c κs. search needs)
+    (λ c. search needs) (λ c. search needs) (λ c. search needs) (λ c. search needs) (λ c κs. search needs)
     (λ c. search needs) (λ c. search needs) walk-pairs-requires (λ c. search needs) (λ c. search needs))
