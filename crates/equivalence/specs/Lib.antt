@@ -3,4 +3,3 @@ pub mod Triggers
 pub mod Equivalent
 pub mod Rows
 pub mod Walking
-pub mod Answer

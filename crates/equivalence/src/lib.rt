@@ -5,6 +5,7 @@ ghost use mathlib.Core.Path.{_≡_};
 ghost use Prim.Native.Nat.{_+_, _-_, _≤_, _<_};
 ghost use lib.ListN.{length, getD};
 ghost use Rattle.automata.specs.Records.{recordAt, readRecords};
+ghost use Rattle.refusal.specs.Decision.{decisionOf};
 ghost use Rattle.sheets.specs.Accepted.{Accepted};
 ghost use Rattle.sheets.specs.Sheet.{stateCount, read};
 ghost use Rattle.dsu.specs.Laws.{rootOf};
@@ -12,10 +13,9 @@ ghost use Rattle.equivalence.specs.Triggers.{sameTrigger};
 ghost use Rattle.equivalence.specs.Equivalent.{equivalent, equivalentAnswer};
 ghost use Rattle.equivalence.specs.Rows.{RowEnd};
 ghost use Rattle.equivalence.specs.Walking.{Fresh, CanOffer, Offered, CanTurn, Turned, Going};
-ghost use Rattle.equivalence.specs.Answer.{answerOf};
 use dsu::DSU;
 use dsu::Found;
-use refusal::InputRefusal;
+use refusal::Decision;
 use sheets::Checked;
 
 // The pairs met so far, and the sets that they are joined in. Pair i is made of one[i] and two[i].
@@ -30,12 +30,6 @@ pub struct Pairs {
 pub struct Compared {
     pub pairs: Pairs,
     pub alike: bool,
-}
-
-// The answer of `is_equivalent`.
-pub enum Equivalence {
-    Is(bool),
-    Refused(InputRefusal),
 }
 
 // The representative in an answer; 512, which is no element, in a refusal.
@@ -210,16 +204,16 @@ fn walk(a: &[u32], b: &[u32]) -> bool
 }
 
 // Whether no pair of states that equal triggers reach differs in acceptance or in its triggers.
-pub fn is_equivalent(a: &[u32], b: &[u32]) -> Equivalence
-    ensures { λ r. ⌜ answerOf r ≡ equivalentAnswer (now (a .entry)) (now (b .entry)) ⌝ }
+pub fn is_equivalent(a: &[u32], b: &[u32]) -> Decision
+    ensures { λ r. ⌜ decisionOf r ≡ equivalentAnswer (now (a .entry)) (now (b .entry)) ⌝ }
 {
     match sheets::check(a) {
         Checked::Accepted => {}
-        Checked::Refused(r) => return Equivalence::Refused(r),
+        Checked::Refused(r) => return Decision::Refused(r),
     }
     match sheets::check(b) {
         Checked::Accepted => {}
-        Checked::Refused(r) => return Equivalence::Refused(r),
+        Checked::Refused(r) => return Decision::Refused(r),
     }
-    Equivalence::Is(walk(a, b))
+    Decision::Is(walk(a, b))
 }

@@ -14,6 +14,7 @@
 // compare --emit epsilon_eliminate --seed 1 --count 200
 // compare --emit is_nfa --seed 1 --count 200
 // compare --emit nonempty --seed 1 --count 200
+// compare --emit is_equivalent --seed 1 --count 200
 // compare --emit parse --seed 1 --count 200
 // compare --emit equality --seed 1 --count 200
 ghost use mathlib.Core.Path.{_≡_};
@@ -43,6 +44,7 @@ enum Kind {
     EpsilonEliminate,
     IsNfa,
     Nonempty,
+    IsEquivalent,
     Parse,
     Equality,
 }
@@ -63,6 +65,7 @@ fn agrees(kind: Kind, case: &[u32]) -> bool {
         Kind::EpsilonEliminate => operations::epsilon_eliminated(case),
         Kind::IsNfa => questions::nfa(case),
         Kind::Nonempty => questions::nonempty(case),
+        Kind::IsEquivalent => questions::equivalent(case),
         Kind::Parse => operations::parsed(case),
         Kind::Equality => verdicts::compared(case),
     }
@@ -118,6 +121,7 @@ fn main() {
     replay_file(Kind::EpsilonEliminate, b"epsilon_eliminate");
     replay_file(Kind::IsNfa, b"is_nfa");
     replay_file(Kind::Nonempty, b"nonempty");
+    replay_file(Kind::IsEquivalent, b"is_equivalent");
     replay_file(Kind::Parse, b"parse");
     replay_file(Kind::Equality, b"equality");
 }

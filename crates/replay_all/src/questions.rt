@@ -29,3 +29,15 @@ pub fn nonempty(case: &[u32]) -> bool {
         emptiness::has_reachable_accepting_state(sheet),
     )
 }
+
+// Two sheets, then whether they are equivalent.
+pub fn equivalent(case: &[u32]) -> bool {
+    let a = replay::list(case, 0);
+    let second = 1 + a.len();
+    let b = replay::list(case, second);
+    answered(
+        case,
+        second + 1 + b.len(),
+        equivalence::is_equivalent(a, b),
+    )
+}

@@ -8,6 +8,7 @@ ghost use Rattle.determinize.specs.Sheets.{determinizeSheet};
 ghost use Rattle.emptiness.specs.Reachable.{reachableAnswer};
 ghost use Rattle.epsilon.specs.Eliminate.{eliminateAnswer};
 ghost use Rattle.equality.specs.Equality.{compared};
+ghost use Rattle.equivalence.specs.Equivalent.{equivalentAnswer};
 ghost use Rattle.output.specs.Made.{outputOf};
 ghost use Rattle.output.specs.Output.{outputs, roomFirst};
 ghost use Rattle.parser.specs.Parsed.{parsed, parsedOf};
@@ -202,6 +203,15 @@ pub extern "C" fn ringmatch_has_reachable_accepting_state(sheet: &[u32], answer:
     ensures { λ code. ⌜ replied code (now (answer .exit)) ≡ replyBit (now (answer .entry)) (reachableAnswer (now (sheet .entry))) ⌝ }
 {
     reply_decision(emptiness::has_reachable_accepting_state(sheet), answer)
+}
+
+// Whether two sheets have the same accept words and the same triggers, and so have all pairs of states that equal triggers reach: answer is 1 if
+// so, else 0. Without epsilons or overlaps 1 implies equal words. Refusals: 1 to 6 of a, then of b.
+#[no_mangle]
+pub extern "C" fn ringmatch_is_equivalent(a: &[u32], b: &[u32], answer: &mut u32) -> u32
+    ensures { λ code. ⌜ replied code (now (answer .exit)) ≡ replyBit (now (answer .entry)) (equivalentAnswer (now (a .entry)) (now (b .entry))) ⌝ }
+{
+    reply_decision(equivalence::is_equivalent(a, b), answer)
 }
 
 // The product of two sheets and its labels `(0, 1)`. Outputs as for `ringmatch_determinize`. Refusals: 20, 1 to 6 of a, then of b, 21, 7, 22.
