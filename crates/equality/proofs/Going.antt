@@ -22,7 +22,7 @@ use Rattle.equality.specs.Verdict.{Decided}
 use Rattle.equality.specs.Code.{twoOf, classes, queue, Long, Begun, Ready, Saw, Given, Going}
 use Rattle.equality.proofs.Queue.{room, begun, ended, short}
 use Rattle.equality.proofs.Spelling.{chained, differs}
-use Rattle.equality.proofs.Turning.{total}
+use Rattle.equality.proofs.Onward.{total}
 
 module _ (a b : List ℕ) (low high : ℕ) (o : List ℕ) (g : Given a b low high o) where
   -- the starts differ

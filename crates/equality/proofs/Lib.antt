@@ -6,6 +6,7 @@ pub mod Successors
 pub mod Spelling
 pub mod Joining
 pub mod Reading
+pub mod Onward
 pub mod Turning
 pub mod Going
 pub mod Comparing

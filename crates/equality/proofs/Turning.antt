@@ -1,6 +1,6 @@
 -- The two runs of a pair: what holds after some of their common ranges. Assumes nothing.
 use Prim.Native.Nat.{ℕ, _+_, _*_, _-_, _/_, _≤_, _<_}
-use mathlib.Core.Path.{_≡_, sym, ap, subst, _∙_}
+use mathlib.Core.Path.{_≡_, sym, subst, _∙_}
 use mathlib.Core.Bool.{Bool, true, false}
 use mathlib.Core.List.{List}
 use native.Mathlib.Omega.{arith}
@@ -21,18 +21,11 @@ use Rattle.equality.specs.declared.First.the-variants.{Symbol, Nothing}
 use Rattle.equality.specs.declared.Seen.the-variants.{Alike, Differ}
 use Rattle.equality.specs.Successors.{successor, acceptOf}
 use Rattle.equality.specs.Forced.{states}
-use Rattle.equality.specs.Walking.{Queue, Merges}
-use Rattle.equality.specs.Code.{twoOf, Common, FirstOf, classes, queue, Sheets, Long, Tried, withSets, withPair, Offered, had, put, Good, Ready, Saw}
-use Rattle.equality.proofs.Forced.{Total}
+use Rattle.equality.specs.Code.{twoOf, Common, FirstOf, classes, queue, Long, Tried, withSets, withPair, Offered, Ready, Saw}
 use Rattle.equality.proofs.Joining.{offer-had, offer-put}
-use Rattle.equality.proofs.Queue.{room, renamed, pushed}
-use Rattle.equality.proofs.Successors.{RunOf, run-of, next-inside}
-
-pub total : (a b : List ℕ) (low high : ℕ) → Sheets a b low high → Total (twoOf a b low high)
-total a b low high s = record {
-  first = record { start-in = s .first .start; next-in = next-inside low high (read a) (s .one) (read-well a (s .first) .states) };
-  second = record { start-in = s .second .start; next-in = next-inside low high (read b) (s .two) (read-well b (s .second) .states) };
-}
+use Rattle.equality.proofs.Queue.{room}
+use Rattle.equality.proofs.Successors.{RunOf, run-of}
+use Rattle.equality.proofs.Onward.{total, onward}
 
 -- record g of l holds x
 abbrev In : List ℕ → ℕ → ℕ → Type 0
@@ -47,62 +40,6 @@ pub record Turning (a b : List ℕ) (low high : ℕ) (ra rb : List ℕ) (n1 i j 
   pub ready : Ready a b low high ra rb n1 i w
   pub rows : (g : ℕ) → g < j → (h : ℕ) → 5 * h + 5 ≤ length rb → Shared (classes w) low high a ra rb g h
   pub row : (h : ℕ) → h < k → Shared (classes w) low high a ra rb j h
-
--- r is w with some classes joined, and perhaps a pair more
-record Onward (a b : List ℕ) (low high : ℕ) (w r : Pairs) : Type 0 where
-  good : Good (twoOf a b low high) r
-  more : w .made ≤ r .made
-  same-one : (g : ℕ) → g < w .made → getD (r .one) g 0 ≡ getD (w .one) g 0
-  same-two : (g : ℕ) → g < w .made → getD (r .two) g 0 ≡ getD (w .two) g 0
-  keeps : (u v : ℕ) → u < states (twoOf a b low high) → v < states (twoOf a b low high) → classes w u ≡ classes w v → classes r u ≡ classes r v
-
-module _ (a b : List ℕ) (low high : ℕ) (sheets : Sheets a b low high) (w r : Pairs) (i x : ℕ) (good : Good (twoOf a b low high) w) (i-in : i < w .made) (x-low : low ≤ x) (x-high : x ≤ high) where
-  abbrev p : ℕ
-  p = successor (read a) (getD (w .one) i 0) x
-
-  abbrev q : ℕ
-  q = successor (read b) (getD (w .two) i 0) x
-
-  is-n : w .sets .n ≡ states (twoOf a b low high)
-  is-n = good .sets .is-n
-
-  few : states (twoOf a b low high) ≤ 512
-  few = good .sets .few
-
-  -- an offer of the successors under x, which agree
-  onward : Offered w r (stateCount a) i x p q → acceptOf (read a) p ≡ acceptOf (read b) q → Onward a b low high w r × (classes r p ≡ classes r (stateCount a + q))
-  onward (had e s same is-queue made) agree =
-      let t = total a b low high sheets in
-      let again : (y : ℕ) → y < states (twoOf a b low high) → classes r y ≡ classes w y = λ y h. same y (omega (arith, is-n)) in
-      let in-one = t .first .next-in (getD (w .one) i 0) x (good .walking .in-one i i-in) (x-low, x-high) in
-      let in-two = t .second .next-in (getD (w .two) i 0) x (good .walking .in-two i i-in) (x-low, x-high) in (
-        record {
-          good = record {
-            sets = record { valid = s .valid; is-n = s .is-n ∙ is-n; few = few; long = s .long };
-            walking = rw (is-queue, made) (renamed (twoOf a b low high) t (classes w) (queue w) (w .made) (good .walking) (classes r) again);
-          };
-          more = omega arith;
-          same-one = λ g h. ap (λ (q : Queue). q .one g) is-queue;
-          same-two = λ g h. ap (λ (q : Queue). q .two g) is-queue;
-          keeps = λ u v hu hv d. again u hu ∙ d ∙ sym (again v hv);
-        },
-        again p (omega arith) ∙ e ∙ sym (again (stateCount a + q) (omega arith)),
-      )
-  onward (put s m u made) agree =
-      let t = total a b low high sheets in
-      let m′ : Merges (states (twoOf a b low high)) (classes w) (classes r) p (stateCount a + q) = subst (λ (n : ℕ). Merges n (classes w) (classes r) p (stateCount a + q)) is-n m in (
-        record {
-          good = record {
-            sets = record { valid = s .valid; is-n = s .is-n ∙ is-n; few = few; long = s .long };
-            walking = rw made (pushed (twoOf a b low high) t (classes w) (classes r) (queue w) (queue r) (w .made) i x (good .walking) u i-in (x-low, x-high) m′ agree);
-          };
-          more = omega arith;
-          same-one = u .keep-one;
-          same-two = u .keep-two;
-          keeps = m′ .kept;
-        },
-        m′ .joined,
-      )
 
 pub turn-begin : (a b : List ℕ) (low high : ℕ) (ra rb : List ℕ) (n1 i : ℕ) (w : Pairs) → Ready a b low high ra rb n1 i w → Turning a b low high ra rb n1 i 0 0 w
 turn-begin a b low high ra rb n1 i w r = record { ready = r; rows = λ g l. absurd (omega arith); row = λ g l. absurd (omega arith) }
