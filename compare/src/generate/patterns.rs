@@ -130,6 +130,12 @@ fn byte(rng: &mut Rng) -> u8 {
     }
 }
 
+/// A text of up to seven transitions with nothing behind it, one in twenty at a limit.
+pub fn whole(rng: &mut Rng) -> Vec<u8> {
+    let text = if rng.one_in(20) { limit(rng) } else { pattern(rng, 7) };
+    text.into_bytes()
+}
+
 /// A text of up to two transitions, one in three damaged.
 pub fn short(rng: &mut Rng) -> Vec<u8> {
     let text = pattern(rng, 2).into_bytes();
