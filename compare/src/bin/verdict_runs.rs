@@ -93,8 +93,8 @@ fn text(rng: &mut Rng) -> Vec<u8> {
 fn input(rng: &mut Rng) -> Vec<u8> {
     let first = text(rng);
     let second = if rng.one_in(3) { first.clone() } else { text(rng) };
-    let gap: &[u8] = rng.pick(&[b"".as_slice(), b" ", b"\n", b"\r\n\t ", b" ", b"\n", b"", b"x"]);
-    let end: &[u8] = rng.pick(&[b"".as_slice(), b"\n", b" \n", b"\t", b"", b"\n", b"", b";"]);
+    let gap = rng.pick::<&[u8]>(&[b"", b" ", b"\n", b"\r\n\t ", b" ", b"\n", b"", b"x"]);
+    let end = rng.pick::<&[u8]>(&[b"", b"\n", b" \n", b"\t", b"", b"\n", b"", b";"]);
     [&first, gap, &second, end].concat()
 }
 
