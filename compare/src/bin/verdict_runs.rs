@@ -95,7 +95,7 @@ fn input(rng: &mut Rng) -> Vec<u8> {
     let second = if rng.one_in(3) { first.clone() } else { text(rng) };
     let gap = rng.pick::<&[u8]>(&[b"", b" ", b"\n", b"\r\n\t ", b" ", b"\n", b"", b"x"]);
     let end = rng.pick::<&[u8]>(&[b"", b"\n", b" \n", b"\t", b"", b"\n", b"", b";"]);
-    [&first, gap, &second, end].concat()
+    [first.as_slice(), *gap, &second, *end].concat()
 }
 
 fn main() {
