@@ -1,0 +1,60 @@
+/* Reads two patterns, tests a series against the first, and says whether the two accept the same series. */
+#include "ringmatch.h"
+
+#include <inttypes.h>
+#include <stdio.h>
+#include <string.h>
+
+static const char *const texts[2] = {
+    "automaton A { init p; p -> q [0, 9]; accepting q; };",
+    "automaton C { init p; p -> q [0, 8]; accepting q; };",
+};
+
+static uint32_t sheets[2][RINGMATCH_SHEET_WORDS];
+static uint64_t lengths[2];
+static uint8_t labels[RINGMATCH_LABEL_BYTES];
+
+static int refused(const char *call, uint32_t number) {
+    printf("%s: refused %" PRIu32 "\n", call, number);
+    return 1;
+}
+
+int main(void) {
+    for (int i = 0; i < 2; i++) {
+        uint64_t read, bytes;
+        uint32_t code =
+            ringmatch_parse_automaton((const uint8_t *)texts[i], strlen(texts[i]), sheets[i], RINGMATCH_SHEET_WORDS,
+                                      labels, RINGMATCH_LABEL_BYTES, &read, &lengths[i], &bytes);
+        if (code != 0)
+            return refused("parse_automaton", code);
+        printf("pattern %d: %" PRIu64 " bytes read, a sheet of %" PRIu64 " words\n", i + 1, read, lengths[i]);
+    }
+
+    uint32_t series[1] = {9}, answer;
+    uint32_t code = ringmatch_accepts_words(sheets[0], lengths[0], series, 1, &answer);
+    if (code != 0)
+        return refused("accepts_words", code);
+    printf("the series 9 is %saccepted by pattern 1\n", answer ? "" : "not ");
+
+    uint32_t word[RINGMATCH_DIFFERENCE_WORDS], same;
+    uint64_t number;
+    code = ringmatch_equality(sheets[0], lengths[0], sheets[1], lengths[1], word, RINGMATCH_DIFFERENCE_WORDS, &same,
+                              &number);
+    if (code != 0)
+        return refused("equality", code);
+    if (same) {
+        printf("same %" PRIu64 "\n", number);
+    } else {
+        printf("differ");
+        for (uint64_t i = 0; i < number; i++)
+            printf(" %" PRIu32, word[i]);
+        printf("\n");
+    }
+
+    /* A sheet of 257 states is refused with 3, and nothing is written. */
+    uint32_t large[3] = {1, 0, RINGMATCH_MAX_STATES + 1};
+    answer = 7;
+    code = ringmatch_is_nfa(large, 3, &answer);
+    printf("257 states: refused %" PRIu32 ", answer still %" PRIu32 "\n", code, answer);
+    return 0;
+}
