@@ -110,7 +110,7 @@ fn is_name_byte(b: u8) -> bool
 }
 
 // Optional space.
-fn space(text: &[u8], c: Cursor) -> Cursor
+pub fn space(text: &[u8], c: Cursor) -> Cursor
     ensures { λ r. ⌜ r .at ≡ space (now (text .entry)) (c .at) ⌝ }
 {
     let mut at = c.at;
