@@ -1,0 +1,4 @@
+-- The laws of the line.
+pub mod Printing
+pub mod Reading
+pub mod Judging
