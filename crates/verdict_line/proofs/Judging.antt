@@ -12,6 +12,7 @@ use lib.Seq.{length-take-le}
 use Rattle.automata.specs.Automaton.{Automaton}
 use Rattle.lists.specs.Written.{Written}
 use Rattle.lists.proofs.Parts.{part-all}
+use Rattle.lists.proofs.Written.{written-length}
 use Rattle.refusal.specs.Answer.{Answer, refused, given}
 use Rattle.refusal.specs.Number.{numberOf}
 use Rattle.refusal.specs.declared.InputRefusal.the-variants.{Grammar}
@@ -162,8 +163,8 @@ module _ (low high : ℕ) (t w w′ : List ℕ) (v : Verdict) (j : Judged (compa
   printed-line o o′ n h p k = printed h (lineOf v w′) (line-given _ w w′ v j) p k
 
 -- the line ends within the buffer
-pub printed-inside : (a : Answer Two) (o o′ : List ℕ) (n : ℕ) → Printed a o o′ n → n ≤ length o
+pub printed-inside : (a : Answer Two) (o o′ : List ℕ) (n : ℕ) → Printed a o o′ n → n ≤ length o′
 printed-inside a o o′ n (short h e z) = omega arith
-printed-inside a o o′ n (printed h bytes l w k) = omega arith
+printed-inside a o o′ n (printed h bytes l w k) = omega (arith, written-length o o′ bytes 0 n w)
 
 pub ruleset printedLaws = (printed-nothing, printed-short, printed-line, needs)
