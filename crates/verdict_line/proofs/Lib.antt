@@ -2,3 +2,4 @@
 pub mod Printing
 pub mod Reading
 pub mod Judging
+pub mod Theorems
