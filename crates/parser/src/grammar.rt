@@ -182,13 +182,7 @@ fn name(text: &[u8], c: Cursor) -> NamePiece
     if 64 < end - at {
         return NamePiece::Nothing;
     }
-    NamePiece::Read(
-        Span {
-            start: at,
-            end: end,
-        },
-        Cursor { at: end },
-    )
+    NamePiece::Read(Span { start: at, end }, Cursor { at: end })
 }
 
 // A digit behind a number.
