@@ -3,3 +3,4 @@ pub mod Printing
 pub mod Reading
 pub mod Judging
 pub mod Theorems
+pub mod Samples
