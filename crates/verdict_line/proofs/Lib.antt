@@ -4,3 +4,4 @@ pub mod Reading
 pub mod Judging
 pub mod Theorems
 pub mod Samples
+pub mod SampleSame

@@ -26,19 +26,19 @@ use Rattle.verdict_line.specs.Texts.{twoTexts, withSecondText, withFirst
 use Rattle.verdict_line.specs.Line.{Line, differs, differLine}
 
 -- `automaton A { init p; p -> q [0, 9]; accepting q; };`
-abbrev text-a : List ℕ
+abbrev pub text-a : List ℕ
 text-a =
     97 ∷ 117 ∷ 116 ∷ 111 ∷ 109 ∷ 97 ∷ 116 ∷ 111 ∷ 110 ∷ 32 ∷ 65 ∷ 32 ∷ 123 ∷ 32 ∷ 105 ∷ 110 ∷ 105 ∷ 116 ∷ 32 ∷ 112 ∷ 59 ∷ 32 ∷ 112 ∷ 32 ∷ 45 ∷ 62 ∷ 32 ∷
     113 ∷ 32 ∷ 91 ∷ 48 ∷ 44 ∷ 32 ∷ 57 ∷ 93 ∷ 59 ∷ 32 ∷ 97 ∷ 99 ∷ 99 ∷ 101 ∷ 112 ∷ 116 ∷ 105 ∷ 110 ∷ 103 ∷ 32 ∷ 113 ∷ 59 ∷ 32 ∷ 125 ∷ 59 ∷ []
 
 -- ` automaton C { init p; p -> q [0, 8]; accepting q; };`
-abbrev text-c : List ℕ
+abbrev pub text-c : List ℕ
 text-c =
     32 ∷ 97 ∷ 117 ∷ 116 ∷ 111 ∷ 109 ∷ 97 ∷ 116 ∷ 111 ∷ 110 ∷ 32 ∷ 67 ∷ 32 ∷ 123 ∷ 32 ∷ 105 ∷ 110 ∷ 105 ∷ 116 ∷ 32 ∷ 112 ∷ 59 ∷ 32 ∷ 112 ∷ 32 ∷ 45 ∷ 62 ∷
     32 ∷ 113 ∷ 32 ∷ 91 ∷ 48 ∷ 44 ∷ 32 ∷ 56 ∷ 93 ∷ 59 ∷ 32 ∷ 97 ∷ 99 ∷ 99 ∷ 101 ∷ 112 ∷ 116 ∷ 105 ∷ 110 ∷ 103 ∷ 32 ∷ 113 ∷ 59 ∷ 32 ∷ 125 ∷ 59 ∷ []
 
 -- what a text `p -> q [0, last]` with q accepting is determinized to, where next is last + 1
-abbrev determinized-to : ℕ → ℕ → Automaton
+abbrev pub determinized-to : ℕ → ℕ → Automaton
 determinized-to last next = record {
   size = 3;
   start = 0;
