@@ -7,7 +7,5 @@ use Rattle.verdict.proofs.main.Tie as tie
 pub main-spec : {M : Type 1} → statement M
 main-spec =
     tie.close
-    (tie.spec (λ c. search (printed-inside, needs)) (λ c κs. search (printed-inside, needs)) (λ c. search (printed-inside, needs))
-    (λ c. search (printed-inside, needs)) (λ c. search (printed-inside, needs)) (λ c. search (printed-inside, needs))
-    (λ c κs. search (printed-inside, needs)) (λ c. search (printed-inside, needs)) (λ c. search (printed-inside, needs))
-    (λ c. search (printed-inside, needs)) (λ c κs. search (printed-inside, needs)) (λ c. search (printed-inside, needs)))
+    (tie.spec (λ c. search needs) (λ c κs. search needs) (λ c. search needs) (λ c. search needs) (λ c. search needs) (λ c. search needs)
+    (λ c κs. search needs) (λ c. search needs) (λ c. search needs) (λ c. search (printed-inside, needs)) (λ c κs. search needs) (λ c. search needs))

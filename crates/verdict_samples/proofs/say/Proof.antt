@@ -7,6 +7,5 @@ use Rattle.verdict_samples.proofs.say.Tie as tie
 pub say-spec : {M : Type 1} → statement M
 say-spec =
     tie.close
-    (tie.spec (λ c. search (printed-inside, needs)) (λ c κs. search (printed-inside, needs)) (λ c. search (printed-inside, needs))
-    (λ c. search (printed-inside, needs)) (λ c. search (printed-inside, needs)) (λ c κs. search (printed-inside, needs))
-    (λ c. search (printed-inside, needs)))
+    (tie.spec (λ c. search needs) (λ c κs. search needs) (λ c. search needs) (λ c. search needs) (λ c. search (printed-inside, needs))
+    (λ c κs. search needs) (λ c. search needs))
