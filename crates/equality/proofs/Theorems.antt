@@ -66,19 +66,19 @@ module _ (low high : ℕ) (A B : Automaton) (well-a : WellFormed A) (well-b : We
   by-b w v = accepts-determinized low high B well-b E is-e w v
 
   -- no word tells the determinizations apart exactly when the automata accept the same words
-  same-words : ((w : List ℕ) → Word low high w → acceptAfter D w ≡ acceptAfter E w) → SameWords low high A B
+  pub same-words : ((w : List ℕ) → Word low high w → acceptAfter D w ≡ acceptAfter E w) → SameWords low high A B
   same-words all w v =
       let q = all w v in
       (λ h. by-b w v .1 (let k = by-a w v .0 h in omega arith), λ h. by-a w v .1 (let k = by-b w v .0 h in omega arith))
 
-  one-word : (w : List ℕ) → Word low high w → (acceptAfter D w ≡ acceptAfter E w → ⊥) → ExactlyOne A B w
+  pub one-word : (w : List ℕ) → Word low high w → (acceptAfter D w ≡ acceptAfter E w → ⊥) → ExactlyOne A B w
   one-word w v d = by-bits (other-bits (acceptAfter D w) (acceptAfter E w) (after-bit low high A well-a D is-d w v) (after-bit low high B well-b E is-e w v) d)
     where
       by-bits : ((0 < acceptAfter D w) × (0 < acceptAfter E w → ⊥)) ⊎ ((0 < acceptAfter D w → ⊥) × (0 < acceptAfter E w)) → ExactlyOne A B w
       by-bits (inl h) = inl (by-a w v .1 (h .0), λ k. h .1 (by-b w v .0 k))
       by-bits (inr h) = inr (λ k. h .0 (by-a w v .0 k), by-b w v .1 (h .1))
 
-  not-same : (w : List ℕ) → ExactlyOne A B w → Word low high w → SameWords low high A B → ⊥
+  pub not-same : (w : List ℕ) → ExactlyOne A B w → Word low high w → SameWords low high A B → ⊥
   not-same w (inl h) v s = h .1 (s w v .0 (h .0))
   not-same w (inr h) v s = h .0 (s w v .1 (h .1))
 

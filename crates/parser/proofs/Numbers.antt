@@ -33,9 +33,6 @@ module _ (t : List ℕ) (at v : ℕ) where
   unfolding written value
   written-more h e = rw (run-more isDigit t at h e) (ap (λ (l : List ℕ). value v (take (suc (run isDigit (drop (at + 1) t))) l)) (drop-at t at h))
 
-pub number-begin : (t : List ℕ) (at : ℕ) → written t at 0 ≡ written t at 0
-number-begin t at = refl
-
 -- the digits from start to at write v, and n is the place behind the last digit
 module _ (t : List ℕ) (start at v : ℕ) (g : start ≤ at) (m : v < 2 ^ 32) (n : start + run isDigit (drop start t) ≡ at + run isDigit (drop at t))
     (e : written t start 0 ≡ written t at v) where
@@ -83,4 +80,4 @@ module _ (t : List ℕ) (start at v : ℕ) (g : start ≤ at) (m : v < 2 ^ 32) (
           none y true = refl
           none y false = refl
 
-pub ruleset numberLaws = (number-begin, number-ended, number-stopped, number-digit, number-next, number-run, number-over, needs)
+pub ruleset numberLaws = (number-ended, number-stopped, number-digit, number-next, number-run, number-over, needs)

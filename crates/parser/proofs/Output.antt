@@ -153,16 +153,18 @@ limits t g n r h = go (ltb 256 (length (statesOf t g))) (ltb 2048 (length (autom
     go false false p q e = (ltb-false _ _ p, ltb-false _ _ q, cc)
 
 module _ (t : List ℕ) (g : Told) where
-  fits : length (statesOf t g) ≤ 256 → length (automatonOf t g (statesOf t g) .transitions) ≤ 2048 → Fits (automatonOf t g (statesOf t g))
+  within : length (statesOf t g) ≤ 256 → length (automatonOf t g (statesOf t g) .transitions) ≤ 2048 → Fits (automatonOf t g (statesOf t g))
   unfolding automatonOf
-  fits a b = record { few-states = a; few-transitions = b }
+  within a b = record { few-states = a; few-transitions = b }
 
   sized : labelsFault (length (statesOf t g)) (writeLabels (statesOf t g)) ≡ 0 → labelsFault (automatonOf t g (statesOf t g) .size) (writeLabels (statesOf t g)) ≡ 0
   unfolding automatonOf
   sized a = a
 
--- what a text gives is an accepted sheet with the labels of its states
+-- what a text gives is a well-formed automaton, an accepted sheet, and the labels of its states
 pub record Right (r : Reading) : Type 0 where
+  pub well : WellFormed (r .pattern .automaton)
+  pub fits : Fits (r .pattern .automaton)
   pub sheet : fault (write (r .pattern .automaton)) ≡ 0
   pub labels : labelsFault (r .pattern .automaton .size) (writeLabels (r .pattern .labels)) ≡ 0
 
@@ -177,6 +179,8 @@ parse-right t r h = go (wholeText t) refl h
         let k = limits t g n r q in
         subst Right (sym (k .2))
         (record {
-          sheet = write-accepted _ (read-well t g (d .0) (d .1)) (fits t g (k .0) (k .1));
+          well = read-well t g (d .0) (d .1);
+          fits = within t g (k .0) (k .1);
+          sheet = write-accepted _ (read-well t g (d .0) (d .1)) (within t g (k .0) (k .1));
           labels = sized t g (fault-write (statesOf t g) (labels-states t g (d .0) (d .1)));
         })

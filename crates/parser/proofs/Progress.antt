@@ -28,7 +28,8 @@ holds-found {X = X} P {x = x} {at = at} (some {x = y} {at = b} h) e =
     let q : b ≡ at = cc in
     subst (P x) q (subst (λ (z : X). P z b) p h)
 
-holds-follow : {X Y : Type 0} (Q : X → ℕ → Type 0) {P : Y → ℕ → Type 0} {r : Found X} {f : X → ℕ → Found Y} → Holds Q r → ((x : X) (at : ℕ) → Q x at → Holds P (f x at)) → Holds P (follow r f)
+-- what follows a piece of which Q holds
+pub holds-follow : {X Y : Type 0} (Q : X → ℕ → Type 0) {P : Y → ℕ → Type 0} {r : Found X} {f : X → ℕ → Found Y} → Holds Q r → ((x : X) (at : ℕ) → Q x at → Holds P (f x at)) → Holds P (follow r f)
 unfolding follow
 holds-follow Q none g = none
 holds-follow Q (some {x} {at} h) g = g x at h
@@ -191,3 +192,17 @@ module _ (t : List ℕ) where
       holds-follow _ (accepting-holds (space t (transitions t b .behind))) λ names c u.
       holds-follow (λ _ _. ℕ) (always (ending t c)) λ _ d v.
       some (q, u, h b)
+
+  ending-holds : (at : ℕ) → Holds (λ _ b. b ≤ length t) (ending t at)
+  unfolding ending
+  ending-holds at = holds-follow _ (token-holds t (space t at) 125 []) λ _ a p. holds-weaker (token-holds t a 59 []) (λ _ b h. h .inside)
+
+  -- a whole text ends within the bytes
+  pub text-inside : Holds (λ g b. b ≤ length t) (wholeText t)
+  unfolding wholeText
+  text-inside =
+      holds-follow (λ _ _. ℕ) (always (heading t 0)) λ _ a p.
+      holds-follow (λ _ _. ℕ) (always (initial t (space t a))) λ s b q.
+      holds-follow (λ _ _. ℕ) (always (accepting t (space t (transitions t b .behind)))) λ names c u.
+      holds-follow _ (ending-holds c) λ _ d v.
+      some v

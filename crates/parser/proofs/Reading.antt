@@ -1,11 +1,9 @@
 -- Laws of the outputs: the sheet and the labels are written, and the refusals come in their order.
-use Prim.Native.Nat.{ℕ, zero, suc, _+_, _-_, _*_, _/_, _^_, _≤_, _<_}
+use Prim.Native.Nat.{ℕ, zero, suc, _+_, _-_, _/_, _≤_, _<_}
 use mathlib.Core.Bool.{Bool, true, false, _||_, false≢true}
 use mathlib.Core.List.{List, [], _∷_, _++_, map}
 use mathlib.Core.Path.{_≡_, refl, sym, _∙_, ap, ap₂, subst}
 use native.Mathlib.Omega.{arith}
-use mir.Syntax.{w64}
-use mir.Val.{Fits}
 use borrow.Author.Needs.{needs}
 use borrow.Author.Tests.{le-ltb, lt-ltb}
 use lib.Dec.{ltb}
@@ -19,7 +17,6 @@ use Rattle.automata.specs.Records.{writeRecords}
 use Rattle.automata.proofs.Records.{length-write}
 use Rattle.labels.specs.Labels.{writeEntries, countBytes, writeLabels, entriesOk, readEntries}
 use Rattle.labels.proofs.Labels.{first}
-use Rattle.labels.proofs.Putting.{copyLaws, copy-room}
 use Rattle.output.proofs.Answers.{room-lacking, room-enough, room-words, room-bytes}
 use Rattle.output.specs.Ordered.{Listed}
 use Rattle.output.specs.Output.{Pattern, roomFirst}
@@ -80,12 +77,6 @@ pub ruleset labelLaws = (table-inside, table-small, labels-written, labels-room,
 pub sheet-written : (l m n o q ws rs : List ℕ) (i j k r x : ℕ) → Written l 0 (1 ∷ 0 ∷ length ws ∷ []) m i → Written m i ws n j → Written n j (x ∷ []) o k → Written o k rs q r → Written l 0 (1 ∷ 0 ∷ length ws ∷ (ws ++ x ∷ rs)) q r
 sheet-written l m n o q ws rs i j k r x a b c d =
     written-append l m q (1 ∷ 0 ∷ length ws ∷ []) (ws ++ x ∷ rs) 0 i r a (written-append m n q ws (x ∷ rs) i j r b (written-append n o q (x ∷ []) rs j k r c d))
-
--- the place of a word that is copied, in bytes
-pub copy-offset : (l m b : List ℕ) (at i end : ℕ) → Written l at (take i b) m end → at + length b ≤ length l → i < length b → length l * 4 < 2 ^ 63 → Fits w64 (end * 4)
-copy-offset l m b at i end w r h g = record { fits = omega (arith, copy-room l m b at i end w r h, written-length l m (take i b) at end w) }
-
-pub ruleset wordLaws = (copy-offset, copyLaws)
 
 -- the first name of an empty table
 pub table-none : (b : List ℕ) → length b ≡ 16640 → Table b (record { n = 0; end = 0 })

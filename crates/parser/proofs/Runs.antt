@@ -52,6 +52,11 @@ pub space-begin : (t : List ℕ) (at : ℕ) → space t at ≡ at + run isSpace 
 unfolding space
 space-begin t at = refl
 
+-- the place behind optional space is within the text
+pub space-inside : (t : List ℕ) (at : ℕ) → at ≤ length t → space t at ≤ length t
+unfolding space
+space-inside t at h = omega (arith, run-short isSpace (drop at t), length-drop at t)
+
 module _ (t : List ℕ) (n at : ℕ) (e : n ≡ at + run isSpace (drop at t)) where
   pub space-end : length t ≤ at → at ≡ n
   space-end = past-end isSpace t n at e

@@ -119,8 +119,6 @@ module _ (t : List ℕ) (x : Span) (p : Spelt t x) where
   pub spelt-inside : x .end ≤ length t
   spelt-inside = p .inside
 
-pub ruleset speltLaws = (spelt-label, spelt-order, spelt-inside, needs)
-
 -- the number of a name fits a word
 module _ (b : List ℕ) (s : Names) (t : Table b s) (x : List ℕ) (i : ℕ) (e : i ≡ indexOf x (readEntries (s .n) (take (s .end) b))) where
   pub number-fits : Fits w32 i

@@ -1,5 +1,6 @@
 -- The answers of the code's pieces as what the grammar finds.
-use Rattle.parser.specs.Grammar.{Found, nothing, found, Mark, mark, Ends, Told, transitions, nextNames}
+use Rattle.parser.specs.Grammar.{Found, nothing, found, Mark, mark, Ends, Told, nextNames}
+use Rattle.parser.specs.Layout.{toldAt}
 use mathlib.Core.List.{List, _∷_}
 use Prim.Native.Nat.{ℕ}
 use Rattle.parser.specs.declared.grammar.Span.{Span}
@@ -45,6 +46,5 @@ acceptingOf t (AcceptingRead s more c) = found (s ∷ nextNames t (more .at) .it
 acceptingOf t NoAccepting = nothing
 
 abbrev pub textOf : List ℕ → TextPiece → Found Told
-textOf t (TextRead l c) =
-    found (record { start = l .initial; arrows = transitions t (l .arrows .at) .items; accepts = l .first ∷ nextNames t (l .more .at) .items }) (c .at)
+textOf t (TextRead l c) = found (toldAt t l) (c .at)
 textOf t NoText = nothing

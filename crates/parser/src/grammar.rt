@@ -110,7 +110,7 @@ fn is_name_byte(b: u8) -> bool
 }
 
 // Optional space.
-fn space(text: &[u8], c: Cursor) -> Cursor
+pub fn space(text: &[u8], c: Cursor) -> Cursor
     ensures { λ r. ⌜ r .at ≡ space (now (text .entry)) (c .at) ⌝ }
 {
     let mut at = c.at;
@@ -182,13 +182,7 @@ fn name(text: &[u8], c: Cursor) -> NamePiece
     if 64 < end - at {
         return NamePiece::Nothing;
     }
-    NamePiece::Read(
-        Span {
-            start: at,
-            end: end,
-        },
-        Cursor { at: end },
-    )
+    NamePiece::Read(Span { start: at, end }, Cursor { at: end })
 }
 
 // A digit behind a number.

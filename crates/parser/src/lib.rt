@@ -1,7 +1,7 @@
 // Reading a pattern from its text: the grammar whole, then the states, then the transitions, and only then the outputs.
 ghost use mathlib.Core.List.{_∷_, _++_};
 ghost use mathlib.Core.Path.{_≡_};
-ghost use Prim.Native.Nat.{_+_, _/_, _≤_};
+ghost use Prim.Native.Nat.{_/_, _≤_};
 ghost use lib.ListN.{length};
 ghost use Rattle.automata.specs.Records.{writeRecords};
 ghost use Rattle.labels.specs.Labels.{writeLabels};
@@ -13,9 +13,7 @@ ghost use Rattle.parser.specs.Layout.{toldAt, Laid, arrowsOf, patternAt}
 ghost use Rattle.parser.specs.Names.{Table, namesIn, Addition};
 ghost use Rattle.parser.specs.Parsed.{parsedOf, parsed};
 ghost use Rattle.parser.specs.Pattern.{statesOf, fewTransitions, fewStates, parse};
-use grammar::Cursor;
 use grammar::Layout;
-use grammar::TextPiece;
 use names::Added;
 use names::Names;
 use records::Recorded;
@@ -28,25 +26,15 @@ mod grammar;
 mod names;
 mod records;
 
+pub use grammar::Cursor;
+pub use grammar::TextPiece;
+pub use grammar::space;
+pub use grammar::whole_text;
+
 // How many bytes of the text were read, how many words the sheet takes and how many bytes the labels; or a refusal.
 pub enum Parsed {
     Read(usize, usize, usize),
     Refused(Refusal),
-}
-
-// Copies the words to at; the place behind them.
-fn copy_words(out: &mut [u32], at: usize, words: &[u32]) -> usize
-    requires { ⌜ at + length (now words) ≤ length (now out) ⌝ }
-    ensures { λ r. ⌜ Written (now (out .entry)) at (now (words .entry)) (now (out .exit)) r ⌝ }
-{
-    let mut end = at;
-    let mut i: usize = 0;
-    while i < words.len() {
-        out[end] = words[i];
-        end += 1;
-        i += 1;
-    }
-    end
 }
 
 // The sheet with the start 0, these accept words and these records.
@@ -55,9 +43,9 @@ fn write_sheet(out: &mut [u32], accepts: &[u32], records: &[u32]) -> usize
     ensures { λ r. ⌜ Written (now (out .entry)) 0 (1 ∷ 0 ∷ length (now (accepts .entry)) ∷ (now (accepts .entry) ++ length (now (records .entry)) / 5 ∷ now (records .entry))) (now (out .exit)) r ⌝ }
 {
     let first = output::put_start(out, 0, accepts.len() as u32);
-    let count = copy_words(out, first, accepts);
+    let count = output::put_words(out, first, accepts);
     let behind = output::put_word(out, count, (records.len() / 5) as u32);
-    copy_words(out, behind, records)
+    output::put_words(out, behind, records)
 }
 
 // The label list with the names of a table.

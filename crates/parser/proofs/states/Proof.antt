@@ -6,4 +6,5 @@ use Rattle.parser.proofs.states.Tie as tie
 pub states-spec : {M : Type 1} → statement M
 states-spec =
     tie.close
-    (tie.spec (λ c κs. search statesLaws) (λ c. search statesLaws) (λ c. search statesLaws) (λ c. search statesLaws) (λ c. search statesLaws) (λ c κs. search statesLaws) (λ c. search statesLaws) (λ c. search statesLaws))
+    (tie.spec (λ c κs. search statesLaws) (λ c. search statesLaws) (λ c. search statesLaws) (λ c. search statesLaws) (λ c. search statesLaws)
+    (λ c κs. search statesLaws) (λ c. search statesLaws) (λ c. search statesLaws))

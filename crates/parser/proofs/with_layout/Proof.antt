@@ -9,4 +9,6 @@ use Rattle.parser.proofs.with_layout.Tie as tie
 pub with-layout-spec : {M : Type 1} → statement M
 with-layout-spec =
     tie.close
-    (tie.spec (λ c. search needs) (λ c. search needs) (λ c. search needs) (λ c κs. let p = c .before .before .before .before .before .before .before .before .pre in ((p .0, length-replicate {A = ℕ} 16640 0, length-replicate {A = ℕ} 10245 0, zeros), p .1)) (λ c. search needs) (λ c. search needs) (λ c. search needs))
+    (tie.spec (λ c. search needs) (λ c. search needs) (λ c. search needs)
+    (λ c κs. let p = c .before .before .before .before .before .before .before .before .pre in
+    ((p .0, length-replicate {A = ℕ} 16640 0, length-replicate {A = ℕ} 10245 0, zeros), p .1)) (λ c. search needs) (λ c. search needs) (λ c. search needs))

@@ -7,4 +7,5 @@ use Rattle.parser.proofs.write_labels.Tie as tie
 pub write-labels-spec : {M : Type 1} → statement M
 write-labels-spec =
     tie.close
-    (tie.spec (λ c κs. search labelLaws) (λ c. table-counted _ _ (c .before .before .before .before .before .before .before .before .pre .0)) (λ c κs. search labelLaws) (λ c. search labelLaws) (λ c. search labelLaws))
+    (tie.spec (λ c κs. search labelLaws) (λ c. table-counted _ _ (c .before .before .before .before .before .before .before .before .pre .0))
+    (λ c κs. search labelLaws) (λ c. search labelLaws) (λ c. search labelLaws))

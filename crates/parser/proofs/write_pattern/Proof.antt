@@ -8,4 +8,20 @@ use Rattle.parser.proofs.write_pattern.Tie as tie
 pub write-pattern-spec : {M : Type 1} → statement M
 write-pattern-spec =
     tie.close
-    (tie.spec (λ c κs. search needs) (λ c. search needs) (λ c. words-counted _ _ (c .before .before .before .before .before .before .before .before .before .before .before .before .pre .0 .0) _ (omega (arith, c .before .before .before .before .before .before .before .before .before .before .before .before .pre .1 .0 .2 .long))) (λ c κs. (search needs, words-few _ _ (c .before .before .before .before .before .before .before .before .before .before .before .before .pre .0 .0) _ (omega (arith, c .before .before .before .before .before .before .before .before .before .before .before .before .pre .1 .0 .2 .long)), search needs)) (λ c κs. search needs) (λ c. search needs) (λ c. search needs) (λ c. search needs) (λ c. let a = c .before .before .before .before .before .before .before .before .before .before .before .before .before .before .before .before .before .before .before .args in let p = c .before .before .before .before .before .before .before .before .before .before .before .before .before .before .before .before .before .before .before .pre in pattern-written (a .text .now) (a .l) (a .b .now) (a .s) (p .0 .0) (p .0 .2) _ _ _ _ _ _ _ _ _ _ (p .1 .0 .2) (c .before .before .before .before .before .before .before .before .before .before .before .mark-names .ensures) (p .1 .0 .0) (c .before .before .before .before .before .before .write-sheet .ensures) (c .before .before .write-labels .ensures)))
+    (tie.spec (λ c κs. search needs) (λ c. search needs)
+    (λ c. words-counted _ _ (c .before .before .before .before .before .before .before .before .before .before .before .before .pre .0 .0) _ (omega
+    (arith, c .before .before .before .before .before .before .before .before .before .before .before .before .pre .1 .0 .2 .long)))
+    (λ c κs. (
+      search needs,
+      words-few _ _ (c .before .before .before .before .before .before .before .before .before .before .before .before .pre .0 .0) _
+          (omega (arith, c .before .before .before .before .before .before .before .before .before .before .before .before .pre .1 .0 .2 .long)),
+      search needs,
+    ))
+    (λ c κs. search needs) (λ c. search needs) (λ c. search needs) (λ c. search needs)
+    (λ c. let a = c .before .before .before .before .before .before .before .before .before .before .before .before .before .before .before .before .before
+    .before .before .args in
+    let p = c .before .before .before .before .before .before .before .before .before .before .before .before .before .before .before .before .before .before
+    .before .pre in
+    pattern-written (a .text .now) (a .l) (a .b .now) (a .s) (p .0 .0) (p .0 .2) _ _ _ _ _ _ _ _ _ _ (p .1 .0 .2)
+    (c .before .before .before .before .before .before .before .before .before .before .before .mark-names .ensures) (p .1 .0 .0)
+    (c .before .before .before .before .before .before .write-sheet .ensures) (c .before .before .write-labels .ensures)))

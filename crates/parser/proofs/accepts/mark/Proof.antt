@@ -6,4 +6,5 @@ use Rattle.parser.proofs.accepts.mark.Tie as tie
 pub mark-spec : {M : Type 1} → statement M
 mark-spec =
     tie.close
-    (tie.spec (λ c κs. search markLaws) (λ c. search markLaws) (λ c. search markLaws) (λ c. search markLaws) (λ c. search markLaws) (λ c. search markLaws) (λ c. search markLaws))
+    (tie.spec (λ c κs. search markLaws) (λ c. search markLaws) (λ c. search markLaws) (λ c. search markLaws) (λ c. search markLaws) (λ c. search markLaws)
+    (λ c. search markLaws))

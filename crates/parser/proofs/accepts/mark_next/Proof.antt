@@ -18,4 +18,11 @@ abbrev μ-loop : tie.MeasureT-loop
 pub mark-next-spec : {M : Type 1} → statement M
 mark-next-spec =
     tie.close
-    (tie.spec Inv-loop μ-loop (λ c. search marksLaws) (λ c κs. search marksLaws) (λ c. search marksLaws) (λ c. search marksLaws) (λ c. search marksLaws) (λ c. search marksLaws) (λ c κs. search marksLaws) (λ c. search marksLaws) (λ c. (search marksLaws, marks-next _ _ _ (c .before .before .before .before .before .before .before .next-name .ensures) _ _ _ (c .before .before .before .before .before .before .before .before .loop .inv .1) _ _ (c .before .before .before .before .before .x .given .1) _ (c .before .before .mark .ensures))))
+    (tie.spec Inv-loop μ-loop (λ c. search marksLaws) (λ c κs. search marksLaws) (λ c. search marksLaws) (λ c. search marksLaws) (λ c. search marksLaws)
+    (λ c. search marksLaws) (λ c κs. search marksLaws) (λ c. search marksLaws)
+    (λ c. (
+      search marksLaws,
+      marks-next _ _ _ (c .before .before .before .before .before .before .before .next-name .ensures) _ _ _
+          (c .before .before .before .before .before .before .before .before .loop .inv .1) _ _ (c .before .before .before .before .before .x .given .1) _
+          (c .before .before .mark .ensures),
+    )))

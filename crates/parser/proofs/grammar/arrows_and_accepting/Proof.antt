@@ -8,4 +8,5 @@ use Rattle.parser.proofs.grammar.arrows_and_accepting.Tie as tie
 pub arrows-and-accepting-spec : {M : Type 1} → statement M
 arrows-and-accepting-spec =
     tie.close
-    (tie.spec (λ c κs. search needs) (λ c κs. search needs) (λ c κs. search needs) (λ c. c .accepting .ensures ∙ ap (accepting _) (c .before .space .ensures ∙ ap (space _) (c .before .before .transitions .ensures))))
+    (tie.spec (λ c κs. search needs) (λ c κs. search needs) (λ c κs. search needs)
+    (λ c. c .accepting .ensures ∙ ap (accepting _) (c .before .space .ensures ∙ ap (space _) (c .before .before .transitions .ensures))))

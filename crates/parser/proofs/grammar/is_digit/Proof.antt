@@ -4,15 +4,8 @@ use Rattle.parser.specs.Bytes.{isDigit}
 use Rattle.parser.proofs.grammar.is_digit.Statement.{statement}
 use Rattle.parser.proofs.grammar.is_digit.Tie as tie
 
-returns : tie.Need-returns
-unfolding isDigit
-returns c = search tests
-
-returns-2 : tie.Need-returns-2
-unfolding isDigit
-returns-2 c = search tests
-
 pub is-digit-spec : {M : Type 1} → statement M
+unfolding isDigit
 is-digit-spec =
     tie.close
-    (tie.spec returns returns-2)
+    (tie.spec (λ c. search tests) (λ c. search tests))

@@ -6,4 +6,5 @@ use Rattle.parser.proofs.grammar.name.Tie as tie
 pub name-spec : {M : Type 1} → statement M
 name-spec =
     tie.close
-    (tie.spec (λ c. search namePieceLaws) (λ c. search namePieceLaws) (λ c κs. search namePieceLaws) (λ c. search namePieceLaws) (λ c κs. search namePieceLaws) (λ c. search namePieceLaws) (λ c. search namePieceLaws) (λ c. search namePieceLaws))
+    (tie.spec (λ c. search namePieceLaws) (λ c. search namePieceLaws) (λ c κs. search namePieceLaws) (λ c. search namePieceLaws) (λ c κs. search namePieceLaws)
+    (λ c. search namePieceLaws) (λ c. search namePieceLaws) (λ c. search namePieceLaws))

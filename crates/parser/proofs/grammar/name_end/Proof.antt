@@ -17,4 +17,5 @@ abbrev μ-loop : tie.MeasureT-loop
 pub name-end-spec : {M : Type 1} → statement M
 name-end-spec =
     tie.close
-    (tie.spec Inv-loop μ-loop (λ c. search nameLaws) (λ c. search nameLaws) (λ c κs. search nameLaws) (λ c. search nameLaws) (λ c. search nameLaws) (λ c. search nameLaws) (λ c. search nameLaws) (λ c. search nameLaws))
+    (tie.spec Inv-loop μ-loop (λ c. search nameLaws) (λ c. search nameLaws) (λ c κs. search nameLaws) (λ c. search nameLaws) (λ c. search nameLaws)
+    (λ c. search nameLaws) (λ c. search nameLaws) (λ c. search nameLaws))

@@ -16,4 +16,6 @@ abbrev μ-loop : tie.MeasureT-loop
 pub next-names-spec : {M : Type 1} → statement M
 next-names-spec =
     tie.close
-    (tie.spec Inv-loop μ-loop (λ c. search namesLoop) (λ c κs. search namesLoop) (λ c. search namesLoop) (λ c. search namesLoop) (λ c. search namesLoop) (λ c. search namesLoop) (λ c. names-next _ _ _ (c .before .before .before .next-name .ensures) _ (c .before .before .before .before .loop .inv) _ _ (c .before .next .given .1)))
+    (tie.spec Inv-loop μ-loop (λ c. search namesLoop) (λ c κs. search namesLoop) (λ c. search namesLoop) (λ c. search namesLoop) (λ c. search namesLoop)
+    (λ c. search namesLoop)
+    (λ c. names-next _ _ _ (c .before .before .before .next-name .ensures) _ (c .before .before .before .before .loop .inv) _ _ (c .before .next .given .1)))

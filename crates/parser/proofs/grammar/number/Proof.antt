@@ -17,4 +17,6 @@ abbrev μ-loop : tie.MeasureT-loop
 pub number-spec : {M : Type 1} → statement M
 number-spec =
     tie.close
-    (tie.spec Inv-loop μ-loop (λ c. search numberLaws) (λ c. search numberLaws) (λ c κs. search numberLaws) (λ c κs. search numberLaws) (λ c. search numberLaws) (λ c κs. search numberLaws) (λ c. search numberLaws) (λ c. search numberLaws) (λ c. search numberLaws) (λ c. search numberLaws) (λ c κs. search numberLaws) (λ c. search numberLaws))
+    (tie.spec Inv-loop μ-loop (λ c. search numberLaws) (λ c. search numberLaws) (λ c κs. search numberLaws) (λ c κs. search numberLaws) (λ c. search numberLaws)
+    (λ c κs. search numberLaws) (λ c. search numberLaws) (λ c. search numberLaws) (λ c. search numberLaws) (λ c. search numberLaws) (λ c κs. search numberLaws)
+    (λ c. search numberLaws))

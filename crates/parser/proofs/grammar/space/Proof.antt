@@ -17,4 +17,5 @@ abbrev μ-loop : tie.MeasureT-loop
 pub space-spec : {M : Type 1} → statement M
 space-spec =
     tie.close
-    (tie.spec Inv-loop μ-loop (λ c. search spaceLaws) (λ c. search spaceLaws) (λ c κs. search spaceLaws) (λ c. search spaceLaws) (λ c. search spaceLaws) (λ c. search spaceLaws) (λ c. search spaceLaws) (λ c. search spaceLaws))
+    (tie.spec Inv-loop μ-loop (λ c. search spaceLaws) (λ c. search spaceLaws) (λ c κs. search spaceLaws) (λ c. search spaceLaws) (λ c. search spaceLaws)
+    (λ c. search spaceLaws) (λ c. search spaceLaws) (λ c. search spaceLaws))

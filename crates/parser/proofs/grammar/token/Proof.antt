@@ -16,4 +16,5 @@ abbrev μ-loop : tie.MeasureT-loop
 pub token-spec : {M : Type 1} → statement M
 token-spec =
     tie.close
-    (tie.spec Inv-loop μ-loop (λ c. search tokenLaws) (λ c. search tokenLaws) (λ c. search tokenLaws) (λ c. search tokenLaws) (λ c. search tokenLaws) (λ c. search tokenLaws) (λ c. search tokenLaws) (λ c. search tokenLaws) (λ c. search tokenLaws) (λ c. search tokenLaws))
+    (tie.spec Inv-loop μ-loop (λ c. search tokenLaws) (λ c. search tokenLaws) (λ c. search tokenLaws) (λ c. search tokenLaws) (λ c. search tokenLaws)
+    (λ c. search tokenLaws) (λ c. search tokenLaws) (λ c. search tokenLaws) (λ c. search tokenLaws) (λ c. search tokenLaws))

@@ -16,4 +16,7 @@ abbrev μ-loop : tie.MeasureT-loop
 pub transitions-spec : {M : Type 1} → statement M
 transitions-spec =
     tie.close
-    (tie.spec Inv-loop μ-loop (λ c. search arrowsLoop) (λ c κs. search arrowsLoop) (λ c. search arrowsLoop) (λ c. search arrowsLoop) (λ c. search arrowsLoop) (λ c. search arrowsLoop) (λ c. arrows-next _ _ _ (c .before .before .before .spaced-transition .ensures) _ (c .before .before .before .before .loop .inv) _ _ (c .before .next .given .1)))
+    (tie.spec Inv-loop μ-loop (λ c. search arrowsLoop) (λ c κs. search arrowsLoop) (λ c. search arrowsLoop) (λ c. search arrowsLoop) (λ c. search arrowsLoop)
+    (λ c. search arrowsLoop)
+    (λ c. arrows-next _ _ _ (c .before .before .before .spaced-transition .ensures) _ (c .before .before .before .before .loop .inv) _ _
+    (c .before .next .given .1)))

@@ -6,4 +6,5 @@ use Rattle.parser.proofs.names.add.Tie as tie
 pub add-spec : {M : Type 1} → statement M
 add-spec =
     tie.close
-    (tie.spec (λ c. search addLaws) (λ c. table-counted _ _ (c .before .before .before .pre .0)) (λ c κs. search addLaws) (λ c. search addLaws) (λ c. search addLaws) (λ c. search addLaws) (λ c. search addLaws) (λ c κs. search addLaws) (λ c. search addLaws) (λ c. search addLaws) (λ c. search addLaws))
+    (tie.spec (λ c. search addLaws) (λ c. table-counted _ _ (c .before .before .before .pre .0)) (λ c κs. search addLaws) (λ c. search addLaws)
+    (λ c. search addLaws) (λ c. search addLaws) (λ c. search addLaws) (λ c κs. search addLaws) (λ c. search addLaws) (λ c. search addLaws) (λ c. search addLaws))

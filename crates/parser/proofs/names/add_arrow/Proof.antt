@@ -6,4 +6,5 @@ use Rattle.parser.proofs.names.add_arrow.Tie as tie
 pub add-arrow-spec : {M : Type 1} → statement M
 add-arrow-spec =
     tie.close
-    (tie.spec (λ c κs. search twoLaws) (λ c. search twoLaws) (λ c. search twoLaws) (λ c. search twoLaws) (λ c. search twoLaws) (λ c κs. search twoLaws) (λ c. search twoLaws) (λ c. search twoLaws))
+    (tie.spec (λ c κs. search twoLaws) (λ c. search twoLaws) (λ c. search twoLaws) (λ c. search twoLaws) (λ c. search twoLaws) (λ c κs. search twoLaws)
+    (λ c. search twoLaws) (λ c. search twoLaws))

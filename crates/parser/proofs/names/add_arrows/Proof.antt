@@ -18,4 +18,19 @@ abbrev μ-loop : tie.MeasureT-loop
 pub add-arrows-spec : {M : Type 1} → statement M
 add-arrows-spec =
     tie.close
-    (tie.spec Inv-loop μ-loop (λ c. search collectLaws) (λ c κs. search collectLaws) (λ c. search collectLaws) (λ c. search collectLaws) (λ c. search collectLaws) (λ c. search collectLaws) (λ c κs. search collectLaws) (λ c. search collectLaws) (λ c. search collectLaws) (λ c. search collectLaws) (λ c. collect-full _ _ _ (c .before .before .before .before .before .before .before .before .before .spaced-transition .ensures) _ _ _ (c .before .before .before .before .before .before .before .before .before .before .loop .inv .2) _ _ (c .before .before .before .before .before .before .before .e .given .1) _ _ (c .before .before .before .before .add-arrow .ensures) (c .enum-told2 .given .1)) (λ c. search collectLaws) (λ c. (search collectLaws, search collectLaws, collect-next _ _ _ (c .before .before .before .before .before .before .before .before .before .before .spaced-transition .ensures) _ _ _ (c .before .before .before .before .before .before .before .before .before .before .before .loop .inv .2) _ _ (c .before .before .before .before .before .before .before .before .e .given .1) _ _ (c .before .before .before .before .before .add-arrow .ensures) _ (c .before .more .given .1))))
+    (tie.spec Inv-loop μ-loop (λ c. search collectLaws) (λ c κs. search collectLaws) (λ c. search collectLaws) (λ c. search collectLaws)
+    (λ c. search collectLaws) (λ c. search collectLaws) (λ c κs. search collectLaws) (λ c. search collectLaws) (λ c. search collectLaws)
+    (λ c. search collectLaws)
+    (λ c. collect-full _ _ _ (c .before .before .before .before .before .before .before .before .before .spaced-transition .ensures) _ _ _
+    (c .before .before .before .before .before .before .before .before .before .before .loop .inv .2) _ _
+    (c .before .before .before .before .before .before .before .e .given .1) _ _ (c .before .before .before .before .add-arrow .ensures)
+    (c .enum-told2 .given .1)) (λ c. search collectLaws)
+    (λ c. (
+      search collectLaws,
+      search collectLaws,
+      collect-next _ _ _
+          (c .before .before .before .before .before .before .before .before .before .before .spaced-transition .ensures) _ _ _
+          (c .before .before .before .before .before .before .before .before .before .before .before .loop .inv .2) _ _
+          (c .before .before .before .before .before .before .before .before .e .given .1) _ _ (c .before .before .before .before .before .add-arrow .ensures) _
+          (c .before .more .given .1),
+    )))

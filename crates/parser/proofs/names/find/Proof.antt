@@ -18,4 +18,12 @@ abbrev μ-loop : tie.MeasureT-loop
 pub find-spec : {M : Type 1} → statement M
 find-spec =
     tie.close
-    (tie.spec Inv-loop μ-loop (λ c. search findLaws) (λ c κs. search findLaws) (λ c κs. search findLaws) (λ c. search findLaws) (λ c κs. search findLaws) (λ c. search findLaws) (λ c. search findLaws) (λ c. (search findLaws, search findLaws, find-next _ _ _ _ _ (c .before .before .before .before .before .loop .inv .1) (c .before .before .before .before .before .loop .inv .2) _ (c .before .before .before .label-from .ensures) _ (c .before .before .same-label .ensures) (c .before .before .before .before .loop-test .taken) (c .before .if1 .left) _ (c .next-label .ensures))) (λ c. search findLaws))
+    (tie.spec Inv-loop μ-loop (λ c. search findLaws) (λ c κs. search findLaws) (λ c κs. search findLaws) (λ c. search findLaws) (λ c κs. search findLaws)
+    (λ c. search findLaws) (λ c. search findLaws)
+    (λ c. (
+      search findLaws,
+      search findLaws,
+      find-next _ _ _ _ _ (c .before .before .before .before .before .loop .inv .1)
+          (c .before .before .before .before .before .loop .inv .2) _ (c .before .before .before .label-from .ensures) _ (c .before .before .same-label .ensures)
+          (c .before .before .before .before .loop-test .taken) (c .before .if1 .left) _ (c .next-label .ensures),
+    )) (λ c. search findLaws))

@@ -22,4 +22,38 @@ abbrev μ-loop : tie.MeasureT-loop
 pub add-records-spec : {M : Type 1} → statement M
 add-records-spec =
     tie.close
-    (tie.spec Inv-loop μ-loop (λ c. search recordLaws) (λ c κs. search recordLaws) (λ c. search recordLaws) (λ c. search recordLaws) (λ c. search recordLaws) (λ c. search recordLaws) (λ c κs. search recordLaws) (λ c. search recordLaws) (λ c. record-full _ _ _ (c .before .before .before .before .before .before .before .before .spaced-transition .ensures) _ _ _ _ (c .before .before .before .before .before .before .before .before .before .loop .inv .2) (c .before .before .before .before .before .before .before .before .before .loop .inv .3) _ _ (c .before .before .before .before .before .before .e .given .1) _ _ (omega (arith, c .before .before .before .before .before .before .before .before .before .loop .inv .0, c .before .before .before .before .before .before .before .before .before .loop .inv .1)) (c .before .before .before .add-record .ensures) (c .if1 .taken)) (λ c. search recordLaws) (λ c. (search recordLaws, search recordLaws, record-listed _ _ _ (c .before .before .before .before .before .before .before .before .spaced-transition .ensures) _ _ _ _ (c .before .before .before .before .before .before .before .before .before .loop .inv .2) (c .before .before .before .before .before .before .before .before .before .loop .inv .3) _ _ (c .before .before .before .before .before .before .e .given .1) _ _ (omega (arith, c .before .before .before .before .before .before .before .before .before .loop .inv .0, c .before .before .before .before .before .before .before .before .before .loop .inv .1)) (c .before .before .before .add-record .ensures), record-next _ _ _ (c .before .before .before .before .before .before .before .before .spaced-transition .ensures) _ _ _ _ (c .before .before .before .before .before .before .before .before .before .loop .inv .2) (c .before .before .before .before .before .before .before .before .before .loop .inv .3) _ _ (c .before .before .before .before .before .before .e .given .1) _ _ (omega (arith, c .before .before .before .before .before .before .before .before .before .loop .inv .0, c .before .before .before .before .before .before .before .before .before .loop .inv .1)) (c .before .before .before .add-record .ensures))))
+    (tie.spec Inv-loop μ-loop (λ c. search recordLaws) (λ c κs. search recordLaws) (λ c. search recordLaws) (λ c. search recordLaws) (λ c. search recordLaws)
+    (λ c. search recordLaws) (λ c κs. search recordLaws) (λ c. search recordLaws)
+    (λ c. record-full _ _ _ (c .before .before .before .before .before .before .before .before .spaced-transition .ensures) _ _ _ _
+    (c .before .before .before .before .before .before .before .before .before .loop .inv .2)
+    (c .before .before .before .before .before .before .before .before .before .loop .inv .3) _ _
+    (c .before .before .before .before .before .before .e .given .1) _ _ (omega (
+      arith,
+      c .before .before .before .before .before .before .before .before .before .loop .inv .0,
+      c .before .before .before .before .before .before .before
+          .before .before .loop .inv .1,
+    )) (c .before .before .before .add-record .ensures) (c .if1 .taken)) (λ c. search recordLaws)
+    (λ c. (
+      search recordLaws,
+      search recordLaws,
+      record-listed _ _ _
+          (c .before .before .before .before .before .before .before .before .spaced-transition .ensures) _ _ _ _
+          (c .before .before .before .before .before .before .before .before .before .loop .inv .2)
+          (c .before .before .before .before .before .before .before .before .before .loop .inv .3) _ _
+          (c .before .before .before .before .before .before .e .given .1) _ _ (omega (
+            arith,
+            c .before .before .before .before .before .before .before .before .before .loop .inv .0,
+            c .before .before .before .before .before .before .before
+                .before .before .loop .inv .1,
+          )) (c .before .before .before .add-record .ensures),
+      record-next _ _ _
+          (c .before .before .before .before .before .before .before .before .spaced-transition .ensures) _ _ _ _
+          (c .before .before .before .before .before .before .before .before .before .loop .inv .2)
+          (c .before .before .before .before .before .before .before .before .before .loop .inv .3) _ _
+          (c .before .before .before .before .before .before .e .given .1) _ _ (omega (
+            arith,
+            c .before .before .before .before .before .before .before .before .before .loop .inv .0,
+            c .before .before .before .before .before .before .before
+                .before .before .loop .inv .1,
+          )) (c .before .before .before .add-record .ensures),
+    )))

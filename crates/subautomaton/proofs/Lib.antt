@@ -1,0 +1,7 @@
+-- The laws of subautomata.
+pub mod Loops
+pub mod Numbering
+pub mod Matching
+pub mod Deciding
+pub mod Answers
+pub mod Theorems

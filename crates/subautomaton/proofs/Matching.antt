@@ -1,0 +1,137 @@
+-- The tests of one state and of one record, and the records of a run.
+use Prim.Native.Nat.{ℕ, _+_, _-_, _≤_, _<_}
+use mathlib.Core.Bool.{Bool, true, false}
+use mathlib.Core.List.{List, List·Memᴰ·head, List·Memᴰ·tail}
+use mathlib.Core.Path.{_≡_, sym, _∙_, ap, subst}
+use native.Mathlib.Omega.{arith}
+use borrow.Author.Needs.{needs}
+use borrow.Author.Tests.{eq-eqb, ne-eqb, le-leb, lt-leb}
+use lib.Dec.{ltb, leb}
+use lib.ListN.{length, getD, take, drop}
+use lib.Seq.{getD-take, getD-drop}
+use Rattle.lists.specs.Lists.{_∈_, any}
+use Rattle.lists.proofs.Lists.{keep-out}
+use Rattle.automata.specs.Automaton.{Transition, leaving}
+use Rattle.automata.specs.Records.{recordAt, readRecords, writeRecords}
+use Rattle.automata.proofs.Records.{records-at, part-record, read-write}
+use Rattle.sheets.specs.Accepted.{Accepted}
+use Rattle.sheets.specs.Runs.{RunAt}
+use Rattle.sheets.specs.Sheet.{stateCount, read}
+use Rattle.sheets.proofs.Meaning.{read-well}
+use Rattle.sheets.proofs.Runs.{run-at}
+use Rattle.subautomaton.specs.Inclusion.{states}
+use Rattle.subautomaton.specs.Tables.{isHeld, isHeldIn, fits, fitsFrom, fitsIn, Small, Ready}
+use Rattle.subautomaton.proofs.Loops.{some-begin, some-ended, some-found, some-next, each-begin, each-ended, each-failed, each-next, record-ended, record-found, record-next, records-ended, records-failed, records-next}
+
+-- the accept word of a state
+accept-word : (b : List ℕ) (q : ℕ) → q < stateCount b → getD b (q + 3) 0 ≡ getD (read b .accept) q 0
+accept-word b q h = let z : 3 + q ≡ q + 3 = omega arith in sym (getD-take (stateCount b) (drop 3 b) q 0 h ∙ getD-drop 3 b q 0 ∙ ap (λ (k : ℕ). getD b k 0) z)
+
+-- the state q of the sheet b
+module _ (b cb : List ℕ) (k a q : ℕ) where
+  pub held-other : (getD cb q 0 ≡ k → ⊥) → false ≡ isHeld (read b) cb k a q
+  unfolding isHeld
+  held-other h = sym (rw (ne-eqb _ _ h))
+
+  pub held-any : getD cb q 0 ≡ k → a ≡ 0 → true ≡ isHeld (read b) cb k a q
+  unfolding isHeld
+  held-any h g = sym (rw (eq-eqb _ _ h, eq-eqb _ _ g))
+
+  pub held-accepting : getD cb q 0 ≡ k → (a ≡ 0 → ⊥) → q < stateCount b → ltb 0 (getD b (q + 3) 0) ≡ isHeld (read b) cb k a q
+  unfolding isHeld
+  held-accepting h g i = sym (rw (eq-eqb _ _ h, ne-eqb _ _ g) (ap (ltb 0) (sym (accept-word b q i))))
+
+-- a state is within the table, and its accept word within the sheet
+pub state-small : (b : List ℕ) (q : ℕ) → Accepted b → q < stateCount b → q < 256
+state-small b q a h = omega (arith, a .few-states)
+
+pub accept-inside : (b : List ℕ) (q : ℕ) → Accepted b → q < stateCount b → q + 3 < length b
+accept-inside b q a h = omega (arith, a .whole)
+
+pub ruleset heldLaws = (held-other, held-any, held-accepting, state-small, accept-inside, needs)
+
+pub ruleset hasLaws = (some-begin, some-ended, some-found, some-next, needs)
+
+-- each state of the first sheet
+pub held-in : (a b ca cb : List ℕ) (p : ℕ) (r : Bool) → p < stateCount a → r ≡ any (isHeld (read b) cb (getD ca p 0) (getD a (p + 3) 0)) (states (stateCount b)) → r ≡ isHeldIn (read a) (read b) ca cb p
+unfolding isHeldIn
+held-in a b ca cb p r h e = e ∙ ap (λ (x : ℕ). any (isHeld (read b) cb (getD ca p 0) x) (states (stateCount b))) (accept-word a p h)
+
+pub ruleset statesLaws = (each-begin, each-ended, each-failed, each-next, held-in, state-small, accept-inside, needs)
+
+-- two records
+module _ (d e cb : List ℕ) (to : ℕ) where
+  pub fits-other : (getD cb (getD e 4 0) 0 ≡ to → ⊥) → false ≡ fits cb to (recordAt d 0) (recordAt e 0)
+  unfolding fits
+  fits-other h = sym (rw (ne-eqb _ _ h))
+
+  module _ (h : getD cb (getD e 4 0) 0 ≡ to) where
+    pub fits-kind : (getD e 1 0 ≡ getD d 1 0 → ⊥) → false ≡ fits cb to (recordAt d 0) (recordAt e 0)
+    unfolding fits
+    fits-kind k = sym (rw (eq-eqb _ _ h, ne-eqb _ _ k))
+
+    module _ (k : getD e 1 0 ≡ getD d 1 0) where
+      pub fits-first : getD d 2 0 < getD e 2 0 → false ≡ fits cb to (recordAt d 0) (recordAt e 0)
+      unfolding fits
+      fits-first f = sym (rw (eq-eqb _ _ h, eq-eqb _ _ k, lt-leb _ _ f))
+
+      pub fits-last : getD e 2 0 ≤ getD d 2 0 → leb (getD d 3 0) (getD e 3 0) ≡ fits cb to (recordAt d 0) (recordAt e 0)
+      unfolding fits
+      fits-last f = sym (rw (eq-eqb _ _ h, eq-eqb _ _ k, le-leb _ _ f))
+
+pub ruleset fitsLaws = (fits-other, fits-kind, fits-first, fits-last, needs)
+
+-- the record at a place, and the rest
+module _ (t : List ℕ) (at : ℕ) (s : Small (readRecords (drop at t))) (h : 5 ≤ length t - at) where
+  first-in : recordAt (take (at + 5 - at) (drop at t)) 0 ∈ readRecords (drop at t)
+  first-in = subst (λ (es : List Transition). recordAt (take (at + 5 - at) (drop at t)) 0 ∈ es) (sym (records-at t at h)) (List·Memᴰ·head (part-record t at))
+
+  pub small-from : recordAt (take (at + 5 - at) (drop at t)) 0 .from < 256
+  small-from = s .froms _ first-in
+
+  pub small-to : recordAt (take (at + 5 - at) (drop at t)) 0 .to < 256
+  small-to = s .tos _ first-in
+
+  pub small-next : Small (readRecords (drop (at + 5) t))
+  small-next =
+      let r = rw (records-at t at h) at s in
+      record { froms = λ e m. r .froms e (List·Memᴰ·tail m); tos = λ e m. r .tos e (List·Memᴰ·tail m) }
+
+pub ruleset runLaws = (record-ended, record-found, record-next, small-to, small-next, needs)
+
+pub ruleset recordsLaws = (records-ended, records-failed, records-next, small-from, small-to, small-next, needs)
+
+-- the run of a state
+module _ (b starts : List ℕ) (q : ℕ) (r : Ready b starts) (h : q < stateCount b) where
+  pub run-ready : RunAt b starts q
+  run-ready = run-at b (r .accepted) starts q (r .indexed) h
+
+  pub run-small : (t : List ℕ) → t ≡ writeRecords (leaving (read b) q) → Small (readRecords t)
+  unfolding leaving
+  run-small t e =
+      let w = read-well b (r .accepted) .states in
+      let z : readRecords t ≡ leaving (read b) q = ap readRecords e ∙ read-write _ in
+      subst Small (sym z) (record {
+        froms = λ d m. omega (arith, w .froms d (keep-out _ d _ m .0), r .accepted .few-states);
+        tos = λ d m. omega (arith, w .tos d (keep-out _ d _ m .0), r .accepted .few-states);
+      })
+
+module _ (b cb : List ℕ) (from to : ℕ) (d : Transition) (q : ℕ) where
+  pub from-other : (getD cb q 0 ≡ from → ⊥) → false ≡ fitsFrom (read b) cb from to d q
+  unfolding fitsFrom
+  from-other h = sym (rw (ne-eqb _ _ h))
+
+  pub from-run : getD cb q 0 ≡ from → (t : List ℕ) (r : Bool) → t ≡ writeRecords (leaving (read b) q) → r ≡ any (fits cb to d) (readRecords t) → r ≡ fitsFrom (read b) cb from to d q
+  unfolding fitsFrom
+  from-run h t r e g =
+      let z : readRecords t ≡ leaving (read b) q = ap readRecords e ∙ read-write _ in
+      g ∙ ap (any (fits cb to d)) z ∙ sym (rw (eq-eqb _ _ h))
+
+-- some state
+pub fits-in : (b ca cb d : List ℕ) (x : Bool) → x ≡ any (fitsFrom (read b) cb (getD ca (getD d 0 0) 0) (getD ca (getD d 4 0) 0) (recordAt d 0)) (states (stateCount b)) → x ≡ fitsIn (read b) ca cb (recordAt d 0)
+unfolding fitsIn
+fits-in b ca cb d x e = e
+
+pub ruleset inLaws = (some-begin, some-ended, some-found, some-next, fits-in, needs)
+
+pub ruleset fromLaws = (run-ready, run-small, from-other, from-run, needs)

@@ -1,0 +1,24 @@
+-- `are_covered` meets its contract: the records at `at` on are left.
+use Prim.Native.Nat.{_-_, _≤_}
+use mathlib.Core.Path.{_≡_}
+use lib.ListN.{length, drop}
+use Rattle.automata.specs.Records.{readRecords}
+use Rattle.sheets.specs.Sheet.{read}
+use Rattle.subautomaton.specs.Inclusion.{all}
+use Rattle.subautomaton.specs.Tables.{fitsIn, Small}
+use Rattle.subautomaton.proofs.Matching.{recordsLaws}
+use Rattle.subautomaton.proofs.are_covered.Statement.{statement}
+use Rattle.subautomaton.proofs.are_covered.Tie as tie
+
+abbrev Inv-loop : tie.InvT-loop
+Inv-loop records b starts ca cb at₀ at = (at ≤ length records) × Small (readRecords (drop at records)) × (all (fitsIn (read b) ca cb) (readRecords records) ≡ all (fitsIn (read b) ca cb) (readRecords (drop at records)))
+
+abbrev μ-loop : tie.MeasureT-loop
+μ-loop records b starts ca cb at₀ at = length records - at
+
+pub are-covered-spec : {M : Type 1} → statement M
+are-covered-spec =
+    tie.close
+    (tie.spec Inv-loop μ-loop (λ c. search recordsLaws) (λ c. search recordsLaws) (λ c. search recordsLaws) (λ c. search recordsLaws)
+    (λ c. search recordsLaws) (λ c. search recordsLaws) (λ c. search recordsLaws) (λ c κs. search recordsLaws) (λ c. search recordsLaws)
+    (λ c. search recordsLaws) (λ c. search recordsLaws) (λ c. search recordsLaws) (λ c. search recordsLaws))

@@ -1,0 +1,22 @@
+-- `find_label` meets its contract: the labels before `k` are others.
+use Prim.Native.Nat.{_+_, _-_, _≤_}
+use mathlib.Core.Path.{_≡_}
+use lib.ListN.{drop}
+use Rattle.labels.specs.Labels.{labelPlace, readLabels, sameLabel}
+use Rattle.search.specs.Search.{index}
+use Rattle.subautomaton.proofs.Numbering.{findLaws}
+use Rattle.subautomaton.proofs.find_label.Statement.{statement}
+use Rattle.subautomaton.proofs.find_label.Tie as tie
+
+abbrev Inv-loop : tie.InvT-loop
+Inv-loop b n x at₀ k₀ at k = (k ≤ n) × (at ≡ labelPlace b k) × (index sameLabel x (readLabels b) ≡ k + index sameLabel x (drop k (readLabels b)))
+
+abbrev μ-loop : tie.MeasureT-loop
+μ-loop b n x at₀ k₀ at k = n - k
+
+pub find-label-spec : {M : Type 1} → statement M
+find-label-spec =
+    tie.close
+    (tie.spec Inv-loop μ-loop (λ c. search findLaws) (λ c κs. search findLaws) (λ c κs. search findLaws) (λ c. search findLaws)
+    (λ c κs. search findLaws) (λ c. search findLaws) (λ c. search findLaws) (λ c. (search findLaws, search findLaws, search findLaws))
+    (λ c. search findLaws))

@@ -1,0 +1,244 @@
+// Whether an automaton is a subautomaton of another, by the labels of their states. Labels are compared once for each pair of states; then each
+// state has the number of the first equal label of the second automaton, and a transition is sought only in the runs of states of its number.
+ghost use mathlib.Core.Path.{_≡_};
+ghost use Prim.Native.Nat.{_≤_, _<_};
+ghost use lib.ListN.{length};
+ghost use Rattle.lists.specs.Lists.{any};
+ghost use Rattle.automata.specs.Records.{recordAt, readRecords};
+ghost use Rattle.labels.specs.Labels.{sameLabel, labelsFault, readLabels};
+ghost use Rattle.search.specs.Search.{index};
+ghost use Rattle.sheets.specs.Accepted.{Accepted};
+ghost use Rattle.sheets.specs.Sheet.{stateCount, read};
+ghost use Rattle.subautomaton.specs.Inclusion.{all, states, isSubautomaton};
+ghost use Rattle.subautomaton.specs.Tables.{Numbered, isHeld, isHeldIn, fits, fitsFrom, fitsIn, Small, Ready, Inputs, Tabled};
+ghost use Rattle.subautomaton.specs.Answer.{patternOf, subautomatonAnswer, answerOf};
+use refusal::InputRefusal;
+
+// The answer of `is_subautomaton`.
+pub enum Subautomaton {
+    Is(bool),
+    Refused(InputRefusal),
+}
+
+// The number of the first of the n labels of b that is x, or n.
+fn find_label(b: &[u8], n: usize, x: &[u8]) -> usize
+    requires { ⌜ labelsFault n (now b) ≡ 0 ⌝ }
+    ensures { λ r. ⌜ (r ≡ index sameLabel (now (x .entry)) (readLabels (now (b .entry)))) × (r ≤ n) ⌝ }
+{
+    let mut at: usize = 2;
+    let mut k: usize = 0;
+    while k < n {
+        if labels::same_label(x, labels::label_from(b, at)) {
+            return k;
+        }
+        at = labels::next_label(b, at);
+        k += 1;
+    }
+    k
+}
+
+// The numbers of the m labels of x among the n labels of b.
+fn number_labels(x: &[u8], m: usize, b: &[u8], n: usize, out: &mut [u32])
+    requires { ⌜ (labelsFault m (now x) ≡ 0) × (labelsFault n (now b) ≡ 0) × (m ≤ 256) × (n ≤ 256) × (length (now out) ≡ 256) ⌝ }
+    ensures { λ u. ⌜ Numbered m (readLabels (now (x .entry))) (readLabels (now (b .entry))) (now (out .exit)) ⌝ }
+{
+    let mut at: usize = 2;
+    let mut i: usize = 0;
+    while i < m {
+        out[i] = find_label(b, n, labels::label_from(x, at)) as u32;
+        at = labels::next_label(x, at);
+        i += 1;
+    }
+}
+
+// Whether the state q has the number k, and accepts unless accept is 0.
+fn is_held(b: &[u32], cb: &[u32], k: u32, accept: u32, q: usize) -> bool
+    requires { ⌜ Accepted (now b) × (length (now cb) ≡ 256) × (q < stateCount (now b)) ⌝ }
+    ensures { λ r. ⌜ r ≡ isHeld (read (now (b .entry))) (now (cb .entry)) k accept q ⌝ }
+{
+    if cb[q] != k {
+        return false;
+    }
+    if accept == 0 {
+        return true;
+    }
+    0 < b[q + 3]
+}
+
+// Whether some state is held so.
+fn has_state(b: &[u32], cb: &[u32], k: u32, accept: u32) -> bool
+    requires { ⌜ Accepted (now b) × (length (now cb) ≡ 256) ⌝ }
+    ensures { λ r. ⌜ r ≡ any (isHeld (read (now (b .entry))) (now (cb .entry)) k accept) (states (stateCount (now (b .entry)))) ⌝ }
+{
+    let n = b[2] as usize;
+    let mut q: usize = 0;
+    while q < n {
+        if is_held(b, cb, k, accept, q) {
+            return true;
+        }
+        q += 1;
+    }
+    false
+}
+
+// Whether each state of a is one of b.
+fn has_states(a: &[u32], b: &[u32], ca: &[u32], cb: &[u32]) -> bool
+    requires { ⌜ Accepted (now a) × Accepted (now b) × (length (now ca) ≡ 256) × (length (now cb) ≡ 256) ⌝ }
+    ensures { λ r. ⌜ r ≡ all (isHeldIn (read (now (a .entry))) (read (now (b .entry))) (now (ca .entry)) (now (cb .entry))) (states (stateCount (now (a .entry)))) ⌝ }
+{
+    let n = a[2] as usize;
+    let mut p: usize = 0;
+    while p < n {
+        if !has_state(b, cb, ca[p], a[p + 3]) {
+            return false;
+        }
+        p += 1;
+    }
+    true
+}
+
+// Whether the record e leads to a state with the number to, and its kind and range cover those of d.
+fn covers(d: &[u32], e: &[u32], cb: &[u32], to: u32) -> bool
+    requires { ⌜ (length (now d) ≡ 5) × (length (now e) ≡ 5) × (length (now cb) ≡ 256) × (recordAt (now e) 0 .to < 256) ⌝ }
+    ensures { λ r. ⌜ r ≡ fits (now (cb .entry)) to (recordAt (now (d .entry)) 0) (recordAt (now (e .entry)) 0) ⌝ }
+{
+    if cb[e[4] as usize] != to {
+        return false;
+    }
+    if e[1] != d[1] {
+        return false;
+    }
+    if d[2] < e[2] {
+        return false;
+    }
+    d[3] <= e[3]
+}
+
+// Whether some record of the run covers d.
+fn run_covers(d: &[u32], run: &[u32], cb: &[u32], to: u32) -> bool
+    requires { ⌜ (length (now d) ≡ 5) × (length (now cb) ≡ 256) × Small (readRecords (now run)) ⌝ }
+    ensures { λ r. ⌜ r ≡ any (fits (now (cb .entry)) to (recordAt (now (d .entry)) 0)) (readRecords (now (run .entry))) ⌝ }
+{
+    let mut at: usize = 0;
+    while 5 <= run.len() - at {
+        if covers(d, &run[at..at + 5], cb, to) {
+            return true;
+        }
+        at += 5;
+    }
+    false
+}
+
+// Whether the state q has the number from and a record that covers d.
+fn state_covers(
+    d: &[u32],
+    b: &[u32],
+    starts: &[u32],
+    cb: &[u32],
+    from: u32,
+    to: u32,
+    q: u32,
+) -> bool
+    requires { ⌜ (length (now d) ≡ 5) × Ready (now b) (now starts) × (length (now cb) ≡ 256) × (q < stateCount (now b)) ⌝ }
+    ensures { λ r. ⌜ r ≡ fitsFrom (read (now (b .entry))) (now (cb .entry)) from to (recordAt (now (d .entry)) 0) q ⌝ }
+{
+    if cb[q as usize] != from {
+        return false;
+    }
+    run_covers(d, sheets::run(b, starts, q), cb, to)
+}
+
+// Whether some state does so for the record d of a.
+fn is_covered(d: &[u32], b: &[u32], starts: &[u32], ca: &[u32], cb: &[u32]) -> bool
+    requires { ⌜ (length (now d) ≡ 5) × Ready (now b) (now starts) × (length (now ca) ≡ 256) × (length (now cb) ≡ 256) × (recordAt (now d) 0 .from < 256) × (recordAt (now d) 0 .to < 256) ⌝ }
+    ensures { λ r. ⌜ r ≡ fitsIn (read (now (b .entry))) (now (ca .entry)) (now (cb .entry)) (recordAt (now (d .entry)) 0) ⌝ }
+{
+    let from = ca[d[0] as usize];
+    let to = ca[d[4] as usize];
+    let n = b[2];
+    let mut q: u32 = 0;
+    while q < n {
+        if state_covers(d, b, starts, cb, from, to, q) {
+            return true;
+        }
+        q += 1;
+    }
+    false
+}
+
+// Whether each of the records is covered.
+fn are_covered(records: &[u32], b: &[u32], starts: &[u32], ca: &[u32], cb: &[u32]) -> bool
+    requires { ⌜ Small (readRecords (now records)) × Ready (now b) (now starts) × (length (now ca) ≡ 256) × (length (now cb) ≡ 256) ⌝ }
+    ensures { λ r. ⌜ r ≡ all (fitsIn (read (now (b .entry))) (now (ca .entry)) (now (cb .entry))) (readRecords (now (records .entry))) ⌝ }
+{
+    let mut at: usize = 0;
+    while 5 <= records.len() - at {
+        if !is_covered(&records[at..at + 5], b, starts, ca, cb) {
+            return false;
+        }
+        at += 5;
+    }
+    true
+}
+
+// The answer for two accepted sheets whose tables are made.
+fn decide(
+    a: &[u32],
+    b: &[u32],
+    starts: &[u32],
+    ca: &[u32],
+    cb: &[u32],
+    al: &[u8],
+    bl: &[u8],
+) -> bool
+    requires { ⌜ Tabled (now a) (now al) (now b) (now bl) (now starts) (now ca) (now cb) ⌝ }
+    ensures { λ r. ⌜ r ≡ isSubautomaton (patternOf (now (a .entry)) (now (al .entry))) (patternOf (now (b .entry)) (now (bl .entry))) ⌝ }
+{
+    if !has_states(a, b, ca, cb) {
+        return false;
+    }
+    if ca[a[1] as usize] != cb[b[1] as usize] {
+        return false;
+    }
+    let base = a[2] as usize + 4;
+    are_covered(&a[base..], b, starts, ca, cb)
+}
+
+// The answer for two accepted sheets with their labels.
+fn compare(a: &[u32], al: &[u8], b: &[u32], bl: &[u8]) -> bool
+    requires { ⌜ Inputs (now a) (now al) (now b) (now bl) ⌝ }
+    ensures { λ r. ⌜ r ≡ isSubautomaton (patternOf (now (a .entry)) (now (al .entry))) (patternOf (now (b .entry)) (now (bl .entry))) ⌝ }
+{
+    let n = a[2] as usize;
+    let m = b[2] as usize;
+    let mut starts = [0u32; 257];
+    let mut ca = [0u32; 256];
+    let mut cb = [0u32; 256];
+    sheets::run_starts(b, &mut starts);
+    number_labels(al, n, bl, m, &mut ca);
+    number_labels(bl, m, bl, m, &mut cb);
+    decide(a, b, &starts, &ca, &cb, al, bl)
+}
+
+// Whether the automaton of a and a_labels is a subautomaton of that of b and b_labels.
+pub fn is_subautomaton(a: &[u32], a_labels: &[u8], b: &[u32], b_labels: &[u8]) -> Subautomaton
+    ensures { λ r. ⌜ answerOf r ≡ subautomatonAnswer (now (a .entry)) (now («a_labels» .entry)) (now (b .entry)) (now («b_labels» .entry)) ⌝ }
+{
+    match sheets::check(a) {
+        sheets::Checked::Accepted => {}
+        sheets::Checked::Refused(r) => return Subautomaton::Refused(r),
+    }
+    match sheets::check(b) {
+        sheets::Checked::Accepted => {}
+        sheets::Checked::Refused(r) => return Subautomaton::Refused(r),
+    }
+    match labels::check(a[2] as usize, a_labels) {
+        labels::Checked::Accepted => {}
+        labels::Checked::Refused(r) => return Subautomaton::Refused(r),
+    }
+    match labels::check(b[2] as usize, b_labels) {
+        labels::Checked::Accepted => {}
+        labels::Checked::Refused(r) => return Subautomaton::Refused(r),
+    }
+    Subautomaton::Is(compare(a, a_labels, b, b_labels))
+}

@@ -1,0 +1,7 @@
+-- The laws of the line.
+pub mod Printing
+pub mod Reading
+pub mod Judging
+pub mod Theorems
+pub mod Samples
+pub mod SampleSame

@@ -1,0 +1,60 @@
+-- What a line says of the words of two texts' automata (demand 3).
+use Prim.Native.Nat.{ℕ, _+_, _≤_}
+use mathlib.Core.List.{List}
+use mathlib.Core.Logic.{_↔_}
+use mathlib.Core.Path.{_≡_, refl, _∙_, ap, subst}
+use native.Mathlib.Omega.{arith}
+use borrow.Author.Tests.{le-ltb}
+use lib.ListN.{length, drop}
+use Rattle.automata.specs.Automaton.{Automaton, Word}
+use Rattle.automata.specs.WellFormed.{WellFormed}
+use Rattle.refusal.specs.Answer.{Answer, given}
+use Rattle.determinize.specs.Determinize.{determinize}
+use Rattle.parser.specs.Grammar.{found, mark}
+use Rattle.parser.specs.Pattern.{Reading, parse}
+use Rattle.parser.proofs.Output.{parse-right}
+use Rattle.equality.specs.Forced.{Two, states}
+use Rattle.equality.specs.Verdict.{Equal, Apart}
+use Rattle.equality.specs.Equality.{withFirst, withSecond, determinized, SameWords, ExactlyOne}
+use Rattle.equality.proofs.Theorems.{same-words, one-word, not-same}
+use Rattle.verdict_line.specs.Texts.{twoTexts, withFirstText, withSecondText, onTexts, comparedTexts}
+use Rattle.verdict_line.specs.Line.{Line, refuses, same, differs, sameLine, differLine}
+
+-- a line on the automata A and B, whose determinizations have `most` states together: `same` just when they accept the same words, and else
+-- `differ` with a short word that exactly one of them accepts
+pub record Says (low high : ℕ) (A B : Automaton) (most : ℕ) (bytes : List ℕ) : Type 0 where
+  pub alike : ((joins : ℕ) × (bytes ≡ sameLine joins)) ↔ SameWords low high A B
+  pub different : (SameWords low high A B → ⊥) → (w : List ℕ) × (bytes ≡ differLine w) × Word low high w × ExactlyOne A B w × (length w + 2 ≤ most)
+
+module _ (low high : ℕ) (A B : Automaton) (well-a : WellFormed A) (well-b : WellFormed B) (D E : Automaton) (is-d : determinize low high A ≡ given D) (is-e : determinize low high B ≡ given E) where
+  abbrev two : Two
+  two = record { one = D; two = E; low = low; high = high }
+
+  says-same : (joins : ℕ) → Equal two joins → Says low high A B (states two) (sameLine joins)
+  says-same joins e =
+      let s = same-words low high A B well-a well-b D E is-d is-e (e .words) in
+      record { alike = (λ _. s, λ _. (joins, refl)); different = λ n. absurd (n s) }
+
+  says-differ : (w : List ℕ) → Apart two w → Says low high A B (states two) (differLine w)
+  says-differ w a =
+      let one = one-word low high A B well-a well-b D E is-d is-e w (a .word) (a .differ) in
+      record {
+        alike = (λ e. absurd (let q = e .1 in let z : _≡_ {A = ℕ} 100 115 = cc in omega arith), λ s. absurd (not-same low high A B well-a well-b D E is-d is-e w one (a .word) s));
+        different = λ n. (w, refl, a .word, one, a .short);
+      }
+
+  line-says : (x : Answer Two) (bytes : List ℕ) → x ≡ given two → Line x bytes → Says low high A B (states two) bytes
+  line-says x bytes e (refuses n) = absurd (let z : _≡_ {A = ℕ} 0 1 = cc in omega arith)
+  line-says x bytes e (same t joins h) = let z : t ≡ two = cc in says-same joins (subst (λ (u : Two). Equal u joins) z h)
+  line-says x bytes e (differs t w h) = let z : t ≡ two = cc in says-differ w (subst (λ (u : Two). Apart u w) z h)
+
+-- an input of two texts that are read as the automata A and B, both within the limits of determinizing
+module _ (low high : ℕ) (t : List ℕ) (at : ℕ) (few : length t ≤ 65536) (texts : twoTexts t ≡ found mark at) (R S : Reading) (first : parse t ≡ given R) (second : parse (drop at t) ≡ given S)
+    (D E : Automaton) (is-d : determinize low high (R .pattern .automaton) ≡ given D) (is-e : determinize low high (S .pattern .automaton) ≡ given E) where
+  is-two : comparedTexts low high t ≡ given (record { one = D; two = E; low = low; high = high })
+  unfolding comparedTexts withFirstText withSecondText determinized withFirst withSecond
+  is-two = rw (le-ltb 65536 (length t) few) (ap (onTexts low high t) texts ∙ rw (first, second, is-d, is-e))
+
+  pub verdict-says : (bytes : List ℕ) → Line (comparedTexts low high t) bytes → Says low high (R .pattern .automaton) (S .pattern .automaton) (D .size + E .size) bytes
+  verdict-says bytes l =
+      line-says low high (R .pattern .automaton) (S .pattern .automaton) (parse-right t R first .well) (parse-right (drop at t) S second .well) D E is-d is-e _ bytes is-two l

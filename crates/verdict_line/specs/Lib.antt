@@ -1,0 +1,4 @@
+-- The line that the program `verdict` prints: the two texts, their automata, and the bytes.
+pub mod Texts
+pub mod Line
+pub mod Code
