@@ -15,6 +15,7 @@
 // compare --emit is_nfa --seed 1 --count 200
 // compare --emit nonempty --seed 1 --count 200
 // compare --emit is_equivalent --seed 1 --count 200
+// compare --emit is_subautomaton --seed 1 --count 200
 // compare --emit parse --seed 1 --count 200
 // compare --emit equality --seed 1 --count 200
 ghost use mathlib.Core.Path.{_≡_};
@@ -45,6 +46,7 @@ enum Kind {
     IsNfa,
     Nonempty,
     IsEquivalent,
+    IsSubautomaton,
     Parse,
     Equality,
 }
@@ -66,6 +68,7 @@ fn agrees(kind: Kind, case: &[u32]) -> bool {
         Kind::IsNfa => questions::nfa(case),
         Kind::Nonempty => questions::nonempty(case),
         Kind::IsEquivalent => questions::equivalent(case),
+        Kind::IsSubautomaton => questions::subautomaton(case),
         Kind::Parse => operations::parsed(case),
         Kind::Equality => verdicts::compared(case),
     }
@@ -122,6 +125,7 @@ fn main() {
     replay_file(Kind::IsNfa, b"is_nfa");
     replay_file(Kind::Nonempty, b"nonempty");
     replay_file(Kind::IsEquivalent, b"is_equivalent");
+    replay_file(Kind::IsSubautomaton, b"is_subautomaton");
     replay_file(Kind::Parse, b"parse");
     replay_file(Kind::Equality, b"equality");
 }

@@ -1,4 +1,4 @@
-// Cases of questions: one sheet or two, and 1 for yes, 0 for no.
+// Cases of questions: one sheet or two, with labels or without, and 1 for yes, 0 for no.
 use refusal::Decision;
 
 // Whether the answer stands last in a case, at the place at. Refusals have no cases.
@@ -39,5 +39,31 @@ pub fn equivalent(case: &[u32]) -> bool {
         case,
         second + 1 + b.len(),
         equivalence::is_equivalent(a, b),
+    )
+}
+
+// The first sheet and its labels, the second and its labels, then whether the first is a subautomaton of the second.
+pub fn subautomaton(case: &[u32]) -> bool {
+    let a = replay::list(case, 0);
+    let second = 1 + a.len();
+    let al = replay::list(case, second);
+    let third = second + 1 + al.len();
+    let b = replay::list(case, third);
+    let fourth = third + 1 + b.len();
+    let bl = replay::list(case, fourth);
+    let mut a_labels = [0u8; 1024];
+    let mut b_labels = [0u8; 1024];
+    let k = replay::bytes(al, &mut a_labels);
+    if k != al.len() {
+        return false;
+    }
+    let l = replay::bytes(bl, &mut b_labels);
+    if l != bl.len() {
+        return false;
+    }
+    answered(
+        case,
+        fourth + 1 + l,
+        subautomaton::is_subautomaton(a, &a_labels[..k], b, &b_labels[..l]),
     )
 }

@@ -16,6 +16,7 @@ ghost use Rattle.parser.specs.Pattern.{parse};
 ghost use Rattle.product.specs.Product.{intersection};
 ghost use Rattle.refusal.specs.Decision.{decisionOf};
 ghost use Rattle.ringmatch.specs.Reply.{reply, replyBit, replied, built, buildReply, read, readReply, told, tellVerdict, Told};
+ghost use Rattle.subautomaton.specs.Answer.{subautomatonAnswer};
 ghost use Rattle.totality.specs.Answers.{isNfaAnswer, totalizeAnswer, complementAnswer};
 ghost use Rattle.words.specs.Acceptance.{acceptsWords, acceptsText, answerOf};
 use equality::Verdict;
@@ -212,6 +213,24 @@ pub extern "C" fn ringmatch_is_equivalent(a: &[u32], b: &[u32], answer: &mut u32
     ensures { λ code. ⌜ replied code (now (answer .exit)) ≡ replyBit (now (answer .entry)) (equivalentAnswer (now (a .entry)) (now (b .entry))) ⌝ }
 {
     reply_decision(equivalence::is_equivalent(a, b), answer)
+}
+
+// Whether the states, accepting states and start of a are those of b by their labels, and each transition of a is covered by one of b between
+// equal labels: answer is 1 if so, else 0. Refusals: 1 to 6 of a, then of b, 10 of a_labels, then of b_labels.
+#[no_mangle]
+pub extern "C" fn ringmatch_is_subautomaton(
+    a: &[u32],
+    a_labels: &[u8],
+    b: &[u32],
+    b_labels: &[u8],
+    answer: &mut u32,
+) -> u32
+    ensures { λ code. ⌜ replied code (now (answer .exit)) ≡ replyBit (now (answer .entry)) (subautomatonAnswer (now (a .entry)) (now («a_labels» .entry)) (now (b .entry)) (now («b_labels» .entry))) ⌝ }
+{
+    reply_decision(
+        subautomaton::is_subautomaton(a, a_labels, b, b_labels),
+        answer,
+    )
 }
 
 // The product of two sheets and its labels `(0, 1)`. Outputs as for `ringmatch_determinize`. Refusals: 20, 1 to 6 of a, then of b, 21, 7, 22.

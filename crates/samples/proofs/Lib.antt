@@ -4,4 +4,5 @@ pub mod Overlap
 pub mod Single
 pub mod Three
 pub mod Verdicts
+pub mod Lines
 pub mod Starred

@@ -17,7 +17,7 @@ use Rattle.samples.proofs.Patterns.{A, B, C, DA, DB, DC, determinized, 
 use Rattle.samples.proofs.Single.{a-single, b-single, c-single}
 use Rattle.samples.proofs.Three.{both, three}
 
-same-ab : SameWords 0 lastSymbol (read A) (read B)
+pub same-ab : SameWords 0 lastSymbol (read A) (read B)
 same-ab w v = (λ h. b-single w .1 (a-single w .0 h), λ h. a-single w .1 (b-single w .0 h))
 
 -- 7 states in 3 classes: 4 joins
@@ -31,7 +31,7 @@ same-4 o o′ r room judged =
     is ∙ ap Same four
 
 -- the one word that tells A and C apart
-only-nine : (w : List ℕ) → ExactlyOne (read A) (read C) w → w ≡ 9 ∷ []
+pub only-nine : (w : List ℕ) → ExactlyOne (read A) (read C) w → w ≡ 9 ∷ []
 only-nine w (inl h) =
     let (x, e, l) = a-single w .0 (h .0) in
     let above : x ≤ 8 → ⊥ = λ k. h .1 (c-single w .1 (x, e, k)) in
@@ -41,7 +41,7 @@ only-nine w (inl h) =
     nine x l n = omega (arith, n)
 only-nine w (inr h) = let (x, e, l) = c-single w .0 (h .1) in absurd (h .0 (a-single w .1 (x, e, omega arith)))
 
-differ-ac : SameWords 0 lastSymbol (read A) (read C) → ⊥
+pub differ-ac : SameWords 0 lastSymbol (read A) (read C) → ⊥
 differ-ac s =
     let (x, e, l) = c-single (9 ∷ []) .0 (s (9 ∷ []) (more (lit≤ tt) (lit≤ tt) none) .0 (a-single (9 ∷ []) .1 (9, refl, lit≤ tt))) in
     let nine : 9 ≡ x = head-eq-of-cons-eq e in

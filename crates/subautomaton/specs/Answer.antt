@@ -4,13 +4,10 @@ use mathlib.Core.Bool.{Bool}
 use mathlib.Core.List.{List}
 use Rattle.labels.specs.Labels.{readLabels}
 use Rattle.output.specs.Output.{Pattern, labelsFirst}
-use Rattle.refusal.specs.Answer.{Answer, refused, given}
-use Rattle.refusal.specs.Number.{inputNumber}
+use Rattle.refusal.specs.Answer.{Answer, given}
 use Rattle.sheets.specs.Checked.{sheetFirst}
 use Rattle.sheets.specs.Sheet.{stateCount, read}
 use Rattle.subautomaton.specs.Inclusion.{isSubautomaton}
-use Rattle.subautomaton.specs.declared.Subautomaton.{Subautomaton}
-use Rattle.subautomaton.specs.declared.Subautomaton.the-variants.{Is, Refused}
 
 -- a sheet with its label list
 abbrev pub patternOf : List ℕ → List ℕ → Pattern
@@ -19,8 +16,3 @@ patternOf s l = record { automaton = read s; labels = readLabels l }
 unfoldable pub subautomatonAnswer : List ℕ → List ℕ → List ℕ → List ℕ → Answer Bool
 subautomatonAnswer a al b bl =
     sheetFirst a (sheetFirst b (labelsFirst (stateCount a) al (labelsFirst (stateCount b) bl (given (isSubautomaton (patternOf a al) (patternOf b bl))))))
-
--- the answer that a value of the code stands for
-abbrev pub answerOf : Subautomaton → Answer Bool
-answerOf (Is b) = given b
-answerOf (Refused r) = refused (inputNumber r)

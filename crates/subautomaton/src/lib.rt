@@ -6,19 +6,14 @@ ghost use lib.ListN.{length};
 ghost use Rattle.lists.specs.Lists.{any};
 ghost use Rattle.automata.specs.Records.{recordAt, readRecords};
 ghost use Rattle.labels.specs.Labels.{sameLabel, labelsFault, readLabels};
+ghost use Rattle.refusal.specs.Decision.{decisionOf};
 ghost use Rattle.search.specs.Search.{index};
 ghost use Rattle.sheets.specs.Accepted.{Accepted};
 ghost use Rattle.sheets.specs.Sheet.{stateCount, read};
 ghost use Rattle.subautomaton.specs.Inclusion.{all, states, isSubautomaton};
 ghost use Rattle.subautomaton.specs.Tables.{Numbered, isHeld, isHeldIn, fits, fitsFrom, fitsIn, Small, Ready, Inputs, Tabled};
-ghost use Rattle.subautomaton.specs.Answer.{patternOf, subautomatonAnswer, answerOf};
-use refusal::InputRefusal;
-
-// The answer of `is_subautomaton`.
-pub enum Subautomaton {
-    Is(bool),
-    Refused(InputRefusal),
-}
+ghost use Rattle.subautomaton.specs.Answer.{patternOf, subautomatonAnswer};
+use refusal::Decision;
 
 // The number of the first of the n labels of b that is x, or n.
 fn find_label(b: &[u8], n: usize, x: &[u8]) -> usize
@@ -221,24 +216,24 @@ fn compare(a: &[u32], al: &[u8], b: &[u32], bl: &[u8]) -> bool
 }
 
 // Whether the automaton of a and a_labels is a subautomaton of that of b and b_labels.
-pub fn is_subautomaton(a: &[u32], a_labels: &[u8], b: &[u32], b_labels: &[u8]) -> Subautomaton
-    ensures { λ r. ⌜ answerOf r ≡ subautomatonAnswer (now (a .entry)) (now («a_labels» .entry)) (now (b .entry)) (now («b_labels» .entry)) ⌝ }
+pub fn is_subautomaton(a: &[u32], a_labels: &[u8], b: &[u32], b_labels: &[u8]) -> Decision
+    ensures { λ r. ⌜ decisionOf r ≡ subautomatonAnswer (now (a .entry)) (now («a_labels» .entry)) (now (b .entry)) (now («b_labels» .entry)) ⌝ }
 {
     match sheets::check(a) {
         sheets::Checked::Accepted => {}
-        sheets::Checked::Refused(r) => return Subautomaton::Refused(r),
+        sheets::Checked::Refused(r) => return Decision::Refused(r),
     }
     match sheets::check(b) {
         sheets::Checked::Accepted => {}
-        sheets::Checked::Refused(r) => return Subautomaton::Refused(r),
+        sheets::Checked::Refused(r) => return Decision::Refused(r),
     }
     match labels::check(a[2] as usize, a_labels) {
         labels::Checked::Accepted => {}
-        labels::Checked::Refused(r) => return Subautomaton::Refused(r),
+        labels::Checked::Refused(r) => return Decision::Refused(r),
     }
     match labels::check(b[2] as usize, b_labels) {
         labels::Checked::Accepted => {}
-        labels::Checked::Refused(r) => return Subautomaton::Refused(r),
+        labels::Checked::Refused(r) => return Decision::Refused(r),
     }
-    Subautomaton::Is(compare(a, a_labels, b, b_labels))
+    Decision::Is(compare(a, a_labels, b, b_labels))
 }

@@ -3,5 +3,3 @@ pub mod Printing
 pub mod Reading
 pub mod Judging
 pub mod Theorems
-pub mod Samples
-pub mod SampleSame

@@ -1,0 +1,100 @@
+-- The program `verdict` on the texts of A, B and C: every line that its contract allows is the one of document 01.
+use Prim.Native.Nat.{ℕ}
+use mathlib.Core.List.{List, [], _∷_, _++_}
+use mathlib.Core.Path.{_≡_, refl, _∙_, ap, subst}
+use native.Mathlib.Omega.{arith}
+use Rattle.lists.specs.Lists.{any}
+use Rattle.automata.specs.Automaton.{Automaton}
+use Rattle.automata.specs.Ordered.{insert, inOrder}
+use Rattle.automata.specs.Records.{readRecords}
+use Rattle.automata.specs.WellFormed.{WellFormed, lastSymbol}
+use Rattle.determinize.specs.Determinize.{determinize}
+use Rattle.equality.specs.Equality.{withSecond, withFirst, determinized as both-determinized}
+use Rattle.equality.specs.Forced.{Two}
+use Rattle.equality.specs.Verdict.{Equal, Apart}
+use Rattle.equality.proofs.Theorems.{classes-number, same-words, one-word, not-same}
+use Rattle.labels.specs.Labels.{sameLabel}
+use Rattle.parser.specs.Bytes.{isSpace, isLetter, isDigit, isNameByte}
+use Rattle.parser.specs.Grammar.{follow, run, space, neededSpace, begins, token, name, value, number, ends, range, target, transition, initial, nextName, many, transitions, nextNames, accepting, heading, ending, wholeText}
+use Rattle.parser.specs.Pattern.{indexOf, addName, addNames, statesOf, acceptWord, automatonOf, fewTransitions, fewStates, parse}
+use Rattle.refusal.specs.Answer.{Answer, given}
+use Rattle.sheets.specs.Sheet.{read}
+use Rattle.sheets.proofs.Accepted.{accepted}
+use Rattle.sheets.proofs.Meaning.{read-well}
+use Rattle.verdict_line.specs.Texts.{twoTexts, withSecondText, withFirstText, comparedTexts}
+use Rattle.verdict_line.specs.Line.{Line, refuses, same, differs, sameLine, differLine}
+use Rattle.samples.proofs.Patterns.{A, B, C, DA, DB, DC, determinized, no-fault}
+use Rattle.samples.proofs.Three.{both, three}
+use Rattle.samples.proofs.Verdicts.{same-ab, differ-ac, only-nine}
+
+-- `automaton A { init p; p -> q [0, 9]; accepting q; };`
+abbrev pub text-a : List ℕ
+text-a =
+    97 ∷ 117 ∷ 116 ∷ 111 ∷ 109 ∷ 97 ∷ 116 ∷ 111 ∷ 110 ∷ 32 ∷ 65 ∷ 32 ∷ 123 ∷ 32 ∷ 105 ∷ 110 ∷ 105 ∷ 116 ∷ 32 ∷ 112 ∷ 59 ∷ 32 ∷ 112 ∷ 32 ∷ 45 ∷ 62 ∷ 32 ∷
+    113 ∷ 32 ∷ 91 ∷ 48 ∷ 44 ∷ 32 ∷ 57 ∷ 93 ∷ 59 ∷ 32 ∷ 97 ∷ 99 ∷ 99 ∷ 101 ∷ 112 ∷ 116 ∷ 105 ∷ 110 ∷ 103 ∷ 32 ∷ 113 ∷ 59 ∷ 32 ∷ 125 ∷ 59 ∷ []
+
+-- ` automaton B { init s; s -> t [0, 4]; s -> u [5, 9]; accepting t, u; };`
+abbrev pub text-b : List ℕ
+text-b =
+    32 ∷ 97 ∷ 117 ∷ 116 ∷ 111 ∷ 109 ∷ 97 ∷ 116 ∷ 111 ∷ 110 ∷ 32 ∷ 66 ∷ 32 ∷ 123 ∷ 32 ∷ 105 ∷ 110 ∷ 105 ∷ 116 ∷ 32 ∷ 115 ∷ 59 ∷ 32 ∷ 115 ∷ 32 ∷ 45 ∷ 62 ∷
+    32 ∷ 116 ∷ 32 ∷ 91 ∷ 48 ∷ 44 ∷ 32 ∷ 52 ∷ 93 ∷ 59 ∷ 32 ∷ 115 ∷ 32 ∷ 45 ∷ 62 ∷ 32 ∷ 117 ∷ 32 ∷ 91 ∷ 53 ∷ 44 ∷ 32 ∷ 57 ∷ 93 ∷ 59 ∷ 32 ∷ 97 ∷ 99 ∷ 99 ∷
+    101 ∷ 112 ∷ 116 ∷ 105 ∷ 110 ∷ 103 ∷ 32 ∷ 116 ∷ 44 ∷ 32 ∷ 117 ∷ 59 ∷ 32 ∷ 125 ∷ 59 ∷ []
+
+-- ` automaton C { init p; p -> q [0, 8]; accepting q; };`
+abbrev pub text-c : List ℕ
+text-c =
+    32 ∷ 97 ∷ 117 ∷ 116 ∷ 111 ∷ 109 ∷ 97 ∷ 116 ∷ 111 ∷ 110 ∷ 32 ∷ 67 ∷ 32 ∷ 123 ∷ 32 ∷ 105 ∷ 110 ∷ 105 ∷ 116 ∷ 32 ∷ 112 ∷ 59 ∷ 32 ∷ 112 ∷ 32 ∷ 45 ∷ 62 ∷
+    32 ∷ 113 ∷ 32 ∷ 91 ∷ 48 ∷ 44 ∷ 32 ∷ 56 ∷ 93 ∷ 59 ∷ 32 ∷ 97 ∷ 99 ∷ 99 ∷ 101 ∷ 112 ∷ 116 ∷ 105 ∷ 110 ∷ 103 ∷ 32 ∷ 113 ∷ 59 ∷ 32 ∷ 125 ∷ 59 ∷ []
+
+abbrev apart : Two
+apart = record { one = DA; two = DC; low = 0; high = lastSymbol }
+
+-- the texts are read as A, B and C
+is-both : comparedTexts 0 lastSymbol (text-a ++ text-b) ≡ given both
+unfolding follow isSpace isLetter isDigit isNameByte run space neededSpace begins token name value number ends range target transition initial nextName many transitions nextNames accepting heading ending wholeText sameLabel indexOf addName addNames statesOf any acceptWord automatonOf fewTransitions fewStates parse insert inOrder readRecords withSecond withFirst both-determinized twoTexts withSecondText withFirstText comparedTexts
+is-both = ap (λ (x : Answer Automaton). withFirst 0 lastSymbol x (determinize 0 lastSymbol (read B))) (determinized .0) ∙ ap (withSecond 0 lastSymbol DA) (determinized .1)
+
+is-apart : comparedTexts 0 lastSymbol (text-a ++ text-c) ≡ given apart
+unfolding follow isSpace isLetter isDigit isNameByte run space neededSpace begins token name value number ends range target transition initial nextName many transitions nextNames accepting heading ending wholeText sameLabel indexOf addName addNames statesOf any acceptWord automatonOf fewTransitions fewStates parse insert inOrder readRecords withSecond withFirst both-determinized twoTexts withSecondText withFirstText comparedTexts
+is-apart = ap (λ (x : Answer Automaton). withFirst 0 lastSymbol x (determinize 0 lastSymbol (read C))) (determinized .0) ∙ ap (withSecond 0 lastSymbol DA) (determinized .2)
+
+well-a : WellFormed (read A)
+well-a = read-well A (accepted A (no-fault .0))
+
+well-b : WellFormed (read B)
+well-b = read-well B (accepted B (no-fault .1))
+
+well-c : WellFormed (read C)
+well-c = read-well C (accepted C (no-fault .2))
+
+by-both : (x : Answer Two) (bytes : List ℕ) → x ≡ given both → Line x bytes → bytes ≡ sameLine 4
+by-both x bytes e (refuses n) = absurd (let z : _≡_ {A = ℕ} 0 1 = cc in omega arith)
+by-both x bytes e (same t joins h) =
+    let z : t ≡ both = cc in
+    let q = subst (λ (u : Two). Equal u joins) z h in
+    let three-classes : q .number ≡ 3 = classes-number both (q .number) 3 (q .counted) three in
+    let sum = q .joined in
+    let four : joins ≡ 4 = omega arith in
+    ap sameLine four
+by-both x bytes e (differs t w h) =
+    let z : t ≡ both = cc in
+    let q = subst (λ (u : Two). Apart u w) z h in
+    let one = one-word 0 lastSymbol (read A) (read B) well-a well-b DA DB (determinized .0) (determinized .1) w (q .word) (q .differ) in
+    absurd (not-same 0 lastSymbol (read A) (read B) well-a well-b DA DB (determinized .0) (determinized .1) w one (q .word) same-ab)
+
+by-apart : (x : Answer Two) (bytes : List ℕ) → x ≡ given apart → Line x bytes → bytes ≡ differLine (9 ∷ [])
+by-apart x bytes e (refuses n) = absurd (let z : _≡_ {A = ℕ} 0 1 = cc in omega arith)
+by-apart x bytes e (same t joins h) =
+    let z : t ≡ apart = cc in
+    let q = subst (λ (u : Two). Equal u joins) z h in
+    absurd (differ-ac (same-words 0 lastSymbol (read A) (read C) well-a well-c DA DC (determinized .0) (determinized .2) (q .words)))
+by-apart x bytes e (differs t w h) =
+    let z : t ≡ apart = cc in
+    let q = subst (λ (u : Two). Apart u w) z h in
+    ap differLine (only-nine w (one-word 0 lastSymbol (read A) (read C) well-a well-c DA DC (determinized .0) (determinized .2) w (q .word) (q .differ)))
+
+pub prints-same-4 : (bytes : List ℕ) → Line (comparedTexts 0 lastSymbol (text-a ++ text-b)) bytes → bytes ≡ sameLine 4
+prints-same-4 bytes = by-both _ bytes is-both
+
+pub prints-differ-9 : (bytes : List ℕ) → Line (comparedTexts 0 lastSymbol (text-a ++ text-c)) bytes → bytes ≡ differLine (9 ∷ [])
+prints-differ-9 bytes = by-apart _ bytes is-apart
