@@ -19,7 +19,7 @@ use Rattle.ranges.proofs.Cuts.{cut-end}
 use Rattle.determinize.specs.Partition.{partition}
 use Rattle.determinize.specs.Determinize.{found, table, states, transitionOf, transitionsOf, transitionsFrom, built}
 use Rattle.determinize.specs.Reached.{AllReached, degrees, MoreTransitions}
-use Rattle.determinize.proofs.Lists.{without, without-in, distinct-length}
+use Rattle.lists.proofs.Members.{without, without-in, distinct-length}
 use Rattle.determinize.proofs.Parts.{part-hole-count}
 use Rattle.determinize.proofs.Steps.{outgoing-nil}
 use Rattle.determinize.proofs.Finished.{table-all}

@@ -1,22 +1,19 @@
--- The laws by which code makes the table and writes the transitions: state by state and span by span.
+-- The laws by which code makes the table: entry by entry and span by span.
 use Prim.Native.Nat.{ℕ, suc, _+_, _-_, _≤_, _<_}
-use mathlib.Core.List.{List, [], _∷_, _++_, map}
-use mathlib.Core.Path.{_≡_, sym, _∙_, ap}
+use mathlib.Core.List.{List, [], _∷_}
+use mathlib.Core.Path.{_≡_, sym, _∙_}
 use native.Mathlib.Numerals.{add-one}
 use native.Mathlib.Omega.{arith}
-use lib.ListN.{getD, length, drop, drop-of-length-le}
-use lib.Seq.{drop-cons}
+use lib.ListN.{getD, length}
 use Rattle.automata.specs.Automaton.{Automaton}
 use Rattle.automata.specs.WellFormed.{mostStates}
-use Rattle.sets.specs.Sets.{Set, index}
+use Rattle.sets.specs.Sets.{Set}
 use Rattle.words.specs.Simulation.{outgoing, step, startSet}
 use Rattle.ranges.specs.Cuts.{nextCut}
-use Rattle.ranges.proofs.Cuts.{cut-step, cut-end}
-use Rattle.determinize.specs.Determinize.{targets, add, meet, over, found, table, states, transitionOf, transitionsOf, transitionsFrom}
+use Rattle.determinize.specs.Determinize.{targets, add, meet, over, found, table}
 use Rattle.determinize.proofs.Tables.{extends-length, meet-extends}
 use Rattle.determinize.proofs.Targets.{spanTargets, meet-start, meet-step, meet-end}
 use Rattle.determinize.proofs.Queue.{queue, table-queue, queue-step, queue-end, queue-over}
-use Rattle.determinize.proofs.Result.{states-at, length-states}
 
 -- the sets to which S leads are met span by span: those from a on are left
 module _ (lo hi : ℕ) (A : Automaton) (S : Set) (old : List Set) where
@@ -50,30 +47,3 @@ module _ (lo hi : ℕ) (A : Automaton) where
     pub queue-full : i < length T → mostStates ≤ length (meet (targets lo hi A (getD T i [])) T) → table lo hi A ≡ over
     unfolding meet
     queue-full h f = sym q ∙ queue-step lo hi A i T l h ∙ queue-over lo hi A (suc i) [] (meet (targets lo hi A (getD T i [])) T) (omega arith) f
-
--- the transitions of a state, span by span
-module _ (hi : ℕ) (A : Automaton) (T : List Set) (j : ℕ) (S : Set) (a : ℕ) where
-  pub transitions-step : a < hi + 1
-      → transitionsOf a hi A T j S
-      ≡ record { from = j; kind = 1; first = a; last = nextCut a (hi + 1) (outgoing A S) - 1; to = index (step A S a) T }
-      ∷ transitionsOf (nextCut a (hi + 1) (outgoing A S)) hi A T j S
-  unfolding transitionsOf transitionOf
-  transitions-step h = rw (add-one hi) (ap (map (transitionOf A T j S)) (cut-step hi (outgoing A S) a (omega arith)))
-
-  pub transitions-end : hi + 1 ≤ a → transitionsOf a hi A T j S ≡ []
-  unfolding transitionsOf
-  transitions-end h = ap (map (transitionOf A T j S)) (cut-end hi (outgoing A S) a (omega arith))
-
--- the transitions of the states from j on
-module _ (lo hi : ℕ) (A : Automaton) (T : List Set) (j : ℕ) where
-  pub states-step : j < length T + 1
-      → transitionsFrom lo hi A T j (drop j (states T)) ≡ transitionsOf lo hi A T j (getD T j []) ++ transitionsFrom lo hi A T (j + 1) (drop (j + 1) (states T))
-  unfolding transitionsFrom
-  states-step h =
-      rw (add-one j)
-      (ap (transitionsFrom lo hi A T j) (drop-cons (states T) j [] (omega (arith, length-states T)))
-      ∙ ap (λ S. transitionsOf lo hi A T j S ++ transitionsFrom lo hi A T (suc j) (drop (suc j) (states T))) (states-at T j))
-
-  pub states-end : length T + 1 ≤ j → transitionsFrom lo hi A T j (drop j (states T)) ≡ []
-  unfolding transitionsFrom
-  states-end h = ap (transitionsFrom lo hi A T j) (drop-of-length-le (states T) {i = j} (omega (arith, length-states T)))

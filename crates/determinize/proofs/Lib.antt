@@ -1,6 +1,4 @@
 -- What is proved of determinizing.
-pub mod Lists
-pub mod Spans
 pub mod Steps
 pub mod Parts
 pub mod Tables
@@ -19,6 +17,8 @@ pub mod Answers
 pub mod Theorems
 pub mod Left
 pub mod Notes
+pub mod Placing
 pub mod Visits
+pub mod Sections
 pub mod Sheets
 pub mod Made

@@ -1,30 +1,29 @@
 -- Notes of transitions: span by span, state by state, while the table grows; and what they stand for once it is finished.
-use Prim.Native.Nat.{ℕ, zero, suc, _+_, _-_, _≤_, _<_}
-use mathlib.Core.Bool.{Bool, true, false, cond}
+use Prim.Native.Nat.{ℕ, suc, _+_, _-_, _≤_, _<_}
+use mathlib.Core.Bool.{true, false, cond}
 use mathlib.Core.List.{List, [], _∷_, _++_, map, append-nil, append-assoc, List·Memᴰ·head, List·Memᴰ·tail, List·Memᴰ·append-cases, List·Memᴰ·eq-of-singleton}
 use mathlib.Core.Logic.{_⊎_, inl, inr, ⊎-elim}
 use mathlib.Core.Path.{_≡_, refl, sym, _∙_, ap, ap₂}
 use native.Mathlib.Numerals.{add-one}
 use native.Mathlib.Omega.{arith}
-use borrow.Author.Tests.{le-leb, lt-leb, leb-true, leb-false, eq-eqb, ne-eqb}
+use borrow.Author.Tests.{leb-true, leb-false, ne-eqb}
 use lib.Dec.{eqb, leb}
-use lib.ListN.{getD, length, drop, length-append, length-map, List·getD-append, drop-of-length-le}
+use lib.ListN.{getD, length, drop, drop-of-length-le}
 use lib.Seq.{drop-cons}
 use Rattle.lists.specs.Lists.{_∈_}
 use Rattle.lists.proofs.Tests.{test}
-use Rattle.automata.specs.Automaton.{Transition, Automaton, InBounds}
+use Rattle.automata.specs.Automaton.{Automaton, InBounds}
 use Rattle.automata.specs.WellFormed.{mostStates}
 use Rattle.sets.specs.Sets.{Set, same, index}
 use Rattle.sets.proofs.Tables.{In, index-lt, same-yes, same-self, at-index}
 use Rattle.words.specs.Simulation.{outgoing, step}
-use Rattle.ranges.specs.Span.{Span}
 use Rattle.ranges.specs.Cuts.{nextCut, cutAll}
 use Rattle.ranges.proofs.Cuts.{cut-step, cut-end}
 use Rattle.determinize.specs.Determinize.{found, table, states, transitionOf, transitionsOf, transitionsFrom}
 use Rattle.determinize.specs.Notes.{number, noteOf, notesOf, notesFrom, sinkNotes, settle}
 use Rattle.determinize.proofs.Finished.{table-few, table-closed}
 use Rattle.determinize.proofs.Sink.{cut-nothing, sink-index}
-use Rattle.determinize.proofs.Spans.{cut-stretch}
+use Rattle.ranges.proofs.Spans.{cut-stretch}
 use Rattle.determinize.proofs.Steps.{outgoing-nil, step-nil}
 
 -- a set that a table has keeps its number while the table grows

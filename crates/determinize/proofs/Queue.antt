@@ -17,7 +17,7 @@ use Rattle.sets.proofs.Tables.{In}
 use Rattle.words.specs.Simulation.{step, startSet}
 use Rattle.determinize.specs.Determinize.{targets, meet, Found, over, found, explore, table}
 use Rattle.determinize.specs.Reached.{Good}
-use Rattle.determinize.proofs.Lists.{at-in}
+use Rattle.lists.proofs.Members.{at-in}
 use Rattle.determinize.proofs.Tables.{Extends, extends-refl, extends-trans, extends-in, extends-at, extends-length, meet-extends, meet-in, meet-good}
 use Rattle.determinize.proofs.Targets.{targets-reached, targets-in}
 

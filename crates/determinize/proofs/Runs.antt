@@ -19,8 +19,8 @@ use Rattle.words.proofs.Closures.{join, closure-sound, closure-complete}
 use Rattle.words.proofs.Simulation.{simulate-sound, simulate-complete, closure-shut, accepts-kind}
 use Rattle.words.proofs.Kind.{kindOf-some, kindOf-least}
 use Rattle.determinize.specs.Determinize.{found, table, states, transitionOf, built}
-use Rattle.determinize.proofs.Lists.{at-in}
-use Rattle.determinize.proofs.Spans.{cut-stretch, cut-alike}
+use Rattle.lists.proofs.Members.{at-in}
+use Rattle.ranges.proofs.Spans.{cut-stretch, cut-alike}
 use Rattle.determinize.proofs.Steps.{step-alike}
 use Rattle.determinize.proofs.Tables.{index-le}
 use Rattle.determinize.proofs.Finished.{table-start, table-closed, table-all}

@@ -22,8 +22,8 @@ use Rattle.ranges.specs.Missing.{covered, missing}
 use Rattle.ranges.proofs.Cuts.{cut-step, cut-end}
 use Rattle.determinize.specs.Partition.{Part, partOf, partition}
 use Rattle.determinize.specs.Determinize.{found, table, transitionOf, transitionsOf, built}
-use Rattle.determinize.proofs.Lists.{map-in}
-use Rattle.determinize.proofs.Spans.{cut-stretch}
+use Rattle.lists.proofs.Members.{map-in}
+use Rattle.ranges.proofs.Spans.{cut-stretch}
 use Rattle.determinize.proofs.Parts.{part-out}
 use Rattle.determinize.proofs.Steps.{step-free, step-held, outgoing-nil, step-nil}
 use Rattle.determinize.proofs.Tables.{index-le}

@@ -14,7 +14,7 @@ use Rattle.sets.specs.Sets.{Set, same, index}
 use Rattle.sets.proofs.Tables.{index-in, index-lt, In}
 use Rattle.determinize.specs.Determinize.{add, meet}
 use Rattle.determinize.specs.Reached.{Reached, Good}
-use Rattle.determinize.proofs.Lists.{distinct-end}
+use Rattle.lists.proofs.Members.{distinct-end}
 
 pub index-le : (S : Set) (T : List Set) → index S T ≤ length T
 unfolding index

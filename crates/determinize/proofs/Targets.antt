@@ -18,8 +18,8 @@ use Rattle.ranges.proofs.Cuts.{cut-end, cut-step}
 use Rattle.determinize.specs.Partition.{partOf, partition}
 use Rattle.determinize.specs.Determinize.{targets, add, meet}
 use Rattle.determinize.specs.Reached.{Reached}
-use Rattle.determinize.proofs.Lists.{map-in, map-out}
-use Rattle.determinize.proofs.Spans.{cut-stretch, cut-alike, containing}
+use Rattle.lists.proofs.Members.{map-in, map-out}
+use Rattle.ranges.proofs.Spans.{cut-stretch, cut-alike, containing}
 use Rattle.determinize.proofs.Steps.{step-alike, step-free, simulate-end}
 use Rattle.determinize.proofs.Tables.{add-empty}
 

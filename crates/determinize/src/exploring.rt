@@ -98,7 +98,8 @@ fn visit(
     placed.sets
 }
 
-// The spans between the cuts of the ranges that leave a set, ascending: those that a range holds are the parts, the others the holes.
+// Visits the spans between the cuts of the ranges that leave a set, ascending: those that a range holds are the parts, the others the holes.
+// Each of 256 sets has at most 2^32 of them, so that the number of notes stays far below what a usize holds.
 pub fn partition_ranges(
     s: &[u32],
     starts: &[u32],
@@ -144,7 +145,7 @@ pub fn partition_ranges(
     Progress::Sets(n, count)
 }
 
-// Entry i of the table: its spans.
+// Visits the spans of entry i of the table.
 fn visit_set(
     s: &[u32],
     starts: &[u32],

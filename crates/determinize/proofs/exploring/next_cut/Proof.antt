@@ -6,7 +6,7 @@ use Rattle.sets.specs.BitSet.{setAt}
 use Rattle.sheets.specs.Sheet.{read}
 use Rattle.words.specs.Simulation.{outgoing}
 use Rattle.ranges.specs.Cuts.{nextCut}
-use Rattle.determinize.proofs.Visits.{cutLaws}
+use Rattle.determinize.proofs.Placing.{cutLaws}
 use Rattle.determinize.proofs.exploring.next_cut.Statement.{statement}
 use Rattle.determinize.proofs.exploring.next_cut.Tie as tie
 
