@@ -21,7 +21,7 @@ use Rattle.determinize.specs.Determinize.{found, table, states, transiti
 use Rattle.determinize.specs.Reached.{AllReached, degrees, MoreTransitions}
 use Rattle.lists.proofs.Members.{without, without-in, distinct-length}
 use Rattle.determinize.proofs.Parts.{part-hole-count}
-use Rattle.determinize.proofs.Steps.{outgoing-nil}
+use Rattle.words.proofs.Outgoing.{outgoing-nil}
 use Rattle.determinize.proofs.Finished.{table-all}
 use Rattle.determinize.proofs.Sink.{cut-nothing}
 

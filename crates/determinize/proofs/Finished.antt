@@ -20,7 +20,7 @@ use Rattle.words.proofs.Closures.{closure-complete}
 use Rattle.determinize.specs.Determinize.{Found, over, found, table}
 use Rattle.determinize.specs.Reached.{Good, MoreThan, AllReached}
 use Rattle.lists.proofs.Members.{at-in, distinct-length}
-use Rattle.determinize.proofs.Steps.{step-nil}
+use Rattle.words.proofs.Outgoing.{step-nil}
 use Rattle.determinize.proofs.Tables.{extends-at, extends-length}
 use Rattle.determinize.proofs.Queue.{Finished, explore-found, explore-over}
 

@@ -10,7 +10,6 @@ pub mod Runs
 pub mod Written
 pub mod Sink
 pub mod Counts
-pub mod Outgoing
 pub mod KindByRuns
 pub mod Laws
 pub mod Answers

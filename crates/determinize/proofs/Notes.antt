@@ -24,7 +24,7 @@ use Rattle.determinize.specs.Notes.{number, noteOf, notesOf, notesFrom, 
 use Rattle.determinize.proofs.Finished.{table-few, table-closed}
 use Rattle.determinize.proofs.Sink.{cut-nothing, sink-index}
 use Rattle.ranges.proofs.Spans.{cut-stretch}
-use Rattle.determinize.proofs.Steps.{outgoing-nil, step-nil}
+use Rattle.words.proofs.Outgoing.{outgoing-nil, step-nil}
 
 -- a set that a table has keeps its number while the table grows
 index-later : (R : Set) {T : List Set} (more : List Set) → R ∈ T → index R (T ++ more) ≡ index R T

@@ -12,28 +12,19 @@ use lib.ListN.{length}
 use lib.Seq.{sets, set-out}
 use Rattle.lists.specs.Written.{Written}
 use Rattle.lists.proofs.Written.{written-none}
-use Rattle.automata.specs.Automaton.{Transition, leaving, rangesOf}
-use Rattle.automata.specs.Records.{readRecords, writeRecords}
-use Rattle.sets.specs.Sets.{Set, Canon, isEmpty, index, membersFrom, nextMember}
+use Rattle.automata.specs.Automaton.{Transition}
+use Rattle.automata.specs.Records.{writeRecords}
+use Rattle.sets.specs.Sets.{Set, isEmpty, index}
 use Rattle.sets.specs.BitSet.{setAt, entries}
 use Rattle.sets.specs.Words.{putAt}
-use Rattle.sets.proofs.Sets.{empty-yes, empty-no, has-below}
-use Rattle.sets.proofs.Members.{visit-has}
-use Rattle.sets.proofs.BitSet.{at-canon, length-entries}
+use Rattle.sets.proofs.Sets.{empty-yes, empty-no}
+use Rattle.sets.proofs.BitSet.{length-entries}
 use Rattle.sets.proofs.Stores.{entries-put}
-use Rattle.sheets.specs.Accepted.{Accepted}
-use Rattle.sheets.specs.Runs.{Indexed, RunAt}
-use Rattle.sheets.specs.Sheet.{stateCount, read}
-use Rattle.sheets.proofs.Meaning.{read-well}
-use Rattle.sheets.proofs.Runs.{run-at}
-use Rattle.words.specs.Simulation.{outgoing}
-use Rattle.words.proofs.Visiting.{member-here, member-later}
 use Rattle.ranges.specs.Cuts.{nextCut}
 use Rattle.ranges.proofs.Cuts.{next-le, next-gt}
-use Rattle.determinize.specs.Determinize.{add, found}
+use Rattle.determinize.specs.Determinize.{add}
 use Rattle.determinize.specs.Notes.{number, sinkNotes, Placed}
 use Rattle.determinize.proofs.Tables.{add-empty, add-known, add-new}
-use Rattle.determinize.proofs.Outgoing.{member-cut-begins, member-cut-next, member-cut-ended}
 use Rattle.determinize.proofs.Notes.{index-end}
 
 -- a note behind 2,048 others is not stored
@@ -98,24 +89,6 @@ module _ (t set : List ℕ) (n : ℕ) (few : n < 256) where
         }
 
 pub ruleset placeLaws = (place-empty, place-known, place-new, needs)
-
--- the next cut, member by member
-module _ (s : List ℕ) (a : Accepted s) (set : List ℕ) (above top : ℕ) where
-  pub cut-run : (starts : List ℕ) (q : ℕ) → Indexed s starts → Canon (stateCount s) (setAt set 0) → q ≡ nextMember (setAt set 0) q → q < 256 → RunAt s starts q
-  cut-run starts q i n h l = run-at s a starts q i (has-below (stateCount s) (setAt set 0) n q (visit-has (setAt set 0) (at-canon set 0) q h l))
-
-  pub cut-begins : (q : ℕ) → q ≡ nextMember (setAt set 0) 0 → nextCut above top (outgoing (read s) (membersFrom q (setAt set 0))) ≡ nextCut above top (outgoing (read s) (setAt set 0))
-  cut-begins q e = member-cut-begins (read s) (read-well s a) (setAt set 0) (at-canon set 0) above top q e
-
-  module _ (q found : ℕ) (i : nextCut above found (outgoing (read s) (membersFrom q (setAt set 0))) ≡ nextCut above top (outgoing (read s) (setAt set 0))) where
-    pub cut-next : q ≡ nextMember (setAt set 0) q → q < 256 → (x next : ℕ) (run : List ℕ) → x ≡ nextMember (setAt set 0) (q + 1) → run ≡ writeRecords (leaving (read s) q) → next ≡ nextCut above found (rangesOf (readRecords run))
-        → nextCut above next (outgoing (read s) (membersFrom x (setAt set 0))) ≡ nextCut above top (outgoing (read s) (setAt set 0))
-    cut-next h l x next run k r e = member-cut-next (read s) (read-well s a) (setAt set 0) (at-canon set 0) above top q x found next run i h l k r e
-
-    pub cut-ended : 256 ≤ q → found ≡ nextCut above top (outgoing (read s) (setAt set 0))
-    cut-ended l = member-cut-ended (read s) (read-well s a) (setAt set 0) (at-canon set 0) above top q found i l
-
-pub ruleset cutLaws = (cut-run, cut-begins, cut-next, cut-ended, member-here, member-later, needs)
 
 -- the bounds of the next cut
 module _ (a top c : ℕ) (es : List Transition) (e : c ≡ nextCut a top es) where

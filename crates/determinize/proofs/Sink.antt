@@ -25,7 +25,8 @@ use Rattle.determinize.specs.Determinize.{found, table, transitionOf, tr
 use Rattle.lists.proofs.Members.{map-in}
 use Rattle.ranges.proofs.Spans.{cut-stretch}
 use Rattle.determinize.proofs.Parts.{part-out}
-use Rattle.determinize.proofs.Steps.{step-free, step-held, outgoing-nil, step-nil}
+use Rattle.determinize.proofs.Steps.{step-free, step-held}
+use Rattle.words.proofs.Outgoing.{outgoing-nil, step-nil}
 use Rattle.determinize.proofs.Tables.{index-le}
 use Rattle.determinize.proofs.Finished.{table-closed, table-all}
 use Rattle.determinize.proofs.Result.{leaving-built, accept-built}

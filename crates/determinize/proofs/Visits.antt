@@ -50,7 +50,7 @@ visit-done R T t u r v m j first last k to e p w =
       noted = subst (λ x. Written r (5 * k) (j ∷ 1 ∷ first ∷ last ∷ x ∷ []) v (5 * k + 5)) (p .named ∙ ap (λ S. number S (entries t m)) e) w;
     }
 
-pub ruleset visitLaws = (visit-done, needs)
+pub ruleset visitLaws = (visit-done, cut-some, cut-fits, needs)
 
 -- the sets of the table have states below n
 canonical-add : (n : ℕ) (R : Set) (T : List Set) → Canonical n T → Canon n R → Canonical n (add R T)
@@ -125,7 +125,7 @@ pub canonical-next : (s starts c : List ℕ) (S : Set) (T : List Set) (a j last 
 canonical-next s starts c S T a j last k n r t r′ x d v =
     subst (Canonical (stateCount s)) (sym (v .added)) (canonical-add (stateCount s) (step (read s) S a) T d (step-canon (read s) (read-well s (x .accepted) .states) a S))
 
-pub ruleset spanLaws = (visit-begins, visit-next, visit-over, visit-ended, canonical-next, cut-some, cut-less, cut-counts, cut-most, cut-fits, needs)
+pub ruleset spanLaws = (visit-begins, visit-next, visit-over, visit-ended, canonical-next, cut-less, cut-counts, cut-most, needs)
 
 -- a row of the table, copied into a set of zeros
 module _ (set t : List ℕ) (i : ℕ) (e : set ≡ putAt (replicate 4 0) 0 t (4 * i)) where

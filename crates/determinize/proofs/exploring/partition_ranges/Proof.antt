@@ -23,8 +23,7 @@ abbrev μ-loop : tie.MeasureT-loop
 pub partition-ranges-spec : {M : Type 1} → statement M
 partition-ranges-spec =
     tie.close
-    (tie.spec Inv-loop μ-loop (λ c. search spanLaws) (λ c. search spanLaws) (λ c κs. search spanLaws) (λ c. search spanLaws)
-    (λ c. search spanLaws) (λ c. search spanLaws) (λ c κs. search spanLaws) (λ c. search spanLaws) (λ c. search spanLaws)
-    (λ c. search spanLaws) (λ c. search spanLaws) (λ c. search spanLaws)
+    (tie.spec Inv-loop μ-loop (λ c. search spanLaws) (λ c. search spanLaws) (λ c. search spanLaws) (λ c κs. search spanLaws)
+    (λ c. search spanLaws) (λ c. search spanLaws) (λ c. search spanLaws) (λ c. search spanLaws) (λ c. search spanLaws)
     (λ c. (search needs, search needs, search needs, search needs, search cut-most, search cut-counts, search canonical-next, search visit-next))
     (λ c. search spanLaws) (λ c. search spanLaws) (λ c. search spanLaws))
