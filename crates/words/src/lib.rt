@@ -73,7 +73,11 @@ pub fn state_closures(s: &[u32], rows: &mut [u64])
 fn cut_before(first: u32, found: u64) -> u64
     ensures { λ r. ⌜ r ≡ min first found ⌝ }
 {
-    if (first as u64) < found { first as u64 } else { found }
+    if (first as u64) < found {
+        first as u64
+    } else {
+        found
+    }
 }
 
 // The lesser of the symbol behind a range's last and the cut found so far.
@@ -142,7 +146,13 @@ pub fn step(
     let mut found = top;
     let mut q = sets::next_member(current, 0);
     while q < 256 {
-        found = follow(sheets::run(s, starts, q as u32), symbol, closures, next, found);
+        found = follow(
+            sheets::run(s, starts, q as u32),
+            symbol,
+            closures,
+            next,
+            found,
+        );
         q = sets::next_member(current, q + 1);
     }
     found
