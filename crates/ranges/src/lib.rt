@@ -88,6 +88,26 @@ fn past(cursor: u64, last: u32) -> u64
     }
 }
 
+// A range's first symbol, or top if that is less: where a span ends that goes up to and without the range.
+pub fn until(first: u32, top: u64) -> u64
+    ensures { λ r. ⌜ r ≡ min first top ⌝ }
+{
+    if (first as u64) < top {
+        first as u64
+    } else {
+        top
+    }
+}
+
+// The symbol behind a range's last, or top if that is less: where a span ends that goes up to the range's end. Behind the greatest symbol of 32 bits
+// there is one of 64.
+pub fn through(last: u32, top: u64) -> u64
+    ensures { λ r. ⌜ r ≡ min (last + 1) top ⌝ }
+{
+    let behind = last as u64 + 1;
+    if behind < top { behind } else { top }
+}
+
 // Writes the span from `from` up to and without `to` behind n spans, if it has a symbol; answers how many spans there are then.
 fn add_gap(holes: &mut [u32], n: usize, from: u64, to: u64) -> usize
     requires { ⌜ (2 * n + 2 ≤ length (now holes)) × (to ≤ 4294967296) ⌝ }
@@ -100,17 +120,6 @@ fn add_gap(holes: &mut [u32], n: usize, from: u64, to: u64) -> usize
         return n + 1;
     }
     n
-}
-
-// The lesser of a range's first symbol and top.
-fn until(first: u32, top: u64) -> u64
-    ensures { λ r. ⌜ r ≡ min first top ⌝ }
-{
-    if (first as u64) < top {
-        first as u64
-    } else {
-        top
-    }
 }
 
 // Writes low and high of each hole that the run's ranges leave from lower to upper at the front of holes; answers how many holes there are.

@@ -4,7 +4,7 @@
 ghost use mathlib.Core.Bool.{true};
 ghost use mathlib.Core.Path.{_≡_};
 ghost use mathlib.Core.List.{[], _∷_};
-ghost use Prim.Native.Nat.{_+_, _*_, _≤_, _<_, min};
+ghost use Prim.Native.Nat.{_+_, _*_, _≤_, _<_};
 ghost use lib.ListN.{length, getD};
 ghost use Rattle.automata.specs.Automaton.{rangesOf};
 ghost use Rattle.automata.specs.Records.{recordAt, readRecords};
@@ -69,28 +69,6 @@ pub fn state_closures(s: &[u32], rows: &mut [u64])
     sets::warshall(rows, n);
 }
 
-// The lesser of a range's first symbol and the cut found so far.
-fn cut_before(first: u32, found: u64) -> u64
-    ensures { λ r. ⌜ r ≡ min first found ⌝ }
-{
-    if (first as u64) < found {
-        first as u64
-    } else {
-        found
-    }
-}
-
-// The lesser of the symbol behind a range's last and the cut found so far.
-fn cut_behind(last: u32, found: u64) -> u64
-    ensures { λ r. ⌜ r ≡ min (last + 1) found ⌝ }
-{
-    if (last as u64) < found {
-        last as u64 + 1
-    } else {
-        found
-    }
-}
-
 // next takes in the closure of a state.
 fn take_closure(next: &mut [u64], closures: &[u64], state: u32)
     requires { ⌜ (4 ≤ length (now next)) × (4 * state + 4 ≤ length (now closures)) ⌝ }
@@ -116,11 +94,11 @@ fn follow(run: &[u32], symbol: u32, closures: &[u64], next: &mut [u64], top: u64
         at += 5;
         if kind == 1 {
             if symbol < first {
-                return cut_before(first, found);
+                return ranges::until(first, found);
             }
             if symbol <= last {
                 take_closure(next, closures, to);
-                found = cut_behind(last, found);
+                found = ranges::through(last, found);
             }
         }
     }
