@@ -85,7 +85,8 @@ fn visit(
     let mut next = [0u64; 4];
     let cut = words::step(s, starts, closures, set, first, &mut next, top);
     let placed = place(table, n, &next);
-    note(notes, count, from, first, (cut - 1) as u32, placed.number);
+    let last = (cut - 1) as u32;
+    note(notes, count, from, first, last, placed.number);
     SpanEnd {
         cut,
         sets: placed.sets,
