@@ -1,19 +1,23 @@
 -- The laws by which code makes the table: entry by entry and span by span.
-use Prim.Native.Nat.{ℕ, suc, _+_, _-_, _≤_, _<_}
+use Prim.Native.Nat.{ℕ, zero, suc, _+_, _-_, _≤_, _<_}
 use mathlib.Core.List.{List, [], _∷_}
-use mathlib.Core.Path.{_≡_, sym, _∙_}
+use mathlib.Core.Path.{_≡_, refl, sym, _∙_, ap}
 use native.Mathlib.Numerals.{add-one}
 use native.Mathlib.Omega.{arith}
 use lib.ListN.{getD, length}
 use Rattle.automata.specs.Automaton.{Automaton}
 use Rattle.automata.specs.WellFormed.{mostStates}
-use Rattle.sets.specs.Sets.{Set}
+use Rattle.search.specs.Search
+use Rattle.search.specs.Search.{Found, over, found}
+use Rattle.search.proofs.Queue
+use Rattle.search.proofs.Tables.{extends-length}
+use Rattle.sets.specs.Sets.{Set, same}
 use Rattle.words.specs.Simulation.{outgoing, step, startSet}
 use Rattle.ranges.specs.Cuts.{nextCut}
-use Rattle.determinize.specs.Determinize.{targets, add, meet, over, found, table}
-use Rattle.determinize.proofs.Tables.{extends-length, meet-extends}
+use Rattle.determinize.specs.Determinize.{targets, someOf, subsets, table}
+use Rattle.determinize.specs.Notes.{add, meet}
+use Rattle.determinize.proofs.Tables.{meet-extends}
 use Rattle.determinize.proofs.Targets.{spanTargets, meet-start, meet-step, meet-end}
-use Rattle.determinize.proofs.Queue.{queue, table-queue, queue-step, queue-end, queue-over}
 
 -- the sets to which S leads are met span by span: those from a on are left
 module _ (lo hi : ℕ) (A : Automaton) (S : Set) (old : List Set) where
@@ -32,18 +36,33 @@ module _ (lo hi : ℕ) (A : Automaton) (S : Set) (old : List Set) where
     pub meet-full : mostStates ≤ length T → mostStates ≤ length (meet (targets lo hi A S) old)
     meet-full h = rw (sym i) (omega (arith, extends-length (meet-extends (spanTargets a hi A S) T)))
 
+-- an entry of the table, whatever stands for those that it lacks
+pub at-entry : {X : Type 0} (T : List X) (i : ℕ) (c d : X) → i < length T → getD T i c ≡ getD T i d
+at-entry [] i c d h = absurd (omega arith)
+at-entry (x ∷ T) zero c d h = refl
+at-entry (x ∷ T) (suc i) c d h = at-entry T i c d (omega arith)
+
 -- the entries of the table are taken one after the other: i of them are done
 module _ (lo hi : ℕ) (A : Automaton) where
-  pub queue-begins : queue lo hi A 0 (startSet A ∷ []) ≡ table lo hi A
-  queue-begins = sym (table-queue lo hi A)
+  abbrev pub queue : ℕ → List Set → Found Set
+  queue = Queue.queue (subsets lo hi A) (mostStates - 1)
 
-  module _ (i : ℕ) (T : List Set) (l : i < mostStates) (q : queue lo hi A i T ≡ table lo hi A) where
-    pub queue-next : i < length T → (U : List Set) → U ≡ meet (targets lo hi A (getD T i [])) T → queue lo hi A (i + 1) U ≡ table lo hi A
-    queue-next h U e = rw (e, add-one i) (sym (queue-step lo hi A i T l h) ∙ q)
+  pub queue-begins : queue 0 (startSet A ∷ []) ≡ table lo hi A
+  unfolding table subsets
+  queue-begins = sym (Queue.queue-begin (subsets lo hi A) (mostStates - 1))
+
+  module _ (i : ℕ) (T : List Set) (l : i < mostStates) (q : queue i T ≡ table lo hi A) where
+    next : i < length T → queue i T ≡ queue (suc i) (meet (targets lo hi A (getD T i [])) T)
+    unfolding subsets meet
+    next h =
+        Queue.queue-step (subsets lo hi A) (mostStates - 1) i T (omega arith) h
+        ∙ ap (λ S. queue (suc i) (Search.meet same (someOf (targets lo hi A S)) T)) (at-entry T i (startSet A) [] h)
+
+    pub queue-next : i < length T → (U : List Set) → U ≡ meet (targets lo hi A (getD T i [])) T → queue (i + 1) U ≡ table lo hi A
+    queue-next h U e = rw (e, add-one i) (sym (next h) ∙ q)
 
     pub queue-ended : length T ≤ i → table lo hi A ≡ found T
-    queue-ended h = sym q ∙ queue-end lo hi A i T l h
+    queue-ended h = sym q ∙ Queue.queue-end (subsets lo hi A) (mostStates - 1) i T (omega arith) h
 
     pub queue-full : i < length T → mostStates ≤ length (meet (targets lo hi A (getD T i [])) T) → table lo hi A ≡ over
-    unfolding meet
-    queue-full h f = sym q ∙ queue-step lo hi A i T l h ∙ queue-over lo hi A (suc i) [] (meet (targets lo hi A (getD T i [])) T) (omega arith) f
+    queue-full h f = sym q ∙ next h ∙ Queue.queue-over (subsets lo hi A) (mostStates - 1) (suc i) (meet (targets lo hi A (getD T i [])) T) (omega arith) (omega arith)

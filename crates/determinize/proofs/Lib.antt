@@ -3,7 +3,6 @@ pub mod Steps
 pub mod Parts
 pub mod Tables
 pub mod Targets
-pub mod Queue
 pub mod Finished
 pub mod Result
 pub mod Runs

@@ -19,7 +19,8 @@ use Rattle.sets.proofs.Tables.{In, index-lt, same-yes, same-self, at-index}
 use Rattle.words.specs.Simulation.{outgoing, step}
 use Rattle.ranges.specs.Cuts.{nextCut, cutAll}
 use Rattle.ranges.proofs.Cuts.{cut-step, cut-end}
-use Rattle.determinize.specs.Determinize.{found, table, states, transitionOf, transitionsOf, transitionsFrom}
+use Rattle.determinize.specs.Determinize.{table, states, transitionOf, transitionsOf, transitionsFrom}
+use Rattle.search.specs.Search.{found}
 use Rattle.determinize.specs.Notes.{number, noteOf, notesOf, notesFrom, sinkNotes, settle}
 use Rattle.determinize.proofs.Finished.{table-few, table-closed}
 use Rattle.determinize.proofs.Sink.{cut-nothing, sink-index}

@@ -22,8 +22,7 @@ use Rattle.sets.proofs.BitSet.{length-entries}
 use Rattle.sets.proofs.Stores.{entries-put}
 use Rattle.ranges.specs.Cuts.{nextCut}
 use Rattle.ranges.proofs.Cuts.{next-le, next-gt}
-use Rattle.determinize.specs.Determinize.{add}
-use Rattle.determinize.specs.Notes.{number, sinkNotes, Placed}
+use Rattle.determinize.specs.Notes.{number, sinkNotes, Placed, add}
 use Rattle.determinize.proofs.Tables.{add-empty, add-known, add-new}
 use Rattle.determinize.proofs.Notes.{index-end}
 
@@ -71,7 +70,7 @@ module _ (t set : List ℕ) (n : ℕ) (few : n < 256) where
     pub place-known : j < n → Placed (setAt set 0) (entries t n) t n j
     place-known l =
         record {
-          added = sym (add-known (setAt set 0) (entries t n) (omega (arith, length-entries t n)));
+          added = sym (add-known (setAt set 0) (entries t n) some (omega (arith, length-entries t n)));
           named = i ∙ number-some (setAt set 0) (entries t n) some;
           few = omega arith;
         }

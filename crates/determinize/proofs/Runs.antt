@@ -18,7 +18,8 @@ use Rattle.words.specs.Simulation.{closure, outgoing, step, simulate, startSet,
 use Rattle.words.proofs.Closures.{join, closure-sound, closure-complete}
 use Rattle.words.proofs.Simulation.{simulate-sound, simulate-complete, closure-shut, accepts-kind}
 use Rattle.words.proofs.Kind.{kindOf-some, kindOf-least}
-use Rattle.determinize.specs.Determinize.{found, table, states, transitionOf, built}
+use Rattle.determinize.specs.Determinize.{table, states, transitionOf, built}
+use Rattle.search.specs.Search.{found}
 use Rattle.lists.proofs.Members.{at-in}
 use Rattle.ranges.proofs.Spans.{cut-stretch, cut-alike}
 use Rattle.determinize.proofs.Steps.{step-alike}

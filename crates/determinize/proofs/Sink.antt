@@ -21,7 +21,8 @@ use Rattle.ranges.specs.Cuts.{nextCut, cutAll}
 use Rattle.ranges.specs.Missing.{covered, missing}
 use Rattle.ranges.proofs.Cuts.{cut-step, cut-end}
 use Rattle.determinize.specs.Partition.{Part, partOf, partition}
-use Rattle.determinize.specs.Determinize.{found, table, transitionOf, transitionsOf, built}
+use Rattle.determinize.specs.Determinize.{table, transitionOf, transitionsOf, built}
+use Rattle.search.specs.Search.{found}
 use Rattle.lists.proofs.Members.{map-in}
 use Rattle.ranges.proofs.Spans.{cut-stretch}
 use Rattle.determinize.proofs.Parts.{part-out}

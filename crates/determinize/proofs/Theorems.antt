@@ -19,7 +19,8 @@ use Rattle.ranges.specs.Missing.{missing, Holes}
 use Rattle.ranges.proofs.Missing.{missing-holes}
 use Rattle.refusal.specs.Answer.{refused, given}
 use Rattle.determinize.specs.Partition.{partition, Parts}
-use Rattle.determinize.specs.Determinize.{found, over, table, built, determinize}
+use Rattle.determinize.specs.Determinize.{table, built, determinize}
+use Rattle.search.specs.Search.{found, over}
 use Rattle.determinize.specs.Deterministic.{Deterministic, Sink}
 use Rattle.determinize.specs.Reached.{MoreThan, AllReached, degrees, MoreTransitions}
 use Rattle.determinize.proofs.Parts.{parts-exact}

@@ -1,12 +1,10 @@
 -- The laws by which the first pass is proved: span by span, and entry by entry of the table.
 use Prim.Native.Nat.{ℕ, _+_, _-_, _*_, _≤_, _<_}
-use mathlib.Core.Bool.{Bool, true, false, cond}
-use mathlib.Core.List.{List, [], _∷_, _++_, append-nil, append-assoc, List·Memᴰ·append-cases, List·Memᴰ·eq-of-singleton}
+use mathlib.Core.List.{List, [], _∷_, _++_, append-nil, append-assoc, List·Memᴰ·eq-of-singleton}
 use mathlib.Core.Logic.{⊎-elim}
 use mathlib.Core.Path.{_≡_, refl, sym, _∙_, ap, subst}
 use native.Mathlib.Omega.{arith}
 use borrow.Author.Needs.{needs}
-use lib.Dec.{ltb}
 use lib.ListN.{getD, length, drop, replicate, length-append, List·getD-append}
 use Rattle.lists.specs.Lists.{tabulate}
 use Rattle.lists.specs.Written.{Written}
@@ -14,7 +12,7 @@ use Rattle.lists.proofs.Written.{written-append}
 use Rattle.automata.specs.Automaton.{Automaton}
 use Rattle.automata.specs.Records.{writeRecords}
 use Rattle.automata.proofs.Records.{write-append}
-use Rattle.sets.specs.Sets.{Set, Canon, index}
+use Rattle.sets.specs.Sets.{Set, Canon}
 use Rattle.sets.specs.BitSet.{setAt, entries}
 use Rattle.sets.specs.Words.{putAt}
 use Rattle.sets.proofs.BitSet.{entry-at, length-entries}
@@ -29,13 +27,12 @@ use Rattle.words.proofs.Stepping.{step-canon}
 use Rattle.ranges.specs.Cuts.{nextCut}
 use Rattle.determinize.specs.declared.Progress.{Progress}
 use Rattle.determinize.specs.declared.Progress.the-variants.{Sets, Over}
-use Rattle.determinize.specs.Determinize.{targets, add, meet, table, states}
-use Rattle.determinize.specs.Notes.{number, notesOf, notesFrom, sinkNotes, Canonical, Placed, Visited, SpansVisited, Parted, Explored}
+use Rattle.determinize.specs.Determinize.{targets, table, states}
+use Rattle.determinize.specs.Notes.{number, notesOf, notesFrom, sinkNotes, Canonical, Placed, Visited, SpansVisited, Parted, Explored, add, meet}
 use Rattle.lists.proofs.Members.{at-in}
-use Rattle.determinize.proofs.Tables.{add-extends, add-in, meet-extends}
+use Rattle.determinize.proofs.Tables.{add-extends, add-in, meet-extends, meet-out}
 use Rattle.determinize.proofs.Targets.{spanTargets}
-use Rattle.determinize.proofs.Queue.{queue}
-use Rattle.determinize.proofs.Laws.{meet-begins, meet-next, meet-ended, meet-full, queue-begins, queue-next, queue-ended, queue-full}
+use Rattle.determinize.proofs.Laws.{meet-begins, meet-next, meet-ended, meet-full, queue-begins, queue-next, queue-ended, queue-full, queue}
 use Rattle.determinize.proofs.Left.{Left, left-all, left-more, left-none}
 use Rattle.determinize.proofs.Placing.{cut-some, cut-less, cut-counts, cut-most, cut-fits}
 use Rattle.determinize.proofs.Notes.{number-later, notes-step, notes-end, notes-states, notes-at, notes-past}
@@ -55,14 +52,9 @@ pub ruleset visitLaws = (visit-done, cut-some, cut-fits, needs)
 -- the sets of the table have states below n
 canonical-add : (n : ℕ) (R : Set) (T : List Set) → Canonical n T → Canon n R → Canonical n (add R T)
 unfolding add
-canonical-add n [] T c d = c
-canonical-add n (q ∷ R) T c d = go (ltb (index (q ∷ R) T) (length T))
-  where
-    go : (b : Bool) → Canonical n (cond b T (T ++ (q ∷ R) ∷ []))
-    go true = c
-    go false = record {
-      each = λ S m. ⊎-elim (c .each S) (λ k. subst (Canon n) (sym (List·Memᴰ·eq-of-singleton k)) d) (List·Memᴰ·append-cases T m);
-    }
+canonical-add n R T c d = record {
+  each = λ S m. ⊎-elim (c .each S) (λ k. subst (Canon n) (sym (List·Memᴰ·eq-of-singleton k)) d) (meet-out (R ∷ []) T S m);
+}
 
 -- the spans of the state j, which is the set S, are visited up to a: t has n sets, r has k notes
 pub record Visiting (lo hi : ℕ) (A : Automaton) (S : Set) (T : List Set) (j : ℕ) (before : List ℕ) (count : ℕ) (t r : List ℕ) (n k a : ℕ) : Type 0 where

@@ -11,14 +11,23 @@ use Rattle.lists.specs.Written.{Written}
 use Rattle.automata.specs.Automaton.{Transition, Automaton}
 use Rattle.automata.specs.Records.{writeRecords}
 use Rattle.automata.specs.WellFormed.{mostStates}
-use Rattle.sets.specs.Sets.{Set, Canon, index}
+use Rattle.search.specs.Search
+use Rattle.search.specs.Search.{over, found}
+use Rattle.sets.specs.Sets.{Set, Canon, same, index}
 use Rattle.sets.specs.BitSet.{entries}
 use Rattle.words.specs.Simulation.{outgoing, step}
 use Rattle.ranges.specs.Span.{Span}
 use Rattle.ranges.specs.Cuts.{cutAll}
 use Rattle.determinize.specs.declared.Progress.{Progress}
 use Rattle.determinize.specs.declared.Progress.the-variants.{Sets, Over}
-use Rattle.determinize.specs.Determinize.{targets, add, meet, over, found, table, states}
+use Rattle.determinize.specs.Determinize.{targets, someOf, table, states}
+
+-- the table after some sets are met, one after the other: a nonempty set that it lacks goes to its end
+unfoldable pub meet : List Set → List Set → List Set
+meet Rs T = Search.meet same (someOf Rs) T
+
+unfoldable pub add : Set → List Set → List Set
+add R T = meet (R ∷ []) T
 
 -- the number by which notes name a set: its place in the table, or 256 for the empty set
 unfoldable pub number : Set → List Set → ℕ

@@ -10,12 +10,13 @@ use Rattle.automata.specs.Automaton.{Transition, Automaton, holds}
 use Rattle.automata.specs.Records.{wordsOf, readRecords}
 use Rattle.automata.specs.WellFormed.{lastSymbol}
 use Rattle.determinize.specs.Partition.{Part, partOf, partition}
-use Rattle.determinize.specs.Determinize.{targets, add, meet, explore, table, states, transitionOf, transitionsOf, transitionsFrom, built, limited, answerOf, determinize}
+use Rattle.determinize.specs.Determinize.{targets, someOf, subsets, table, states, transitionOf, transitionsOf, transitionsFrom, built, limited, answerOf, determinize}
 use Rattle.ranges.specs.Span.{Span, intersectRanges, startsBelow, overlapping}
 use Rattle.ranges.specs.Cuts.{nearer, nextCut, spans, cutAll}
 use Rattle.ranges.specs.Missing.{covered, missing}
 use Rattle.refusal.specs.Answer.{given}
-use Rattle.sets.specs.Sets.{Set, has, pickFrom, same, index}
+use Rattle.search.specs.Search
+use Rattle.sets.specs.Sets.{Set, has, pickFrom, isEmpty, same, index}
 use Rattle.sets.specs.Closure.{through, closed}
 use Rattle.sheets.specs.Checked.{sheetFirst}
 use Rattle.sheets.specs.Fault.{isBad, recordFault, recordsFault, transitionsFault, statesFault, fault}
@@ -63,5 +64,5 @@ pub starred :
     × (determinize 0 lastSymbol (read A) ≡ given D)
     × (D .size ≡ 3)
     × (length (D .transitions) ≡ 4)
-unfolding any keep tabulate holds readRecords has pickFrom same index through closed isEpsilon epsilonRow closures closure outgoing step startSet simulate least kindOf kind nearer nextCut spans cutAll covered missing intersectRanges startsBelow overlapping partOf partition targets add meet explore table states transitionOf transitionsOf transitionsFrom built limited answerOf determinize isBad recordFault recordsFault transitionsFault statesFault fault sheetFirst acceptsWords
+unfolding any keep tabulate holds readRecords has pickFrom same index through closed isEpsilon epsilonRow closures closure outgoing step startSet simulate least kindOf kind nearer nextCut spans cutAll covered missing intersectRanges startsBelow overlapping partOf partition targets isEmpty someOf subsets Search.index Search.add Search.meet Search.explore Search.table table states transitionOf transitionsOf transitionsFrom built limited answerOf determinize isBad recordFault recordsFault transitionsFault statesFault fault sheetFirst acceptsWords
 starred = (refl, refl, refl, refl, refl, refl, refl, refl, refl, refl, refl, refl)
