@@ -12,8 +12,8 @@ use Rattle.automata.specs.Automaton.{Automaton}
 use Rattle.automata.specs.WellFormed.{mostTransitions}
 use Rattle.sets.specs.Sets.{Set}
 use Rattle.refusal.specs.Answer.{refused, given}
-use Rattle.determinize.specs.Determinize.{table, built, limited, answerOf, determinize}
 use Rattle.search.specs.Search.{Found, over, found}
+use Rattle.determinize.specs.Determinize.{table, built, limited, answerOf, determinize}
 
 module _ (lo hi : ℕ) (A : Automaton) where
   -- the three answers

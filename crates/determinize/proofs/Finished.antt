@@ -5,7 +5,7 @@ use mathlib.Core.List.{List, [], _∷_}
 use mathlib.Core.Logic.{_⊎_, inl, inr, ⊎-elim, _↔_}
 use mathlib.Core.Path.{_≡_, refl, sym, _∙_, ap, subst}
 use native.Mathlib.Omega.{arith}
-use borrow.Author.Tests.{ltb-true, ltb-false}
+use borrow.Author.Tests.{ltb-true, ltb-false, not-true}
 use lib.Dec.{ltb}
 use lib.ListN.{getD, length, List·getD-eq-default}
 use Rattle.lists.specs.Lists.{_∈_}
@@ -69,10 +69,7 @@ module _ (lo hi : ℕ) (A : Automaton) where
     reached-some : {S : Set} → graph.Reached G S → S ≡ [] → ⊥
     unfolding subsets someOf
     reached-some graph.start = start-some
-    reached-some (graph.step {x = S} {y = R} r m) = empty-no R (not-true (keep-out (λ R. not (isEmpty R)) R (targets lo hi A S) m .1))
-      where
-        not-true : not (isEmpty R) ≡ true → isEmpty R ≡ false
-        not-true h = ⊎-elim (λ (t : isEmpty R ≡ true). absurd (false≢true (sym (ap not t) ∙ h))) (λ t. t) (test (isEmpty R))
+    reached-some (graph.step {x = S} {y = R} r m) = empty-no R (not-true (isEmpty R) (keep-out (λ R. not (isEmpty R)) R (targets lo hi A S) m .1))
 
     good-words : (T : List Set) → graph.Good G T → Good lo hi A T
     good-words T g = record { distinct = g .distinct; nonempty = λ S m. reached-some (g .reached S m); reached = λ S m. by-words (g .reached S m) }

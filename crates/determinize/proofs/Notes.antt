@@ -19,13 +19,13 @@ use Rattle.sets.proofs.Tables.{In, index-lt, same-yes, same-self, at-index}
 use Rattle.words.specs.Simulation.{outgoing, step}
 use Rattle.ranges.specs.Cuts.{nextCut, cutAll}
 use Rattle.ranges.proofs.Cuts.{cut-step, cut-end}
-use Rattle.determinize.specs.Determinize.{table, states, transitionOf, transitionsOf, transitionsFrom}
 use Rattle.search.specs.Search.{found}
+use Rattle.ranges.proofs.Spans.{cut-stretch}
+use Rattle.words.proofs.Outgoing.{outgoing-nil, step-nil}
+use Rattle.determinize.specs.Determinize.{table, states, transitionOf, transitionsOf, transitionsFrom}
 use Rattle.determinize.specs.Notes.{number, noteOf, notesOf, notesFrom, sinkNotes, settle}
 use Rattle.determinize.proofs.Finished.{table-few, table-closed}
 use Rattle.determinize.proofs.Sink.{cut-nothing, sink-index}
-use Rattle.ranges.proofs.Spans.{cut-stretch}
-use Rattle.words.proofs.Outgoing.{outgoing-nil, step-nil}
 
 -- a set that a table has keeps its number while the table grows
 index-later : (R : Set) {T : List Set} (more : List Set) → R ∈ T → index R (T ++ more) ≡ index R T

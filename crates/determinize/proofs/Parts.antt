@@ -17,9 +17,9 @@ use Rattle.sets.proofs.Sets.{picked, pick-out}
 use Rattle.ranges.specs.Span.{Span}
 use Rattle.ranges.specs.Cuts.{cutAll}
 use Rattle.ranges.specs.Missing.{covered, missing}
-use Rattle.determinize.specs.Partition.{Part, partOf, partition, Leads, Parts}
 use Rattle.lists.proofs.Members.{map-in, map-out, ascending-keep, ascending-map}
 use Rattle.ranges.proofs.Spans.{Ahead, cut-stretch, cut-ascend, cut-ends, cut-uncut, cut-alike, containing}
+use Rattle.determinize.specs.Partition.{Part, partOf, partition, Leads, Parts}
 
 -- parts and holes together are the spans
 pub part-hole-count : (n lo hi : ℕ) (es : List Transition) → length (partition n lo hi es) + length (missing lo hi es) ≡ length (cutAll lo hi es)

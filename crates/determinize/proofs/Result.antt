@@ -15,9 +15,9 @@ use Rattle.sets.specs.Sets.{Set}
 use Rattle.words.specs.Simulation.{outgoing, kindOf}
 use Rattle.ranges.specs.Span.{Span, inside}
 use Rattle.ranges.specs.Cuts.{cutAll}
-use Rattle.determinize.specs.Determinize.{states, transitionOf, transitionsOf, transitionsFrom, built}
 use Rattle.lists.proofs.Members.{map-out}
 use Rattle.ranges.proofs.Spans.{containing}
+use Rattle.determinize.specs.Determinize.{states, transitionOf, transitionsOf, transitionsFrom, built}
 
 -- the sink's set is empty, as past the end of the table
 pub states-at : (T : List Set) (k : ℕ) → getD (states T) k [] ≡ getD T k []

@@ -18,10 +18,10 @@ use Rattle.words.specs.Simulation.{closure, outgoing, step, simulate, startSet,
 use Rattle.words.proofs.Closures.{join, closure-sound, closure-complete}
 use Rattle.words.proofs.Simulation.{simulate-sound, simulate-complete, closure-shut, accepts-kind}
 use Rattle.words.proofs.Kind.{kindOf-some, kindOf-least}
-use Rattle.determinize.specs.Determinize.{table, states, transitionOf, built}
 use Rattle.search.specs.Search.{found}
 use Rattle.lists.proofs.Members.{at-in}
 use Rattle.ranges.proofs.Spans.{cut-stretch, cut-alike}
+use Rattle.determinize.specs.Determinize.{table, states, transitionOf, built}
 use Rattle.determinize.proofs.Steps.{step-alike}
 use Rattle.determinize.proofs.Tables.{index-le}
 use Rattle.determinize.proofs.Finished.{table-start, table-closed, table-all}
@@ -104,7 +104,7 @@ module _ (lo hi : ℕ) (A : Automaton) (ok : InBounds A) (T : List Set) (e : tab
       (t .0, read d (m .0) (eqb-true _ _ (c .0)) (eqb-true _ _ (b .0)) (leb-true _ _ (i .0)) (leb-true _ _ (i .1)) (t .1))
 
   -- a run from the start ends at the set of its word
-  run-end : {k : ℕ} {w : List ℕ} → Run D (D .start) w k → getD T k [] ≡ simulate A (startSet A) w
+  pub run-end : {k : ℕ} {w : List ℕ} → Run D (D .start) w k → getD T k [] ≡ simulate A (startSet A) w
   unfolding built
   run-end {w = w} r = run-set r ∙ ap (λ S. simulate A S w) (table-start lo hi A ok T e)
 

@@ -15,12 +15,12 @@ use Rattle.ranges.specs.Span.{Span}
 use Rattle.ranges.specs.Cuts.{nextCut, cutAll}
 use Rattle.ranges.specs.Missing.{covered}
 use Rattle.ranges.proofs.Cuts.{cut-end, cut-step}
+use Rattle.lists.proofs.Members.{map-in, map-out}
+use Rattle.ranges.proofs.Spans.{cut-stretch, cut-alike, containing}
 use Rattle.determinize.specs.Partition.{partOf, partition}
 use Rattle.determinize.specs.Determinize.{targets}
 use Rattle.determinize.specs.Notes.{add, meet}
 use Rattle.determinize.specs.Reached.{Reached}
-use Rattle.lists.proofs.Members.{map-in, map-out}
-use Rattle.ranges.proofs.Spans.{cut-stretch, cut-alike, containing}
 use Rattle.determinize.proofs.Steps.{step-alike, step-free, simulate-end}
 use Rattle.determinize.proofs.Tables.{meet-nil, meet-cons, add-empty}
 

@@ -25,11 +25,11 @@ use Rattle.words.specs.Gather.{Tables}
 use Rattle.words.proofs.Answers.{start-canon}
 use Rattle.words.proofs.Stepping.{step-canon}
 use Rattle.ranges.specs.Cuts.{nextCut}
+use Rattle.lists.proofs.Members.{at-in}
 use Rattle.determinize.specs.declared.Progress.{Progress}
 use Rattle.determinize.specs.declared.Progress.the-variants.{Sets, Over}
 use Rattle.determinize.specs.Determinize.{targets, table, states}
 use Rattle.determinize.specs.Notes.{number, notesOf, notesFrom, sinkNotes, Canonical, Placed, Visited, SpansVisited, Parted, Explored, add, meet}
-use Rattle.lists.proofs.Members.{at-in}
 use Rattle.determinize.proofs.Tables.{add-extends, add-in, meet-extends, meet-out}
 use Rattle.determinize.proofs.Targets.{spanTargets}
 use Rattle.determinize.proofs.Laws.{meet-begins, meet-next, meet-ended, meet-full, queue-begins, queue-next, queue-ended, queue-full, queue}
