@@ -92,9 +92,11 @@ module _ (lo hi : ℕ) (A : Automaton) (ok : InBounds A) (T : List Set) (e : tab
         let k = index (step A S (s .low)) T in
         let l : k < length T =
         ⊎-elim (λ (z : step A S (s .low) ≡ []). absurd (step-held A ok S (s .low) (x .held) z)) (λ i. index-lt (step A S (s .low)) i)
-        (table-closed lo hi A ok T e j (s .low) (v .above) (omega (arith, v .full, v .below))) in
-        (k, l,
-          subst (λ (q : Part). (record { from = j; kind = 1; first = q .low; last = q .high; to = k }) ∈ D .transitions) (sym (x .is)) (span-in j near s (x .in)))
+        (table-closed lo hi A ok T e j (s .low) (v .above) (omega (arith, v .full, v .below))) in (
+          k,
+          l,
+          subst (λ (q : Part). (record { from = j; kind = 1; first = q .low; last = q .high; to = k }) ∈ D .transitions) (sym (x .is)) (span-in j near s (x .in)),
+        )
 
     pub hole-transition : (s : Span) → s ∈ missing lo hi (outgoing A (simulate A (startSet A) w))
         → (record { from = j; kind = 1; first = s .low; last = s .high; to = length T }) ∈ D .transitions

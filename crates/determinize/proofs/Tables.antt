@@ -20,7 +20,7 @@ use Rattle.determinize.specs.Notes.{add, meet}
 pub same-decides : Decides same
 same-decides = record { same-eq = same-eq; same-self = same-self }
 
-index-same : (S : Set) (T : List Set) → Search.index same S T ≡ index S T
+pub index-same : (S : Set) (T : List Set) → Search.index same S T ≡ index S T
 unfolding Search.index index
 index-same S [] = refl
 index-same S (R ∷ T) = ap (λ i. cond (same S R) 0 (suc i)) (index-same S T)
