@@ -12,7 +12,8 @@ use Rattle.automata.specs.Automaton.{Automaton}
 use Rattle.automata.specs.WellFormed.{mostTransitions}
 use Rattle.sets.specs.Sets.{Set}
 use Rattle.refusal.specs.Answer.{refused, given}
-use Rattle.determinize.specs.Determinize.{Found, over, found, table, built, limited, answerOf, determinize}
+use Rattle.search.specs.Search.{Found, over, found}
+use Rattle.determinize.specs.Determinize.{table, built, limited, answerOf, determinize}
 
 module _ (lo hi : ℕ) (A : Automaton) where
   -- the three answers
@@ -38,7 +39,7 @@ module _ (lo hi : ℕ) (A : Automaton) where
   pub outcome : Outcome
   outcome = go (table lo hi A) refl
     where
-      go : (f : Found) → table lo hi A ≡ f → Outcome
+      go : (f : Found Set) → table lo hi A ≡ f → Outcome
       go over e = too-many-sets e (answer-over e)
       go (found T) e =
           let n = length (built lo hi A T .transitions) in

@@ -16,12 +16,13 @@ use Rattle.words.specs.Simulation.{outgoing}
 use Rattle.ranges.specs.Cuts.{cutAll}
 use Rattle.ranges.specs.Missing.{missing}
 use Rattle.ranges.proofs.Cuts.{cut-end}
+use Rattle.search.specs.Search.{found}
+use Rattle.lists.proofs.Members.{without, without-in, distinct-length}
+use Rattle.words.proofs.Outgoing.{outgoing-nil}
 use Rattle.determinize.specs.Partition.{partition}
-use Rattle.determinize.specs.Determinize.{found, table, states, transitionOf, transitionsOf, transitionsFrom, built}
+use Rattle.determinize.specs.Determinize.{table, states, transitionOf, transitionsOf, transitionsFrom, built}
 use Rattle.determinize.specs.Reached.{AllReached, degrees, MoreTransitions}
-use Rattle.determinize.proofs.Lists.{without, without-in, distinct-length}
 use Rattle.determinize.proofs.Parts.{part-hole-count}
-use Rattle.determinize.proofs.Steps.{outgoing-nil}
 use Rattle.determinize.proofs.Finished.{table-all}
 use Rattle.determinize.proofs.Sink.{cut-nothing}
 

@@ -1,95 +1,123 @@
 -- The finished table is the list of the nonempty sets that words reach; there is none exactly when they are more than 255.
-use Prim.Native.Nat.{ℕ, _≤_, _<_}
-use mathlib.Core.Bool.{true, false, false≢true}
-use mathlib.Core.List.{List, [], _∷_, List·Memᴰ·not-nil, List·Memᴰ·cases-cons}
-use mathlib.Core.Logic.{inl, inr, ⊎-elim, _↔_}
-use mathlib.Core.Path.{_≡_, refl, sym, _∙_}
+use Prim.Native.Nat.{ℕ, _-_, _≤_, _<_}
+use mathlib.Core.Bool.{true, false, not, false≢true}
+use mathlib.Core.List.{List, [], _∷_}
+use mathlib.Core.Logic.{_⊎_, inl, inr, ⊎-elim, _↔_}
+use mathlib.Core.Path.{_≡_, refl, sym, _∙_, ap, subst}
 use native.Mathlib.Omega.{arith}
-use borrow.Author.Tests.{ltb-true, ltb-false}
+use borrow.Author.Tests.{ltb-true, ltb-false, not-true}
 use lib.Dec.{ltb}
 use lib.ListN.{getD, length, List·getD-eq-default}
-use Rattle.lists.specs.Lists.{Distinct}
+use Rattle.lists.specs.Lists.{_∈_}
+use Rattle.lists.proofs.Lists.{keep-in, keep-out}
+use Rattle.lists.proofs.Members.{at-in}
 use Rattle.lists.proofs.Tests.{test}
 use Rattle.automata.specs.Automaton.{Automaton, stay, Word, none, more, InBounds}
 use Rattle.automata.specs.WellFormed.{mostStates}
-use Rattle.sets.specs.Sets.{Set, index}
-use Rattle.sets.proofs.Sets.{has-nil}
-use Rattle.sets.proofs.Tables.{In, at-index}
+use Rattle.search.specs.Search.{Graph, over, found}
+use Rattle.search.specs.Reached as graph
+use Rattle.search.proofs.Queue
+use Rattle.sets.specs.Sets.{Set, isEmpty}
+use Rattle.sets.proofs.Sets.{has-nil, empty-yes, empty-no}
+use Rattle.sets.proofs.Tables.{In}
 use Rattle.words.specs.Simulation.{step, simulate, startSet}
 use Rattle.words.proofs.Closures.{closure-complete}
-use Rattle.determinize.specs.Determinize.{Found, over, found, table}
-use Rattle.determinize.specs.Reached.{Good, MoreThan, AllReached}
-use Rattle.determinize.proofs.Lists.{at-in, distinct-length}
-use Rattle.determinize.proofs.Steps.{step-nil}
-use Rattle.determinize.proofs.Tables.{extends-at, extends-length}
-use Rattle.determinize.proofs.Queue.{Finished, explore-found, explore-over}
+use Rattle.words.proofs.Outgoing.{step-nil}
+use Rattle.words.proofs.Reading.{simulate-nothing}
+use Rattle.determinize.specs.Determinize.{targets, someOf, subsets, table}
+use Rattle.determinize.specs.Reached.{Reached, Good, MoreThan, AllReached}
+use Rattle.determinize.proofs.Tables.{same-decides}
+use Rattle.determinize.proofs.Targets.{targets-reached, targets-in}
+use Rattle.determinize.proofs.Laws.{at-entry}
 
-module _ (lo hi : ℕ) (A : Automaton) (ok : InBounds A) where
-  start-some : startSet A ≡ [] → ⊥
-  unfolding startSet
-  start-some e = false≢true (sym (has-nil (A .start)) ∙ (rw e at (closure-complete A ok (ok .starts) stay)))
+module _ (lo hi : ℕ) (A : Automaton) where
+  -- the graph of the nonempty sets
+  abbrev G : Graph Set
+  G = subsets lo hi A
 
-  start-good : Good lo hi A (startSet A ∷ [])
+  decides : graph.Decides (G .same)
+  unfolding subsets
+  decides = same-decides
+
+  -- a symbol leads to nothing or to a set to which the graph leads
+  next-in : (S : Set) (a : ℕ) → lo ≤ a → a ≤ hi → (step A S a ≡ []) ⊎ (step A S a ∈ G .next S)
+  unfolding subsets someOf
+  next-in S a l u =
+      ⊎-elim (λ (t : isEmpty (step A S a) ≡ true). inl (empty-yes _ t))
+      (λ (t : isEmpty (step A S a) ≡ false).
+      ⊎-elim inl (λ m. inr (keep-in (λ R. not (isEmpty R)) m (ap not t))) (targets-in lo hi A S a l u))
+      (test (isEmpty (step A S a)))
+
+  -- the graph reaches just the nonempty sets that words reach
+  by-words : {S : Set} → graph.Reached G S → Reached lo hi A S
+  unfolding subsets someOf simulate
+  by-words graph.start = ([], none, refl)
+  by-words (graph.step {x = S} {y = R} r m) = targets-reached lo hi A S (by-words r) R (keep-out (λ R. not (isEmpty R)) R (targets lo hi A S) m .0)
+
+  by-graph : (S : Set) → graph.Reached G S → (w : List ℕ) → Word lo hi w → (simulate A S w ≡ []) ⊎ graph.Reached G (simulate A S w)
   unfolding simulate
-  start-good =
-      record {
-        distinct = Distinct.more (λ m. List·Memᴰ·not-nil m) Distinct.none;
-        nonempty = λ S m e. ⊎-elim (λ (q : S ≡ startSet A). start-some (sym q ∙ e)) (λ k. List·Memᴰ·not-nil k) (List·Memᴰ·cases-cons m);
-        reached = λ S m. ⊎-elim (λ (q : S ≡ startSet A). ([], none, sym q)) (λ k. absurd (List·Memᴰ·not-nil k)) (List·Memᴰ·cases-cons m);
-      }
+  by-graph S r [] none = inr r
+  by-graph S r (a ∷ w) (more l u v) =
+      ⊎-elim (λ (z : step A S a ≡ []). inl (ap (λ R. simulate A R w) z ∙ simulate-nothing A w)) (λ m. by-graph (step A S a) (graph.step r m) w v)
+      (next-in S a l u)
 
-  module _ (T : List Set) (e : table lo hi A ≡ found T) where
-    all : Finished lo hi A (startSet A ∷ []) T × (length T < mostStates)
+  module _ (ok : InBounds A) where
+    start-some : startSet A ≡ [] → ⊥
+    unfolding startSet
+    start-some e = false≢true (sym (has-nil (A .start)) ∙ (rw e at (closure-complete A ok (ok .starts) stay)))
+
+    reached-some : {S : Set} → graph.Reached G S → S ≡ [] → ⊥
+    unfolding subsets someOf
+    reached-some graph.start = start-some
+    reached-some (graph.step {x = S} {y = R} r m) = empty-no R (not-true (isEmpty R) (keep-out (λ R. not (isEmpty R)) R (targets lo hi A S) m .1))
+
+    good-words : (T : List Set) → graph.Good G T → Good lo hi A T
+    good-words T g = record { distinct = g .distinct; nonempty = λ S m. reached-some (g .reached S m); reached = λ S m. by-words (g .reached S m) }
+
+    words-reached : (S : Set) → Reached lo hi A S → (S ≡ [] → ⊥) → graph.Reached G S
+    unfolding subsets
+    words-reached S r n =
+        ⊎-elim (λ (z : simulate A (startSet A) (r .0) ≡ []). absurd (n (sym (r .2) ∙ z))) (λ k. subst (graph.Reached G) (r .2) k)
+        (by-graph (startSet A) graph.start (r .0) (r .1))
+
+    words-good : (T : List Set) → Good lo hi A T → graph.Good G T
+    words-good T g = record { distinct = g .distinct; reached = λ S m. words-reached S (g .reached S m) (g .nonempty S m) }
+
+    module _ (T : List Set) (e : table lo hi A ≡ found T) where
+      pub table-few : length T < mostStates
+      unfolding table
+      table-few = omega (arith, Queue.table-few G decides (mostStates - 1) T e)
+
+      pub table-some : 0 < length T
+      unfolding table
+      table-some = Queue.table-some G decides (mostStates - 1) T e
+
+      pub table-start : getD T 0 [] ≡ startSet A
+      unfolding table subsets
+      table-start = at-entry T 0 [] (startSet A) table-some ∙ Queue.table-start G decides (mostStates - 1) T e
+
+      -- every symbol leads from an entry to an entry or to nothing
+      pub table-closed : (j a : ℕ) → lo ≤ a → a ≤ hi → In T (step A (getD T j []) a)
+      unfolding table
+      table-closed j a l u =
+          ⊎-elim
+          (λ (t : ltb j (length T) ≡ true).
+          ⊎-elim inl
+          (λ m. inr (Queue.table-closed G decides (mostStates - 1) T e (getD T j []) (step A (getD T j []) a) (at-in T j [] (ltb-true _ _ t)) m))
+          (next-in (getD T j []) a l u))
+          (λ (t : ltb j (length T) ≡ false).
+          let q : getD T j [] ≡ [] = List·getD-eq-default T [] (ltb-false _ _ t) in
+          inl (rw q (step-nil A a)))
+          (test (ltb j (length T)))
+
+      pub table-all : AllReached lo hi A T
+      unfolding table
+      table-all =
+          let r = Queue.table-all G decides (mostStates - 1) T e in
+          record { good = good-words T (r .good); whole = λ S w n. r .whole S (words-reached S w n) }
+
+    pub over-exact : (table lo hi A ≡ over) ↔ MoreThan 255 lo hi A
     unfolding table
-    all = explore-found lo hi A mostStates 0 (startSet A ∷ []) T e (omega arith) start-good (λ j l. absurd (omega arith))
-
-    pub table-few : length T < mostStates
-    table-few = all .1
-
-    pub table-some : 0 < length T
-    table-some = extends-length (all .0 .extends)
-
-    pub table-start : getD T 0 [] ≡ startSet A
-    table-start = extends-at (all .0 .extends) 0 (omega arith)
-
-    -- every symbol leads from an entry to an entry or to nothing
-    pub table-closed : (j a : ℕ) → lo ≤ a → a ≤ hi → In T (step A (getD T j []) a)
-    table-closed j a l u =
-        ⊎-elim (λ (t : ltb j (length T) ≡ true). all .0 .done j (ltb-true _ _ t) a l u)
-        (λ (t : ltb j (length T) ≡ false).
-        let q : getD T j [] ≡ [] = List·getD-eq-default T [] (ltb-false _ _ t) in
-        inl (rw q (step-nil A a)))
-        (test (ltb j (length T)))
-
-    reached-in : (w : List ℕ) → Word lo hi w → (j : ℕ) → In T (getD T j []) → In T (simulate A (getD T j []) w)
-    unfolding simulate
-    reached-in [] none j i = i
-    reached-in (a ∷ w) (more l u v) j i =
-        let c = table-closed j a l u in
-        let q = at-index T _ c in
-        rw q at (reached-in w v (index (step A (getD T j []) a) T) (rw q c))
-
-    pub table-all : AllReached lo hi A T
-    table-all =
-        record {
-          good = all .0 .good;
-          whole = λ S r n.
-              let b : In T (getD T 0 []) = inr (at-in T 0 [] table-some) in
-              let i : In T S = rw (table-start, r .2) at (reached-in (r .0) (r .1) 0 b) in
-              ⊎-elim (λ (q : S ≡ []). absurd (n q)) (λ m. m) i;
-        }
-
-  pub over-exact : (table lo hi A ≡ over) ↔ MoreThan 255 lo hi A
-  over-exact = (
-    λ e.
-        let r = explore-over lo hi A mostStates 0 (startSet A ∷ []) (unfold table in e) (omega arith) start-good in
-        (r .0, r .1, omega (arith, r .2)),
-    λ m. go (table lo hi A) refl m,
-  )
-    where
-      go : (f : Found) → table lo hi A ≡ f → MoreThan 255 lo hi A → f ≡ over
-      go over e m = refl
-      go (found T) e m =
-          let l = table-few T e in
-          let p = distinct-length (m .0) T (m .1 .distinct) (λ S k. table-all T e .whole S (m .1 .reached S k) (m .1 .nonempty S k)) in
-          absurd (omega (arith, m .2))
+    over-exact =
+        let x = Queue.over-exact G decides (mostStates - 1) in
+        (λ e. let m = x .0 e in (m .0, good-words (m .0) (m .1), m .2), λ m. x .1 (m .0, words-good (m .0) (m .1), m .2))

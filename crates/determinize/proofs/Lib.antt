@@ -1,24 +1,22 @@
 -- What is proved of determinizing.
-pub mod Lists
-pub mod Spans
 pub mod Steps
 pub mod Parts
 pub mod Tables
 pub mod Targets
-pub mod Queue
 pub mod Finished
 pub mod Result
 pub mod Runs
 pub mod Written
 pub mod Sink
 pub mod Counts
-pub mod Outgoing
 pub mod KindByRuns
 pub mod Laws
 pub mod Answers
 pub mod Theorems
 pub mod Left
 pub mod Notes
+pub mod Placing
 pub mod Visits
+pub mod Sections
 pub mod Sheets
 pub mod Made

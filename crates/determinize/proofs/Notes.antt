@@ -1,52 +1,51 @@
 -- Notes of transitions: span by span, state by state, while the table grows; and what they stand for once it is finished.
-use Prim.Native.Nat.{ℕ, zero, suc, _+_, _-_, _≤_, _<_}
-use mathlib.Core.Bool.{Bool, true, false, cond}
+use Prim.Native.Nat.{ℕ, suc, _+_, _-_, _≤_, _<_}
+use mathlib.Core.Bool.{true, false, cond}
 use mathlib.Core.List.{List, [], _∷_, _++_, map, append-nil, append-assoc, List·Memᴰ·head, List·Memᴰ·tail, List·Memᴰ·append-cases, List·Memᴰ·eq-of-singleton}
 use mathlib.Core.Logic.{_⊎_, inl, inr, ⊎-elim}
 use mathlib.Core.Path.{_≡_, refl, sym, _∙_, ap, ap₂}
 use native.Mathlib.Numerals.{add-one}
 use native.Mathlib.Omega.{arith}
-use borrow.Author.Tests.{le-leb, lt-leb, leb-true, leb-false, eq-eqb, ne-eqb}
+use borrow.Author.Tests.{leb-true, leb-false, ne-eqb}
 use lib.Dec.{eqb, leb}
-use lib.ListN.{getD, length, drop, length-append, length-map, List·getD-append, drop-of-length-le}
+use lib.ListN.{getD, length, drop, drop-of-length-le}
 use lib.Seq.{drop-cons}
 use Rattle.lists.specs.Lists.{_∈_}
 use Rattle.lists.proofs.Tests.{test}
-use Rattle.automata.specs.Automaton.{Transition, Automaton, InBounds}
+use Rattle.automata.specs.Automaton.{Automaton, InBounds}
 use Rattle.automata.specs.WellFormed.{mostStates}
 use Rattle.sets.specs.Sets.{Set, same, index}
-use Rattle.sets.proofs.Tables.{In, index-lt, same-yes, same-self, at-index}
+use Rattle.sets.proofs.Tables.{In, index-lt, same-self, at-index}
 use Rattle.words.specs.Simulation.{outgoing, step}
-use Rattle.ranges.specs.Span.{Span}
 use Rattle.ranges.specs.Cuts.{nextCut, cutAll}
 use Rattle.ranges.proofs.Cuts.{cut-step, cut-end}
-use Rattle.determinize.specs.Determinize.{found, table, states, transitionOf, transitionsOf, transitionsFrom}
+use Rattle.search.specs.Search.{found}
+use Rattle.ranges.proofs.Spans.{cut-stretch}
+use Rattle.words.proofs.Outgoing.{outgoing-nil, step-nil}
+use Rattle.search.proofs.Tables
+use Rattle.determinize.specs.Determinize.{table, states, transitionOf, transitionsOf, transitionsFrom}
 use Rattle.determinize.specs.Notes.{number, noteOf, notesOf, notesFrom, sinkNotes, settle}
 use Rattle.determinize.proofs.Finished.{table-few, table-closed}
+use Rattle.determinize.proofs.Tables.{index-same}
 use Rattle.determinize.proofs.Sink.{cut-nothing, sink-index}
-use Rattle.determinize.proofs.Spans.{cut-stretch}
-use Rattle.determinize.proofs.Steps.{outgoing-nil, step-nil}
 
 -- a set that a table has keeps its number while the table grows
-index-later : (R : Set) {T : List Set} (more : List Set) → R ∈ T → index R (T ++ more) ≡ index R T
-unfolding index
-index-later R {T = S ∷ T} more (List·Memᴰ·head e) = rw (same-yes R S e)
-index-later R {T = S ∷ T} more (List·Memᴰ·tail m) = ap (λ i. cond (same R S) 0 (suc i)) (index-later R more m)
+index-later : (R : Set) (T more : List Set) → R ∈ T → index R (T ++ more) ≡ index R T
+index-later R T more m =
+    sym (index-same R (T ++ more)) ∙ Tables.index-before same R T more (omega (arith, index-same R T, index-lt R m)) ∙ index-same R T
 
 -- a set behind a table that lacks it
 pub index-end : (R : Set) (T : List Set) → length T ≤ index R T → index R (T ++ R ∷ []) ≡ length T
-unfolding index
-index-end R [] h = rw (same-self R)
-index-end R (S ∷ T) h =
-    ⊎-elim (λ (t : same R S ≡ true). let k = rw t at h in absurd (omega (arith, k)))
-    (λ (t : same R S ≡ false). let k = rw t at h in rw t (ap suc (index-end R T (omega (arith, k)))))
-    (test (same R S))
+index-end R T h =
+    sym (index-same R (T ++ R ∷ []))
+    ∙ Tables.index-behind same R R T (omega (arith, index-same R T))
+    ∙ ap (λ b. cond b (length T) (suc (length T))) (same-self R)
 
 pub number-later : (R : Set) (T more : List Set) → In T R → number R (T ++ more) ≡ number R T
 unfolding number
 number-later [] T more m = refl
 number-later (q ∷ R) T more (inl e) = let z : _≡_ {A = ℕ} 0 1 = cc in absurd (omega arith)
-number-later (q ∷ R) T more (inr m) = index-later (q ∷ R) more m
+number-later (q ∷ R) T more (inr m) = index-later (q ∷ R) T more m
 
 module _ (hi : ℕ) (A : Automaton) (T : List Set) (j : ℕ) (S : Set) (a : ℕ) where
   pub notes-step : a < hi + 1

@@ -9,7 +9,7 @@ use borrow.Author.Tests.{eq-eqb, eqb-true}
 use lib.Dec.{eqb}
 use lib.ListN.{length, length-map}
 use Rattle.lists.specs.Lists.{_∈_, any, keep}
-use Rattle.lists.proofs.Lists.{any-in, any-out, keep-in, keep-out}
+use Rattle.lists.proofs.Lists.{any-in, any-out, keep-in, keep-out, count-keep}
 use Rattle.lists.proofs.Tests.{and-both, and-parts}
 use Rattle.automata.specs.Automaton.{Transition, holds}
 use Rattle.sets.specs.Sets.{has}
@@ -17,9 +17,9 @@ use Rattle.sets.proofs.Sets.{picked, pick-out}
 use Rattle.ranges.specs.Span.{Span}
 use Rattle.ranges.specs.Cuts.{cutAll}
 use Rattle.ranges.specs.Missing.{covered, missing}
+use Rattle.lists.proofs.Members.{map-in, map-out, ascending-keep, ascending-map}
+use Rattle.ranges.proofs.Spans.{Ahead, cut-stretch, cut-ascend, cut-ends, cut-uncut, cut-alike, containing}
 use Rattle.determinize.specs.Partition.{Part, partOf, partition, Leads, Parts}
-use Rattle.determinize.proofs.Lists.{map-in, map-out, ascending-keep, ascending-map, count-keep}
-use Rattle.determinize.proofs.Spans.{Ahead, cut-stretch, cut-ascend, cut-ends, cut-uncut, cut-alike, containing}
 
 -- parts and holes together are the spans
 pub part-hole-count : (n lo hi : ℕ) (es : List Transition) → length (partition n lo hi es) + length (missing lo hi es) ≡ length (cutAll lo hi es)

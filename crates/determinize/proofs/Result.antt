@@ -9,15 +9,15 @@ use borrow.Author.Tests.{eq-eqb, ne-eqb}
 use lib.Dec.{eqb}
 use lib.ListN.{getD, length, length-append, List·getD-map}
 use Rattle.lists.specs.Lists.{_∈_, keep}
-use Rattle.lists.proofs.Lists.{keep-append, keep-none, keep-all, keep-map}
+use Rattle.lists.proofs.Lists.{keep-append, keep-none, keep-all, keep-map, keep-and}
 use Rattle.automata.specs.Automaton.{Transition, Automaton, holds, carries, leaving}
 use Rattle.sets.specs.Sets.{Set}
 use Rattle.words.specs.Simulation.{outgoing, kindOf}
 use Rattle.ranges.specs.Span.{Span, inside}
 use Rattle.ranges.specs.Cuts.{cutAll}
+use Rattle.lists.proofs.Members.{map-out}
+use Rattle.ranges.proofs.Spans.{containing}
 use Rattle.determinize.specs.Determinize.{states, transitionOf, transitionsOf, transitionsFrom, built}
-use Rattle.determinize.proofs.Lists.{map-out, keep-and}
-use Rattle.determinize.proofs.Spans.{containing}
 
 -- the sink's set is empty, as past the end of the table
 pub states-at : (T : List Set) (k : ℕ) → getD (states T) k [] ≡ getD T k []

@@ -1,7 +1,7 @@
 -- Runs of the result follow the simulation: a word's run ends in the state that stands for the set at the word's end.
 use Prim.Native.Nat.{ℕ, zero, suc, _≤_, _<_}
 use mathlib.Core.Bool.{true, false}
-use mathlib.Core.List.{List, [], _∷_, List·Memᴰ·head}
+use mathlib.Core.List.{List, [], List·Memᴰ·head}
 use mathlib.Core.Logic.{⊎-elim, _↔_}
 use mathlib.Core.Path.{_≡_, refl, sym, _∙_, ap, subst}
 use native.Mathlib.Omega.{arith}
@@ -12,17 +12,20 @@ use Rattle.lists.specs.Lists.{_∈_, Distinct}
 use Rattle.lists.proofs.Lists.{keep-out}
 use Rattle.lists.proofs.Tests.{test, and-parts}
 use Rattle.automata.specs.Automaton.{Transition, Automaton, Run, stay, skip, read, Accepts, Word, none, more, InBounds, holds, carries}
-use Rattle.sets.specs.Sets.{Set, has, index}
+use Rattle.sets.specs.Sets.{Set, has, same, index}
 use Rattle.sets.proofs.Tables.{at-index}
 use Rattle.words.specs.Simulation.{closure, outgoing, step, simulate, startSet, kindOf, kind}
 use Rattle.words.proofs.Closures.{join, closure-sound, closure-complete}
 use Rattle.words.proofs.Simulation.{simulate-sound, simulate-complete, closure-shut, accepts-kind}
 use Rattle.words.proofs.Kind.{kindOf-some, kindOf-least}
-use Rattle.determinize.specs.Determinize.{found, table, states, transitionOf, built}
-use Rattle.determinize.proofs.Lists.{at-in}
-use Rattle.determinize.proofs.Spans.{cut-stretch, cut-alike}
+use Rattle.search.specs.Search.{found}
+use Rattle.lists.proofs.Members.{at-in}
+use Rattle.ranges.proofs.Spans.{cut-stretch, cut-alike}
+use Rattle.search.specs.Search
+use Rattle.search.proofs.Tables.{index-place}
+use Rattle.determinize.specs.Determinize.{table, states, transitionOf, built}
 use Rattle.determinize.proofs.Steps.{step-alike}
-use Rattle.determinize.proofs.Tables.{index-le}
+use Rattle.determinize.proofs.Tables.{index-le, same-decides}
 use Rattle.determinize.proofs.Finished.{table-start, table-closed, table-all}
 use Rattle.determinize.proofs.Result.{states-at, length-states, origin, accept-built, one-built}
 
@@ -32,11 +35,8 @@ zero-both a (suc b) h f = absurd (let g = f (omega arith) in omega arith)
 
 -- distinct sets stand at different places
 distinct-at : (T : List Set) → Distinct T → (i j : ℕ) → i < length T → j < length T → getD T i [] ≡ getD T j [] → i ≡ j
-distinct-at [] d i j a b e = absurd (omega arith)
-distinct-at (S ∷ T) d zero zero a b e = refl
-distinct-at (S ∷ T) (Distinct.more f d) zero (suc j) a b e = absurd (f (rw e (at-in T j [] (omega arith))))
-distinct-at (S ∷ T) (Distinct.more f d) (suc i) zero a b e = absurd (f (rw (sym e) (at-in T i [] (omega arith))))
-distinct-at (S ∷ T) (Distinct.more f d) (suc i) (suc j) a b e = ap suc (distinct-at T d i j (omega arith) (omega arith) e)
+distinct-at T d i j a b e =
+    sym (index-place same same-decides [] d i a) ∙ ap (λ S. Search.index same S T) e ∙ index-place same same-decides [] d j b
 
 module _ (lo hi : ℕ) (A : Automaton) (ok : InBounds A) (T : List Set) (e : table lo hi A ≡ found T) where
   abbrev D : Automaton
@@ -103,7 +103,7 @@ module _ (lo hi : ℕ) (A : Automaton) (ok : InBounds A) (T : List Set) (e : tab
       (t .0, read d (m .0) (eqb-true _ _ (c .0)) (eqb-true _ _ (b .0)) (leb-true _ _ (i .0)) (leb-true _ _ (i .1)) (t .1))
 
   -- a run from the start ends at the set of its word
-  run-end : {k : ℕ} {w : List ℕ} → Run D (D .start) w k → getD T k [] ≡ simulate A (startSet A) w
+  pub run-end : {k : ℕ} {w : List ℕ} → Run D (D .start) w k → getD T k [] ≡ simulate A (startSet A) w
   unfolding built
   run-end {w = w} r = run-set r ∙ ap (λ S. simulate A S w) (table-start lo hi A ok T e)
 

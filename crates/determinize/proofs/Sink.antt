@@ -3,7 +3,7 @@ use Prim.Native.Nat.{ℕ, suc, _-_, _≤_, _<_}
 use mathlib.Core.Bool.{true, false, not}
 use mathlib.Core.List.{List, [], _∷_, map}
 use mathlib.Core.Logic.{⊎-elim, _↔_}
-use mathlib.Core.Path.{_≡_, refl, sym, _∙_, ap}
+use mathlib.Core.Path.{_≡_, refl, sym, _∙_, ap, subst}
 use native.Mathlib.Nat.{eq-or-lt-of-le}
 use native.Mathlib.Omega.{arith}
 use borrow.Author.Tests.{not-true}
@@ -12,22 +12,26 @@ use lib.ListN.{getD, length, List·getD-eq-default}
 use Rattle.lists.specs.Lists.{_∈_, any}
 use Rattle.lists.proofs.Lists.{keep-out}
 use Rattle.lists.proofs.Tests.{test}
-use Rattle.automata.specs.Automaton.{Automaton, InBounds, holds, leaving}
+use Rattle.automata.specs.Automaton.{Automaton, Run, InBounds, holds, leaving}
 use Rattle.sets.specs.Sets.{Set, index}
 use Rattle.sets.proofs.Tables.{index-in, index-lt}
-use Rattle.words.specs.Simulation.{outgoing, step, kindOf}
+use Rattle.words.specs.Simulation.{outgoing, step, simulate, startSet, kindOf}
+use Rattle.words.proofs.Closures.{run-bound}
 use Rattle.ranges.specs.Span.{Span}
 use Rattle.ranges.specs.Cuts.{nextCut, cutAll}
 use Rattle.ranges.specs.Missing.{covered, missing}
 use Rattle.ranges.proofs.Cuts.{cut-step, cut-end}
+use Rattle.search.specs.Search.{found}
+use Rattle.lists.proofs.Members.{map-in}
+use Rattle.ranges.proofs.Spans.{cut-stretch}
+use Rattle.words.proofs.Outgoing.{outgoing-nil, step-nil}
 use Rattle.determinize.specs.Partition.{Part, partOf, partition}
-use Rattle.determinize.specs.Determinize.{found, table, transitionOf, transitionsOf, built}
-use Rattle.determinize.proofs.Lists.{map-in}
-use Rattle.determinize.proofs.Spans.{cut-stretch}
+use Rattle.determinize.specs.Determinize.{table, transitionOf, transitionsOf, built}
 use Rattle.determinize.proofs.Parts.{part-out}
-use Rattle.determinize.proofs.Steps.{step-free, step-held, outgoing-nil, step-nil}
+use Rattle.determinize.proofs.Steps.{step-free, step-held}
 use Rattle.determinize.proofs.Tables.{index-le}
 use Rattle.determinize.proofs.Finished.{table-closed, table-all}
+use Rattle.determinize.proofs.Runs.{built-bounds, run-end}
 use Rattle.determinize.proofs.Result.{leaving-built, accept-built}
 
 -- without ranges there is one span
@@ -69,22 +73,39 @@ module _ (lo hi : ℕ) (A : Automaton) (ok : InBounds A) (T : List Set) (e : tab
       let S = getD T j [] in
       keep-out (λ e. eqb (e .from) j) (transitionOf A T j S s) (D .transitions) (rw (leaving-built lo hi A T j h) (map-in (transitionOf A T j S) m)) .0
 
-  -- the transitions of a state's parts and holes
-  pub part-transition : (j : ℕ) → j < D .size → (p : Part) → p ∈ partition (A .size) lo hi (outgoing A (getD T j []))
-      → (record { from = j; kind = 1; first = p .low; last = p .high; to = index (step A (getD T j []) (p .low)) T }) ∈ D .transitions
-  unfolding transitionOf partOf
-  part-transition j h p m =
-      let r = part-out (A .size) lo hi (outgoing A (getD T j [])) p m in
-      rw (r .is) (span-in j h (r .span) (r .in))
+  -- the transitions of a state to which a word leads: each part leads to a set of the table, each hole to the sink
+  module _ (w : List ℕ) (j : ℕ) (r : Run D (D .start) w j) where
+    here : getD T j [] ≡ simulate A (startSet A) w
+    here = run-end lo hi A ok T e r
 
-  pub hole-transition : (j : ℕ) → j < D .size → (s : Span) → s ∈ missing lo hi (outgoing A (getD T j []))
-      → (record { from = j; kind = 1; first = s .low; last = s .high; to = length T }) ∈ D .transitions
-  unfolding transitionOf missing covered
-  hole-transition j h s m =
-      let S = getD T j [] in
-      let k = keep-out (λ s. not (covered (outgoing A S) s)) s (cutAll lo hi (outgoing A S)) m in
-      let v = cut-stretch lo hi (outgoing A S) s (k .0) in
-      rw (sym (holes-sink j (s .low) (v .above) (omega (arith, v .full, v .below)) .1 (not-true _ (k .1)))) (span-in j h s (k .0))
+    near : j < D .size
+    near = run-bound D (built-bounds lo hi A ok T e) (built-bounds lo hi A ok T e .starts) r
+
+    pub part-transition : (p : Part) → p ∈ partition (A .size) lo hi (outgoing A (simulate A (startSet A) w))
+        → (k : ℕ) × (k < length T) × ((record { from = j; kind = 1; first = p .low; last = p .high; to = k }) ∈ D .transitions)
+    unfolding transitionOf partOf
+    part-transition p m =
+        let S = getD T j [] in
+        let x = part-out (A .size) lo hi (outgoing A S) p (subst (λ R. p ∈ partition (A .size) lo hi (outgoing A R)) (sym here) m) in
+        let s = x .span in
+        let v = cut-stretch lo hi (outgoing A S) s (x .in) in
+        let k = index (step A S (s .low)) T in
+        let l : k < length T =
+        ⊎-elim (λ (z : step A S (s .low) ≡ []). absurd (step-held A ok S (s .low) (x .held) z)) (λ i. index-lt (step A S (s .low)) i)
+        (table-closed lo hi A ok T e j (s .low) (v .above) (omega (arith, v .full, v .below))) in (
+          k,
+          l,
+          subst (λ (q : Part). (record { from = j; kind = 1; first = q .low; last = q .high; to = k }) ∈ D .transitions) (sym (x .is)) (span-in j near s (x .in)),
+        )
+
+    pub hole-transition : (s : Span) → s ∈ missing lo hi (outgoing A (simulate A (startSet A) w))
+        → (record { from = j; kind = 1; first = s .low; last = s .high; to = length T }) ∈ D .transitions
+    unfolding transitionOf missing covered
+    hole-transition s m =
+        let S = getD T j [] in
+        let k = keep-out (λ s. not (covered (outgoing A S) s)) s (cutAll lo hi (outgoing A S)) (subst (λ R. s ∈ missing lo hi (outgoing A R)) (sym here) m) in
+        let v = cut-stretch lo hi (outgoing A S) s (k .0) in
+        rw (sym (holes-sink j (s .low) (v .above) (omega (arith, v .full, v .below)) .1 (not-true _ (k .1)))) (span-in j near s (k .0))
 
   pub sink-loop : lo ≤ hi → leaving D (length T) ≡ record { from = length T; kind = 1; first = lo; last = hi; to = length T } ∷ []
   unfolding transitionsOf transitionOf

@@ -1,12 +1,12 @@
 -- A step from a set: the ranges that leave the set decide it, and it is empty just where none of them holds the symbol.
 use Prim.Native.Nat.{ℕ}
-use mathlib.Core.Bool.{Bool, true, false, _&&_, false≢true}
+use mathlib.Core.Bool.{true, false, _&&_, false≢true}
 use mathlib.Core.List.{List, [], _∷_, _++_}
-use mathlib.Core.Path.{_≡_, refl, sym, _∙_, ap}
+use mathlib.Core.Path.{_≡_, refl, sym, _∙_}
 use borrow.Author.Tests.{eq-eqb, eqb-true, leb-true}
 use lib.Dec.{eqb, leb}
 use Rattle.lists.specs.Lists.{_∈_, any}
-use Rattle.lists.proofs.Lists.{any-in, any-out, any-ext, keep-none, keep-out}
+use Rattle.lists.proofs.Lists.{any-in, any-out, any-ext, keep-out}
 use Rattle.lists.proofs.Tests.{true-same, and-both, and-parts}
 use Rattle.automata.specs.Automaton.{Transition, Automaton, stay, InBounds, holds}
 use Rattle.sets.specs.Sets.{Set, has, pick}
@@ -28,19 +28,6 @@ module _ (A : Automaton) where
   step-free S a f =
       no-member (step A S a)
       (λ q h. let r = any-out _ (outgoing A S) (pick-out 0 (A .size) _ q h .2) in false≢true (sym f ∙ any-in (holds a) (r .1) (and-parts (holds a (r .0)) _ (r .2) .0)))
-
-  -- no range leaves the empty set
-  pub outgoing-nil : outgoing A [] ≡ []
-  unfolding outgoing has
-  outgoing-nil = keep-none _ (A .transitions) (λ e m. none (eqb (e .kind) 1))
-    where
-      none : (b : Bool) → (b && false) ≡ false
-      none true = refl
-      none false = refl
-
-  pub step-nil : (a : ℕ) → step A [] a ≡ []
-  unfolding any
-  step-nil a = step-free [] a (ap (any (holds a)) outgoing-nil)
 
   pub simulate-end : (S : Set) (w : List ℕ) (a : ℕ) → simulate A S (w ++ a ∷ []) ≡ step A (simulate A S w) a
   unfolding simulate

@@ -15,13 +15,14 @@ use Rattle.ranges.specs.Span.{Span}
 use Rattle.ranges.specs.Cuts.{nextCut, cutAll}
 use Rattle.ranges.specs.Missing.{covered}
 use Rattle.ranges.proofs.Cuts.{cut-end, cut-step}
+use Rattle.lists.proofs.Members.{map-in, map-out}
+use Rattle.ranges.proofs.Spans.{cut-stretch, cut-alike, containing}
 use Rattle.determinize.specs.Partition.{partOf, partition}
-use Rattle.determinize.specs.Determinize.{targets, add, meet}
+use Rattle.determinize.specs.Determinize.{targets}
+use Rattle.determinize.specs.Notes.{add, meet}
 use Rattle.determinize.specs.Reached.{Reached}
-use Rattle.determinize.proofs.Lists.{map-in, map-out}
-use Rattle.determinize.proofs.Spans.{cut-stretch, cut-alike, containing}
 use Rattle.determinize.proofs.Steps.{step-alike, step-free, simulate-end}
-use Rattle.determinize.proofs.Tables.{add-empty}
+use Rattle.determinize.proofs.Tables.{meet-nil, meet-cons, add-empty}
 
 word-end : {lo hi a : ℕ} {w : List ℕ} → Word lo hi w → lo ≤ a → a ≤ hi → Word lo hi (w ++ a ∷ [])
 word-end none l u = more l u none
@@ -63,12 +64,14 @@ module _ (lo hi : ℕ) (A : Automaton) where
 
     -- a hole leads to nothing
     meet-held : (l : List Span) (T : List Set) → meet (map (λ s. step A S (s .low)) (keep (covered es) l)) T ≡ meet (map (λ s. step A S (s .low)) l) T
-    unfolding keep meet es covered
+    unfolding keep es covered
     meet-held [] T = refl
     meet-held (s ∷ l) T =
-        ⊎-elim (λ (t : any (holds (s .low)) es ≡ true). rw t (meet-held l (add (step A S (s .low)) T)))
+        let R = step A S (s .low) in
+        let Rs : List Span → List Set = map (λ s. step A S (s .low)) in
+        ⊎-elim (λ (t : any (holds (s .low)) es ≡ true). rw t (meet-cons R (Rs (keep (covered es) l)) T ∙ meet-held l (add R T) ∙ sym (meet-cons R (Rs l) T)))
         (λ (t : any (holds (s .low)) es ≡ false).
-        rw t (meet-held l T ∙ ap (meet (map (λ s. step A S (s .low)) l)) (sym (ap (λ R. add R T) (step-free A S (s .low) t) ∙ add-empty T))))
+        rw t (meet-held l T ∙ ap (meet (Rs l)) (sym (ap (λ R. add R T) (step-free A S (s .low) t) ∙ add-empty T)) ∙ sym (meet-cons R (Rs l) T)))
         (test (any (holds (s .low)) es))
 
     -- the parts are met span by span
@@ -78,9 +81,9 @@ module _ (lo hi : ℕ) (A : Automaton) where
 
     pub meet-step : (a : ℕ) (T : List Set) → a ≤ hi
         → meet (spanTargets a hi A S) T ≡ meet (spanTargets (nextCut a (suc hi) (outgoing A S)) hi A S) (add (step A S a) T)
-    unfolding spanTargets meet
-    meet-step a T h = ap (λ l. meet (map (λ s. step A S (s .low)) l) T) (cut-step hi (outgoing A S) a h)
+    unfolding spanTargets
+    meet-step a T h = ap (λ l. meet (map (λ s. step A S (s .low)) l) T) (cut-step hi (outgoing A S) a h) ∙ meet-cons (step A S a) _ T
 
     pub meet-end : (a : ℕ) (T : List Set) → hi < a → meet (spanTargets a hi A S) T ≡ T
-    unfolding spanTargets meet
-    meet-end a T h = ap (λ l. meet (map (λ s. step A S (s .low)) l) T) (cut-end hi (outgoing A S) a h)
+    unfolding spanTargets
+    meet-end a T h = ap (λ l. meet (map (λ s. step A S (s .low)) l) T) (cut-end hi (outgoing A S) a h) ∙ meet-nil T

@@ -3,31 +3,34 @@
 use Prim.Native.Nat.{ℕ, suc, _+_, _≤_, _<_}
 use mathlib.Core.List.{List, [], _∷_}
 use mathlib.Core.Logic.{_↔_}
-use mathlib.Core.Path.{_≡_, refl, sym, _∙_}
+use mathlib.Core.Path.{_≡_, refl, sym, _∙_, subst}
 use native.Mathlib.Omega.{arith}
 use lib.ListN.{length}
-use Rattle.lists.specs.Lists.{keep}
+use Rattle.lists.specs.Lists.{_∈_, any, keep}
 use Rattle.lists.proofs.Lists.{keep-out}
 use Rattle.automata.specs.Automaton.{Transition, Automaton, Run, Accepts, Word, InBounds, carries}
 use Rattle.automata.specs.WellFormed.{WellFormed, Fits}
-use Rattle.sets.specs.Sets.{Set}
+use Rattle.sets.specs.Sets.{Set, has, pick}
 use Rattle.sheets.specs.Fault.{fault}
 use Rattle.sheets.specs.Sheet.{read, write}
 use Rattle.sheets.proofs.Meaning.{read-write-sheet, write-accepted}
-use Rattle.words.specs.Simulation.{outgoing, kind}
+use Rattle.words.specs.Simulation.{closure, outgoing, step, simulate, startSet, kind}
+use Rattle.ranges.specs.Span.{Span}
 use Rattle.ranges.specs.Missing.{missing, Holes}
 use Rattle.ranges.proofs.Missing.{missing-holes}
 use Rattle.refusal.specs.Answer.{refused, given}
-use Rattle.determinize.specs.Partition.{partition, Parts}
-use Rattle.determinize.specs.Determinize.{found, over, table, built, determinize}
+use Rattle.search.specs.Search.{found, over}
+use Rattle.determinize.specs.Partition.{Part, partOf, partition, Parts}
+use Rattle.determinize.specs.Determinize.{table, built, determinize}
 use Rattle.determinize.specs.Deterministic.{Deterministic, Sink}
 use Rattle.determinize.specs.Reached.{MoreThan, AllReached, degrees, MoreTransitions}
 use Rattle.determinize.proofs.Parts.{parts-exact}
+use Rattle.determinize.proofs.Steps.{part-step}
 use Rattle.determinize.proofs.Finished.{table-few, over-exact}
 use Rattle.determinize.proofs.Result.{one-built}
 use Rattle.determinize.proofs.Runs.{transition-facts, words-kept, kind-kept, state-reached}
 use Rattle.determinize.proofs.Written.{write-room, built-well-formed}
-use Rattle.determinize.proofs.Sink.{sink-loop, sink-rejects}
+use Rattle.determinize.proofs.Sink.{part-transition, hole-transition, sink-loop, sink-rejects}
 use Rattle.determinize.proofs.Counts.{listed-states, listed-transitions, many-exact}
 use Rattle.determinize.proofs.Answers.{Outcome, too-many-sets, too-many-transitions, fits, outcome, Built, made-built, refused-over, refused-many, answer-over}
 
@@ -39,6 +42,11 @@ module _ (lo hi : ℕ) (A : Automaton) (ok : InBounds A) where
 
   pub determinize-holes : WellFormed A → (S : Set) → Holes lo hi (outgoing A S) (missing lo hi (outgoing A S))
   determinize-holes w S = missing-holes lo hi (outgoing A S) (unfold outgoing in λ e m. w .sound e (keep-out _ e (A .transitions) m .0) .full)
+
+  -- a part leads to the union of the closures of its targets
+  pub determinize-targets : (S : Set) (s : Span)
+      → step A S (s .low) ≡ pick (A .size) (λ q. any (λ t. has q (closure A t)) (partOf (A .size) (outgoing A S) s .targets))
+  determinize-targets = part-step A ok
 
   module _ (D : Automaton) (e : determinize lo hi A ≡ given D) where
     by : Built lo hi A D
@@ -75,6 +83,25 @@ module _ (lo hi : ℕ) (A : Automaton) (ok : InBounds A) where
           loops = sink-loop lo hi A ok (by .sets) (by .whole) h;
           rejects = sink-rejects lo hi A ok (by .sets) (by .whole);
         })
+
+    -- a state to which a word leads has a transition for each part, to a state that is not the sink, and one for each hole, to the sink
+    module _ (w : List ℕ) (j : ℕ) (r : Run D (D .start) w j) where
+      run : Run (built lo hi A (by .sets)) (built lo hi A (by .sets) .start) w j
+      run = subst (λ (E : Automaton). Run E (E .start) w j) (by .is) r
+
+      pub determinize-part : (p : Part) → p ∈ partition (A .size) lo hi (outgoing A (simulate A (startSet A) w))
+          → (k : ℕ) × (suc k < D .size) × ((record { from = j; kind = 1; first = p .low; last = p .high; to = k }) ∈ D .transitions)
+      unfolding built
+      determinize-part p m =
+          let x = part-transition lo hi A ok (by .sets) (by .whole) w j run p m in
+          rw (by .is) (x .0, omega (arith, x .1), x .2)
+
+      pub determinize-hole : (s : Span) → s ∈ missing lo hi (outgoing A (simulate A (startSet A) w)) → (k : ℕ) → D .size ≡ suc k
+          → (record { from = j; kind = 1; first = s .low; last = s .high; to = k }) ∈ D .transitions
+      unfolding built
+      determinize-hole s m k n =
+          let z : length (by .sets) ≡ k = let y = rw (by .is) at n in omega (arith, y) in
+          rw (by .is, ← z) (hole-transition lo hi A ok (by .sets) (by .whole) w j run s m)
 
     -- the states and the transitions, counted in any list of the nonempty sets that words reach
     pub determinize-states : (U : List Set) → AllReached lo hi A U → D .size ≡ length U + 1

@@ -1,180 +1,60 @@
--- The laws by which the first pass of the code is proved.
-use Prim.Native.Nat.{ℕ, zero, suc, _+_, _-_, _*_, _≤_, _<_}
-use mathlib.Core.Bool.{Bool, true, false, cond}
-use mathlib.Core.List.{List, [], _∷_, _++_, append-nil, append-assoc, List·Memᴰ·append-cases, List·Memᴰ·eq-of-singleton}
-use mathlib.Core.Logic.{inl, inr, ⊎-elim}
+-- The laws by which the first pass is proved: span by span, and entry by entry of the table.
+use Prim.Native.Nat.{ℕ, _+_, _-_, _*_, _≤_, _<_}
+use mathlib.Core.List.{List, [], _∷_, _++_, append-nil, append-assoc, List·Memᴰ·eq-of-singleton}
+use mathlib.Core.Logic.{⊎-elim}
 use mathlib.Core.Path.{_≡_, refl, sym, _∙_, ap, subst}
-use native.Mathlib.Numerals.{add-one}
 use native.Mathlib.Omega.{arith}
 use borrow.Author.Needs.{needs}
-use borrow.Author.Tests.{le-leb, lt-leb, ltb-true, ltb-false}
-use lib.Dec.{ltb}
-use mir.Syntax.{w32}
-use mir.Val.{Fits}
-use lib.ListN.{getD, length, drop, replicate, length-append, List·getD-append, length-set}
-use lib.Seq.{sets, set-out}
-use Rattle.lists.specs.Lists.{_∈_, tabulate}
+use lib.ListN.{getD, length, drop, replicate, length-append, List·getD-append}
+use Rattle.lists.specs.Lists.{tabulate}
 use Rattle.lists.specs.Written.{Written}
-use Rattle.lists.proofs.Tests.{test}
-use Rattle.lists.proofs.Written.{written-none, written-append, written-length}
-use Rattle.automata.specs.Automaton.{Transition, Automaton, leaving, rangesOf}
-use Rattle.automata.specs.Records.{readRecords, writeRecords}
+use Rattle.lists.proofs.Written.{written-append}
+use Rattle.automata.specs.Automaton.{Automaton}
+use Rattle.automata.specs.Records.{writeRecords}
 use Rattle.automata.proofs.Records.{write-append}
-use Rattle.automata.specs.WellFormed.{mostStates}
-use Rattle.sets.specs.Sets.{Set, Canon, isEmpty, index, membersFrom, nextMember}
+use Rattle.sets.specs.Sets.{Set, Canon}
 use Rattle.sets.specs.BitSet.{setAt, entries}
 use Rattle.sets.specs.Words.{putAt}
-use Rattle.sets.proofs.Sets.{empty-yes, empty-no, has-below}
-use Rattle.sets.proofs.Members.{visit-has}
-use Rattle.sets.proofs.BitSet.{at-canon, entry-at, length-entries}
-use Rattle.sets.proofs.Stores.{put-same, entries-put}
-use Rattle.sets.proofs.Tables.{In, index-in}
-use Rattle.sheets.specs.Accepted.{Accepted}
-use Rattle.sheets.specs.Runs.{Indexed, RunAt}
+use Rattle.sets.proofs.BitSet.{entry-at, length-entries}
+use Rattle.sets.proofs.Stores.{put-same}
+use Rattle.sets.proofs.Tables.{In}
 use Rattle.sheets.specs.Sheet.{stateCount, read}
 use Rattle.sheets.proofs.Meaning.{read-well}
-use Rattle.sheets.proofs.Runs.{run-at}
 use Rattle.words.specs.Simulation.{outgoing, step, startSet}
 use Rattle.words.specs.Gather.{Tables}
 use Rattle.words.proofs.Answers.{start-canon}
 use Rattle.words.proofs.Stepping.{step-canon}
-use Rattle.words.proofs.Visiting.{member-here, member-later}
 use Rattle.ranges.specs.Cuts.{nextCut}
-use Rattle.ranges.proofs.Cuts.{next-le, next-gt}
+use Rattle.lists.proofs.Members.{at-in}
 use Rattle.determinize.specs.declared.Progress.{Progress}
 use Rattle.determinize.specs.declared.Progress.the-variants.{Sets, Over}
-use Rattle.determinize.specs.Determinize.{targets, add, meet, over, found, table, states}
-use Rattle.determinize.specs.Notes.{number, notesOf, notesFrom, sinkNotes, Canonical, Placed, Visited, SpansVisited, Parted, TableFinished, Explored}
-use Rattle.determinize.proofs.Lists.{at-in}
-use Rattle.determinize.proofs.Tables.{add-empty, add-known, add-new, add-extends, add-in, index-le, meet-extends}
+use Rattle.determinize.specs.Determinize.{targets, table, states}
+use Rattle.determinize.specs.Notes.{number, notesOf, notesFrom, sinkNotes, Canonical, Placed, Visited, SpansVisited, Parted, Explored, add, meet}
+use Rattle.determinize.proofs.Tables.{add-extends, add-in, meet-extends, meet-out}
 use Rattle.determinize.proofs.Targets.{spanTargets}
-use Rattle.determinize.proofs.Outgoing.{member-cut-begins, member-cut-next, member-cut-ended}
-use Rattle.determinize.proofs.Queue.{queue}
-use Rattle.determinize.proofs.Laws.{meet-begins, meet-next, meet-ended, meet-full, queue-begins, queue-next, queue-ended, queue-full}
+use Rattle.determinize.proofs.Laws.{meet-begins, meet-next, meet-ended, meet-full, queue-begins, queue-next, queue-ended, queue-full, queue}
 use Rattle.determinize.proofs.Left.{Left, left-all, left-more, left-none}
-use Rattle.determinize.proofs.Notes.{index-end, number-later, notes-step, notes-end, notes-states, notes-at, notes-past}
-
--- a note behind 2,048 others is not stored
-sets-past : (l : List ℕ) (i : ℕ) (vs : List ℕ) → length l ≤ i → sets l i vs ≡ l
-sets-past l i [] h = refl
-sets-past l i (v ∷ vs) h = ap (λ t. sets t (suc i) vs) (set-out l i v h) ∙ sets-past l (suc i) vs (omega arith)
-
-pub note-past : (l : List ℕ) (k a b c d e : ℕ) → length l ≡ 10240 → 2048 ≤ k → Written l (5 * k) (a ∷ b ∷ c ∷ d ∷ e ∷ []) l (5 * k + 5)
-note-past l k a b c d e h g = record { stored = sym (sets-past l (5 * k) (a ∷ b ∷ c ∷ d ∷ e ∷ []) (omega arith)); behind = refl }
-
-pub note-put : (l m : List ℕ) (k a b c d e r : ℕ) → Written l (5 * k) (a ∷ b ∷ c ∷ d ∷ e ∷ []) m r → Written l (5 * k) (a ∷ b ∷ c ∷ d ∷ e ∷ []) m (5 * k + 5)
-note-put l m k a b c d e r w = record { stored = w .stored; behind = refl }
-
-pub ruleset noteLaws = (note-past, note-put, needs)
-
--- the sink's loop
-pub sink-noted : (l m : List ℕ) (k lo hi j : ℕ) → lo ≤ hi → Written l (5 * k) (j ∷ 1 ∷ lo ∷ hi ∷ 256 ∷ []) m (5 * k + 5)
-    → Written l (5 * k) (writeRecords (sinkNotes lo hi j)) m (5 * (k + 1))
-unfolding sinkNotes writeRecords
-sink-noted l m k lo hi j h w = rw (le-leb lo hi h) (record { stored = w .stored; behind = omega arith })
-
-pub sink-none : (l : List ℕ) (k lo hi j : ℕ) → hi < lo → Written l (5 * k) (writeRecords (sinkNotes lo hi j)) l (5 * k)
-unfolding sinkNotes writeRecords
-sink-none l k lo hi j h = rw (lt-leb lo hi h) (written-none l (5 * k))
-
-pub ruleset sinkLaws = (sink-noted, sink-none, needs)
-
--- the place of a set in the table
-module _ (t set : List ℕ) (n : ℕ) (few : n < 256) where
-  pub place-empty : (b : Bool) → b ≡ isEmpty (setAt set 0) → b ≡ true → Placed (setAt set 0) (entries t n) t n 256
-  place-empty b e h =
-      let z : setAt set 0 ≡ [] = empty-yes (setAt set 0) (sym e ∙ h) in
-      record { added = sym (ap (λ R. add R (entries t n)) z ∙ add-empty (entries t n)); named = sym (ap (λ R. number R (entries t n)) z ∙ (unfold number in refl)); few = omega arith }
-
-  number-some : (R : Set) (T : List Set) → (R ≡ [] → ⊥) → index R T ≡ number R T
-  unfolding number
-  number-some [] T h = absurd (h refl)
-  number-some (q ∷ R) T h = refl
-
-  module _ (b : Bool) (e : b ≡ isEmpty (setAt set 0)) (h : b ≡ false) (j : ℕ) (i : j ≡ index (setAt set 0) (entries t n)) where
-    some : setAt set 0 ≡ [] → ⊥
-    some = empty-no (setAt set 0) (sym e ∙ h)
-
-    pub place-known : j < n → Placed (setAt set 0) (entries t n) t n j
-    place-known l =
-        record {
-          added = sym (add-known (setAt set 0) (entries t n) (omega (arith, length-entries t n)));
-          named = i ∙ number-some (setAt set 0) (entries t n) some;
-          few = omega arith;
-        }
-
-    pub place-new : n ≤ j → length t ≡ 1024 → (u : List ℕ) → u ≡ putAt t (4 * n) set 0 → Placed (setAt set 0) (entries t n) u (n + 1) n
-    place-new l k u f =
-        let R = setAt set 0 in
-        let T = entries t n in
-        let a : entries u (n + 1) ≡ T ++ R ∷ [] = ap (λ x. entries x (n + 1)) f ∙ entries-put t n set (omega arith) in
-        let far : length T ≤ index R T = omega (arith, length-entries t n) in
-        record {
-          added = a ∙ sym (add-new R T some far);
-          named = sym (sym (number-some R (entries u (n + 1)) some) ∙ ap (index R) a ∙ index-end R T far ∙ length-entries t n);
-          few = omega arith;
-        }
-
-pub ruleset placeLaws = (place-empty, place-known, place-new, needs)
-
--- the next cut, member by member
-module _ (s : List ℕ) (a : Accepted s) (set : List ℕ) (above top : ℕ) where
-  pub cut-run : (starts : List ℕ) (q : ℕ) → Indexed s starts → Canon (stateCount s) (setAt set 0) → q ≡ nextMember (setAt set 0) q → q < 256 → RunAt s starts q
-  cut-run starts q i n h l = run-at s a starts q i (has-below (stateCount s) (setAt set 0) n q (visit-has (setAt set 0) (at-canon set 0) q h l))
-
-  pub cut-begins : (q : ℕ) → q ≡ nextMember (setAt set 0) 0 → nextCut above top (outgoing (read s) (membersFrom q (setAt set 0))) ≡ nextCut above top (outgoing (read s) (setAt set 0))
-  cut-begins q e = member-cut-begins (read s) (read-well s a) (setAt set 0) (at-canon set 0) above top q e
-
-  module _ (q found : ℕ) (i : nextCut above found (outgoing (read s) (membersFrom q (setAt set 0))) ≡ nextCut above top (outgoing (read s) (setAt set 0))) where
-    pub cut-next : q ≡ nextMember (setAt set 0) q → q < 256 → (x next : ℕ) (run : List ℕ) → x ≡ nextMember (setAt set 0) (q + 1) → run ≡ writeRecords (leaving (read s) q) → next ≡ nextCut above found (rangesOf (readRecords run))
-        → nextCut above next (outgoing (read s) (membersFrom x (setAt set 0))) ≡ nextCut above top (outgoing (read s) (setAt set 0))
-    cut-next h l x next run k r e = member-cut-next (read s) (read-well s a) (setAt set 0) (at-canon set 0) above top q x found next run i h l k r e
-
-    pub cut-ended : 256 ≤ q → found ≡ nextCut above top (outgoing (read s) (setAt set 0))
-    cut-ended l = member-cut-ended (read s) (read-well s a) (setAt set 0) (at-canon set 0) above top q found i l
-
-pub ruleset cutLaws = (cut-run, cut-begins, cut-next, cut-ended, member-here, member-later, needs)
-
--- the bounds of the next cut
-module _ (a hi c : ℕ) (es : List Transition) (e : c ≡ nextCut a (hi + 1) es) where
-  pub cut-some : a < hi + 1 → 1 ≤ c
-  cut-some h = omega (arith, next-gt a (hi + 1) es h)
-
-  pub cut-less : a < hi + 1 → hi + 1 - c < hi + 1 - a
-  cut-less h = omega (arith, next-gt a (hi + 1) es h)
-
-  pub cut-counts : (k lo count : ℕ) → a < hi + 1 → k + lo ≤ count + a → k + 1 + lo ≤ count + c
-  cut-counts k lo count h l = omega (arith, next-gt a (hi + 1) es h)
-
-  pub cut-most : Fits w32 hi → c ≤ 4294967296
-  cut-most f = omega (arith, next-le a (hi + 1) es)
-
-  pub cut-fits : Fits w32 hi → Fits w32 (c - 1)
-  cut-fits f = omega (arith, next-le a (hi + 1) es)
+use Rattle.determinize.proofs.Placing.{cut-some, cut-less, cut-counts, cut-most, cut-fits}
+use Rattle.determinize.proofs.Notes.{number-later, notes-step, notes-end, notes-states, notes-at, notes-past}
 
 -- a span is visited
-pub visit-done : (R : Set) (T : List Set) (t u r v : List ℕ) (n m j first last k to : ℕ) → setAt u 0 ≡ R → Placed (setAt u 0) T t m to
+pub visit-done : (R : Set) (T : List Set) (t u r v : List ℕ) (m j first last k to : ℕ) → setAt u 0 ≡ R → Placed (setAt u 0) T t m to
     → Written r (5 * k) (j ∷ 1 ∷ first ∷ last ∷ to ∷ []) v (5 * k + 5) → Visited R T j first last r k t v m
-visit-done R T t u r v n m j first last k to e p w =
+visit-done R T t u r v m j first last k to e p w =
     record {
       added = p .added ∙ ap (λ S. add S T) e;
       few = p .few;
       noted = subst (λ x. Written r (5 * k) (j ∷ 1 ∷ first ∷ last ∷ x ∷ []) v (5 * k + 5)) (p .named ∙ ap (λ S. number S (entries t m)) e) w;
     }
 
-pub ruleset visitLaws = (visit-done, needs)
+pub ruleset visitLaws = (visit-done, cut-some, cut-fits, needs)
 
 -- the sets of the table have states below n
 canonical-add : (n : ℕ) (R : Set) (T : List Set) → Canonical n T → Canon n R → Canonical n (add R T)
 unfolding add
-canonical-add n [] T c d = c
-canonical-add n (q ∷ R) T c d = go (ltb (index (q ∷ R) T) (length T))
-  where
-    go : (b : Bool) → Canonical n (cond b T (T ++ (q ∷ R) ∷ []))
-    go true = c
-    go false = record {
-      each = λ S m. ⊎-elim (c .each S) (λ k. subst (Canon n) (sym (List·Memᴰ·eq-of-singleton k)) d) (List·Memᴰ·append-cases T m);
-    }
+canonical-add n R T c d = record {
+  each = λ S m. ⊎-elim (c .each S) (λ k. subst (Canon n) (sym (List·Memᴰ·eq-of-singleton k)) d) (meet-out (R ∷ []) T S m);
+}
 
 -- the spans of the state j, which is the set S, are visited up to a: t has n sets, r has k notes
 pub record Visiting (lo hi : ℕ) (A : Automaton) (S : Set) (T : List Set) (j : ℕ) (before : List ℕ) (count : ℕ) (t r : List ℕ) (n k a : ℕ) : Type 0 where
@@ -237,7 +117,7 @@ pub canonical-next : (s starts c : List ℕ) (S : Set) (T : List Set) (a j last 
 canonical-next s starts c S T a j last k n r t r′ x d v =
     subst (Canonical (stateCount s)) (sym (v .added)) (canonical-add (stateCount s) (step (read s) S a) T d (step-canon (read s) (read-well s (x .accepted) .states) a S))
 
-pub ruleset spanLaws = (visit-begins, visit-next, visit-over, visit-ended, canonical-next, cut-some, cut-less, cut-counts, cut-most, cut-fits, needs)
+pub ruleset spanLaws = (visit-begins, visit-next, visit-over, visit-ended, canonical-next, cut-less, cut-counts, cut-most, needs)
 
 -- a row of the table, copied into a set of zeros
 module _ (set t : List ℕ) (i : ℕ) (e : set ≡ putAt (replicate 4 0) 0 t (4 * i)) where

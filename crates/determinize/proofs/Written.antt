@@ -17,9 +17,10 @@ use Rattle.sets.specs.Sets.{Set}
 use Rattle.sheets.specs.Sheet.{write}
 use Rattle.words.specs.Simulation.{outgoing, kindOf}
 use Rattle.words.proofs.Kind.{kindOf-some}
-use Rattle.determinize.specs.Determinize.{found, table, states, transitionOf, transitionsOf, transitionsFrom, built}
-use Rattle.determinize.proofs.Lists.{ascending-map, ascending-append}
-use Rattle.determinize.proofs.Spans.{Ahead, cut-ascend}
+use Rattle.search.specs.Search.{found}
+use Rattle.lists.proofs.Members.{ascending-map, ascending-append}
+use Rattle.ranges.proofs.Spans.{Ahead, cut-ascend}
+use Rattle.determinize.specs.Determinize.{table, states, transitionOf, transitionsOf, transitionsFrom, built}
 use Rattle.determinize.proofs.Result.{length-states, from-of, from-above, accept-built}
 use Rattle.determinize.proofs.Runs.{transition-facts, built-bounds}
 

@@ -1,13 +1,16 @@
 -- Determinizing (document 01, "Determinizing"): the table of the nonempty sets that words reach, and the automaton made from it. `lo` and `hi` are
 -- the least and the greatest symbol.
-use Prim.Native.Nat.{ℕ, zero, suc}
-use mathlib.Core.Bool.{cond}
+use Prim.Native.Nat.{ℕ, suc, _-_}
+use mathlib.Core.Bool.{cond, not}
 use mathlib.Core.List.{List, [], _∷_, _++_, map}
 use lib.Dec.{ltb}
-use lib.ListN.{getD, length}
+use lib.ListN.{length}
+use Rattle.lists.specs.Lists.{keep}
 use Rattle.automata.specs.Automaton.{Transition, Automaton}
 use Rattle.automata.specs.WellFormed.{mostStates, mostTransitions}
-use Rattle.sets.specs.Sets.{Set, index}
+use Rattle.search.specs.Search
+use Rattle.search.specs.Search.{Graph, Found, over, found}
+use Rattle.sets.specs.Sets.{Set, isEmpty, same, index}
 use Rattle.words.specs.Simulation.{outgoing, step, startSet, kindOf}
 use Rattle.ranges.specs.Span.{Span}
 use Rattle.ranges.specs.Cuts.{cutAll}
@@ -18,31 +21,17 @@ use Rattle.determinize.specs.Partition.{partition}
 unfoldable pub targets : ℕ → ℕ → Automaton → Set → List Set
 targets lo hi A S = map (λ p. step A S (p .low)) (partition (A .size) lo hi (outgoing A S))
 
--- a nonempty set that the table lacks goes to its end
-unfoldable pub add : Set → List Set → List Set
-add [] T = T
-add (q ∷ S) T = cond (ltb (index (q ∷ S) T) (length T)) T (T ++ (q ∷ S) ∷ [])
+-- those that are not empty
+unfoldable pub someOf : List Set → List Set
+someOf Rs = keep (λ R. not (isEmpty R)) Rs
 
--- the table after some sets are met, one after the other
-unfoldable pub meet : List Set → List Set → List Set
-meet [] T = T
-meet (S ∷ Ss) T = meet Ss (add S T)
+-- the nonempty sets, from the start's closure on, each with those to which its parts lead
+unfoldable pub subsets : ℕ → ℕ → Automaton → Graph Set
+subsets lo hi A = record { same = same; next = λ S. someOf (targets lo hi A S); start = startSet A }
 
--- the finished table, or none because it has too many sets
-pub data Found : Type 0 where
-  over : Found
-  found : List Set → Found
-
--- the entries of the table are the queue: entry i is next, and n entries may still be taken
-unfoldable pub explore : ℕ → ℕ → Automaton → ℕ → ℕ → List Set → Found
-explore lo hi A zero i T = over
-explore lo hi A (suc n) i T =
-    let more = explore lo hi A n (suc i) (meet (targets lo hi A (getD T i [])) T) in
-    cond (ltb i (length T)) more (found T)
-
--- the nonempty sets that words reach, from the start's closure on; `over` where they and the sink are more than 256
-unfoldable pub table : ℕ → ℕ → Automaton → Found
-table lo hi A = explore lo hi A mostStates 0 (startSet A ∷ [])
+-- the nonempty sets that words reach, as a queue meets them; `over` where they and the sink are more than 256
+unfoldable pub table : ℕ → ℕ → Automaton → Found Set
+table lo hi A = Search.table (subsets lo hi A) (mostStates - 1)
 
 -- The states of the result are the sets of the table, and the empty set for the sink, which is the last. The table doesn't have the empty set, so
 -- that the index of the empty set is the sink.
@@ -75,7 +64,7 @@ unfoldable pub limited : Automaton → Answer Automaton
 limited D = cond (ltb mostTransitions (length (D .transitions))) (refused 22) (given D)
 
 -- 21 where there are too many sets
-unfoldable pub answerOf : ℕ → ℕ → Automaton → Found → Answer Automaton
+unfoldable pub answerOf : ℕ → ℕ → Automaton → Found Set → Answer Automaton
 answerOf lo hi A over = refused 21
 answerOf lo hi A (found T) = limited (built lo hi A T)
 

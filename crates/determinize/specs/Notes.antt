@@ -11,14 +11,23 @@ use Rattle.lists.specs.Written.{Written}
 use Rattle.automata.specs.Automaton.{Transition, Automaton}
 use Rattle.automata.specs.Records.{writeRecords}
 use Rattle.automata.specs.WellFormed.{mostStates}
-use Rattle.sets.specs.Sets.{Set, Canon, index}
+use Rattle.search.specs.Search
+use Rattle.search.specs.Search.{over, found}
+use Rattle.sets.specs.Sets.{Set, Canon, same, index}
 use Rattle.sets.specs.BitSet.{entries}
 use Rattle.words.specs.Simulation.{outgoing, step}
 use Rattle.ranges.specs.Span.{Span}
 use Rattle.ranges.specs.Cuts.{cutAll}
 use Rattle.determinize.specs.declared.Progress.{Progress}
 use Rattle.determinize.specs.declared.Progress.the-variants.{Sets, Over}
-use Rattle.determinize.specs.Determinize.{targets, add, meet, over, found, table, states}
+use Rattle.determinize.specs.Determinize.{targets, someOf, table, states}
+
+-- the table after some sets are met, one after the other: a nonempty set that it lacks goes to its end
+unfoldable pub meet : List Set → List Set → List Set
+meet Rs T = Search.meet same (someOf Rs) T
+
+unfoldable pub add : Set → List Set → List Set
+add R T = meet (R ∷ []) T
 
 -- the number by which notes name a set: its place in the table, or 256 for the empty set
 unfoldable pub number : Set → List Set → ℕ
@@ -55,13 +64,14 @@ pub record Placed (R : Set) (T : List Set) (t : List ℕ) (n j : ℕ) : Type 0 w
   pub named : j ≡ number R (entries t n)
   pub few : n ≤ mostStates
 
--- the span from first to last of state j, which leads to R, is visited: `before` are the notes before, k of them, and `after` those afterwards
+-- the span from first to last of state j, which leads to R, is visited: R is met, and the note stands behind the k notes of `before`
 pub record Visited (R : Set) (T : List Set) (j first last : ℕ) (before : List ℕ) (k : ℕ) (t after : List ℕ) (n : ℕ) : Type 0 where
   pub added : entries t n ≡ add R T
   pub few : n ≤ mostStates
   pub noted : Written before (5 * k) (j ∷ 1 ∷ first ∷ last ∷ number R (entries t n) ∷ []) after (5 * k + 5)
 
--- all spans of state j are visited: whatever sets the table gets later, their notes stand behind the k notes before
+-- all spans of state j, which is the set S, are visited, and the table of the sets T has met what they lead to: it is t, with n sets. Whatever sets
+-- it gets later, the notes of the spans stand behind the k notes before, and there are m notes in all.
 pub record SpansVisited (lo hi : ℕ) (A : Automaton) (S : Set) (T : List Set) (j : ℕ) (before : List ℕ) (k : ℕ) (t after : List ℕ) (n m : ℕ) : Type 0 where
   pub met : entries t n ≡ meet (targets lo hi A S) T
   pub few : n < mostStates
@@ -69,19 +79,19 @@ pub record SpansVisited (lo hi : ℕ) (A : Automaton) (S : Set) (T : List Set) (
   pub noted : (more : List Set) → Written before (5 * k) (writeRecords (notesOf lo hi A (entries t n ++ more) j S)) after (5 * m)
   pub bounded : m ≤ k + 4294967296
 
--- the same by the answer of the code
+-- what the answer of the code says of the spans of a state: they are visited, or they lead to more sets than the table may have
 unfoldable pub Parted : ℕ → ℕ → Automaton → Set → List Set → ℕ → List ℕ → ℕ → List ℕ → List ℕ → Progress → Type 0
 Parted lo hi A S T j before k t after Over = mostStates ≤ length (meet (targets lo hi A S) T)
 Parted lo hi A S T j before k t after (Sets n m) = SpansVisited lo hi A S T j before k t after n m
 
--- the table is finished, and the notes of all states stand at the front of after
+-- the table is finished with n sets, and the notes of all states, m of them, stand at the front of `after`
 pub record TableFinished (lo hi : ℕ) (A : Automaton) (before t after : List ℕ) (n m : ℕ) : Type 0 where
   pub whole : table lo hi A ≡ found (entries t n)
   pub few : n < mostStates
   pub canonical : Canonical (A .size) (entries t n)
   pub noted : Written before 0 (writeRecords (notesFrom lo hi A (entries t n) 0 (states (entries t n)))) after (5 * m)
 
--- the same by the answer of the code
+-- what the answer of the code says of the table: it is finished, or there is none because it has too many sets
 unfoldable pub Explored : ℕ → ℕ → Automaton → List ℕ → List ℕ → List ℕ → Progress → Type 0
 Explored lo hi A before t after Over = table lo hi A ≡ over
 Explored lo hi A before t after (Sets n m) = TableFinished lo hi A before t after n m

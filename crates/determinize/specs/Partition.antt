@@ -10,7 +10,7 @@ use Rattle.lists.specs.Lists.{_∈_, any, keep, Ascending}
 use Rattle.automata.specs.Automaton.{Transition, holds}
 use Rattle.sets.specs.Sets.{Set, has, pick}
 use Rattle.ranges.specs.Span.{Span}
-use Rattle.ranges.specs.Cuts.{cutAll}
+use Rattle.ranges.specs.Cuts.{Cut, cutAll}
 use Rattle.ranges.specs.Missing.{covered}
 
 -- the symbols from low to high, and the targets of the ranges that hold them
@@ -26,10 +26,6 @@ partOf n es s = record { low = s .low; high = s .high; targets = pick n (λ q. a
 -- the spans between cuts that some range holds, ascending
 unfoldable pub partition : ℕ → ℕ → ℕ → List Transition → List Part
 partition n lo hi es = map (partOf n es) (keep (covered es) (cutAll lo hi es))
-
--- every first and every last plus 1
-abbrev pub Cut : List Transition → ℕ → Type 0
-Cut es c = (e : Transition) × e ∈ es × ((c ≡ e .first) ⊎ (c ≡ suc (e .last)))
 
 -- some range holds the symbol x
 abbrev pub Held : List Transition → ℕ → Type 0

@@ -18,8 +18,8 @@ use Rattle.determinize.specs.Determinize.{determinize}
 use Rattle.determinize.specs.Notes.{settle}
 
 -- the automaton whose states are the sets T and the sink, with the transitions that the notes es stand for
-unfoldable pub sheetOf : Automaton → List Set → List Transition → Automaton
-sheetOf A T es = record {
+unfoldable pub automatonOf : Automaton → List Set → List Transition → Automaton
+automatonOf A T es = record {
   size = suc (length T);
   start = 0;
   accept = map (kindOf A) T ++ 0 ∷ [];

@@ -1,16 +1,14 @@
 // The first pass: the table of the nonempty sets that words reach, in the order in which a queue meets them, and a note of each transition.
-// The entries of the table are the queue. Each span between cuts costs one reading of the runs of the set's members for the set that it leads
-// to, one for its end, and one look-up.
+// The entries of the table are the queue. Each span between cuts costs one reading of the runs of the set's members up to the first range behind it,
+// and one look-up.
 ghost use mathlib.Core.Path.{_≡_};
 ghost use mathlib.Core.List.{[], _∷_};
-ghost use Prim.Native.Nat.{_+_, _*_, _≤_, _<_};
+ghost use Prim.Native.Nat.{_+_, _-_, _*_, _≤_, _<_};
 ghost use lib.ListN.{length, getD};
 ghost use Rattle.lists.specs.Written.{Written};
 ghost use Rattle.automata.specs.Records.{writeRecords};
 ghost use Rattle.sets.specs.Sets.{Canon};
 ghost use Rattle.sets.specs.BitSet.{setAt, entries};
-ghost use Rattle.sheets.specs.Accepted.{Accepted};
-ghost use Rattle.sheets.specs.Runs.{Indexed};
 ghost use Rattle.sheets.specs.Sheet.{stateCount, read};
 ghost use Rattle.words.specs.Simulation.{outgoing, step, startSet};
 ghost use Rattle.words.specs.Gather.{Tables};
@@ -24,18 +22,10 @@ pub struct Entry {
     pub sets: usize,
 }
 
-// The least of top and the cuts above `above` of the ranges that leave the members of a set: every first, every last plus 1.
-fn next_cut(s: &[u32], starts: &[u32], set: &[u64], above: u64, top: u64) -> u64
-    requires { ⌜ Accepted (now s) × Indexed (now s) (now starts) × Canon (stateCount (now s)) (setAt (now set) 0) × (4 ≤ length (now set)) ⌝ }
-    ensures { λ r. ⌜ r ≡ nextCut above top (outgoing (read (now (s .entry))) (setAt (now (set .entry)) 0)) ⌝ }
-{
-    let mut found = top;
-    let mut q = sets::next_member(set, 0);
-    while q < 256 {
-        found = ranges::next_cut(sheets::run(s, starts, q as u32), above, found);
-        q = sets::next_member(set, q + 1);
-    }
-    found
+// Where a span ends, which is before the next cut, and how many sets the table has once it is visited.
+pub struct SpanEnd {
+    pub cut: u64,
+    pub sets: usize,
 }
 
 // The number of a set in the table of n sets. A nonempty set that the table lacks goes to its end; the empty set has the number 256.
@@ -73,8 +63,8 @@ fn note(notes: &mut [u32], count: usize, from: u32, first: u32, last: u32, to: u
     }
 }
 
-// The span from first to last of a set: the set that it leads to gets its place in the table of n sets, and the transition is noted.
-// Answers how many sets the table has then.
+// The span of a set from first up to the next cut, which is top where no range is cut before: the set that it leads to gets its place in the table of
+// n sets, and the transition is noted.
 fn visit(
     s: &[u32],
     starts: &[u32],
@@ -82,23 +72,29 @@ fn visit(
     set: &[u64],
     from: u32,
     first: u32,
-    last: u32,
+    top: u64,
     table: &mut [u64],
     n: usize,
     notes: &mut [u32],
     count: usize,
-) -> usize
-    requires { ⌜ Tables (now s) (now starts) (now closures) × Canon (stateCount (now s)) (setAt (now set) 0) × (4 ≤ length (now set)) × (n < 256) × (length (now table) ≡ 1024) × (length (now notes) ≡ 10240) ⌝ }
-    ensures { λ r. ⌜ Visited (step (read (now (s .entry))) (setAt (now (set .entry)) 0) first) (entries (now (table .entry)) n) from first last (now (notes .entry)) count (now (table .exit)) (now (notes .exit)) r ⌝ }
+) -> SpanEnd
+    requires { ⌜ Tables (now s) (now starts) (now closures) × Canon (stateCount (now s)) (setAt (now set) 0) × (4 ≤ length (now set)) × (n < 256) × (length (now table) ≡ 1024) × (length (now notes) ≡ 10240) × (first < top) × (top ≤ 4294967296) ⌝ }
+    ensures cut { λ r. ⌜ r .cut ≡ nextCut first top (outgoing (read (now (s .entry))) (setAt (now (set .entry)) 0)) ⌝ }
+    ensures visited { λ r. ⌜ Visited (step (read (now (s .entry))) (setAt (now (set .entry)) 0) first) (entries (now (table .entry)) n) from first (r .cut - 1) (now (notes .entry)) count (now (table .exit)) (now (notes .exit)) (r .sets) ⌝ }
 {
     let mut next = [0u64; 4];
-    words::step(s, starts, closures, set, first, &mut next);
+    let cut = words::step(s, starts, closures, set, first, &mut next, top);
     let placed = place(table, n, &next);
+    let last = (cut - 1) as u32;
     note(notes, count, from, first, last, placed.number);
-    placed.sets
+    SpanEnd {
+        cut,
+        sets: placed.sets,
+    }
 }
 
-// The spans between the cuts of the ranges that leave a set, ascending: those that a range holds are the parts, the others the holes.
+// Visits the spans between the cuts of the ranges that leave a set, ascending: those that a range holds are the parts, the others the holes.
+// Each of 256 sets has at most 2^32 of them, so that the number of notes stays far below what a usize holds.
 pub fn partition_ranges(
     s: &[u32],
     starts: &[u32],
@@ -121,30 +117,30 @@ pub fn partition_ranges(
     let mut n = sets;
     let mut count = noted;
     while a < top {
-        let next = next_cut(s, starts, set, a, top);
-        n = visit(
+        let visited = visit(
             s,
             starts,
             closures,
             set,
             from,
             a as u32,
-            (next - 1) as u32,
+            top,
             table,
             n,
             notes,
             count,
         );
+        n = visited.sets;
         if n == 256 {
             return Progress::Over;
         }
         count += 1;
-        a = next;
+        a = visited.cut;
     }
     Progress::Sets(n, count)
 }
 
-// Entry i of the table: its spans.
+// Visits the spans of entry i of the table.
 fn visit_set(
     s: &[u32],
     starts: &[u32],

@@ -10,7 +10,7 @@ ghost use Rattle.sheets.specs.Accepted.{Accepted};
 ghost use Rattle.sheets.specs.Sheet.{stateCount, read, write};
 ghost use Rattle.words.specs.Simulation.{kindOf};
 ghost use Rattle.determinize.specs.Notes.{settle, Canonical};
-ghost use Rattle.determinize.specs.Sheets.{sheetOf};
+ghost use Rattle.determinize.specs.Sheets.{automatonOf};
 
 // The accept word of the set in row j of the table.
 fn accept_word(s: &[u32], table: &[u64], n: usize, j: usize) -> u32
@@ -65,7 +65,7 @@ fn put_notes(notes: &[u32], sink: u32, out: &mut [u32], at: usize) -> usize
 // The sheet of a table of n sets and the notes of its transitions.
 pub fn write_sheet(s: &[u32], table: &[u64], n: usize, notes: &[u32], out: &mut [u32]) -> usize
     requires { ⌜ Accepted (now s) × Canonical (stateCount (now s)) (entries (now table) n) × (n < 256) × (length (now table) ≡ 1024) × (length (now notes) ≤ 10240) × (10500 ≤ length (now out)) ⌝ }
-    ensures { λ r. ⌜ Written (now (out .entry)) 0 (write (sheetOf (read (now (s .entry))) (entries (now (table .entry)) n) (readRecords (now (notes .entry))))) (now (out .exit)) r ⌝ }
+    ensures { λ r. ⌜ Written (now (out .entry)) 0 (write (automatonOf (read (now (s .entry))) (entries (now (table .entry)) n) (readRecords (now (notes .entry))))) (now (out .exit)) r ⌝ }
 {
     let start = output::put_start(out, 0, n as u32 + 1);
     let accepts = put_accept_words(s, table, n, out, start);

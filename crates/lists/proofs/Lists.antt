@@ -1,6 +1,6 @@
 -- Laws of `any`, `keep` and `tabulate`: what membership says.
-use Prim.Native.Nat.{ℕ, zero, suc, _≤_, _<_}
-use mathlib.Core.Bool.{Bool, true, false, cond, _||_, false≢true}
+use Prim.Native.Nat.{ℕ, zero, suc, _+_, _≤_, _<_}
+use mathlib.Core.Bool.{Bool, true, false, cond, not, _&&_, _||_, false≢true}
 use mathlib.Core.List.{List, [], _∷_, _++_, map, List·Memᴰ·head, List·Memᴰ·tail, nil≢cons}
 use mathlib.Core.Logic.{⊎-elim}
 use mathlib.Core.Path.{_≡_, refl, sym, _∙_, ap, ap₂}
@@ -79,6 +79,21 @@ unfolding keep
 keep-all f [] h = refl
 keep-all f (x ∷ l) h = rw (h x (List·Memᴰ·head refl), keep-all f l (λ y m. h y (List·Memᴰ·tail m)))
 
+pub keep-ext : {X : Type 0} (f g : X → Bool) (l : List X) → ((x : X) → x ∈ l → f x ≡ g x) → keep f l ≡ keep g l
+unfolding keep
+keep-ext f g [] h = refl
+keep-ext f g (x ∷ l) h = rw (h x (List·Memᴰ·head refl), keep-ext f g l (λ y m. h y (List·Memᴰ·tail m)))
+
+pub keep-and : {X : Type 0} (f g : X → Bool) (l : List X) → keep (λ x. f x && g x) l ≡ keep g (keep f l)
+unfolding keep
+keep-and f g [] = refl
+keep-and f g (x ∷ l) = go (f x) (keep-and f g l)
+  where
+    go : (b : Bool) → keep (λ x. f x && g x) l ≡ keep g (keep f l)
+        → cond (b && g x) (x ∷ keep (λ x. f x && g x) l) (keep (λ x. f x && g x) l) ≡ keep g (cond b (x ∷ keep f l) (keep f l))
+    go true e = rw e
+    go false e = e
+
 pub keep-map : {A B : Type 0} (f : B → Bool) (g : A → B) (h : A → Bool) (l : List A) → ((x : A) → f (g x) ≡ h x) → keep f (map g l) ≡ map g (keep h l)
 unfolding keep
 keep-map f g h [] e = refl
@@ -120,6 +135,17 @@ length-keep f [] = omega arith
 length-keep f (x ∷ l) = go (f x) (length-keep f l)
   where
     go : (b : Bool) → length (keep f l) ≤ length l → length (cond b (x ∷ keep f l) (keep f l)) ≤ suc (length l)
+    go true h = omega arith
+    go false h = omega arith
+
+-- those that pass and those that don't
+pub count-keep : {X : Type 0} (f : X → Bool) (l : List X) → length (keep f l) + length (keep (λ x. not (f x)) l) ≡ length l
+unfolding keep
+count-keep f [] = refl
+count-keep f (x ∷ l) = go (f x) (count-keep f l)
+  where
+    go : (b : Bool) → length (keep f l) + length (keep (λ x. not (f x)) l) ≡ length l
+        → length (cond b (x ∷ keep f l) (keep f l)) + length (cond (not b) (x ∷ keep (λ x. not (f x)) l) (keep (λ x. not (f x)) l)) ≡ suc (length l)
     go true h = omega arith
     go false h = omega arith
 

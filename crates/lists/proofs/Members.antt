@@ -1,13 +1,14 @@
 -- Laws on members: of a list of images, at a place, and of lists that ascend or have no element twice.
 use Prim.Native.Nat.{ℕ, zero, suc, _≤_, _<_}
-use mathlib.Core.Bool.{Bool, true, false, cond}
+use mathlib.Core.Bool.{Bool, true, false, cond, _||_}
 use mathlib.Core.List.{List, [], _∷_, _++_, map, List·Memᴰ·head, List·Memᴰ·tail, List·Memᴰ·not-nil, List·Memᴰ·cases-cons, List·Memᴰ·append-cases, List·Memᴰ·eq-of-singleton, Memᴰ·cast}
 use mathlib.Core.Logic.{⊎-elim}
-use mathlib.Core.Path.{_≡_, refl, sym, _∙_, ap}
+use mathlib.Core.Path.{_≡_, refl, sym, _∙_, ap, subst}
 use native.Mathlib.Omega.{arith}
 use lib.ListN.{getD, length}
 use Rattle.lists.specs.Lists.{_∈_, keep, Ascending, Distinct}
-use Rattle.lists.proofs.Lists.{keep-out}
+use Rattle.lists.proofs.Lists.{keep-none, keep-out}
+use Rattle.lists.proofs.Tests.{test}
 
 pub map-out : {X Y : Type 0} (f : X → Y) (l : List X) (y : Y) → y ∈ map f l → (x : X) × x ∈ l × (y ≡ f x)
 map-out f [] y m = elim m [ ]
@@ -76,3 +77,31 @@ module _ {X : Type 0} {R : X → X → Type 0} where
   pub ascending-distinct : ((x : X) → R x x → ⊥) → {l : List X} → Ascending R l → Distinct l
   ascending-distinct h Ascending.none = Distinct.none
   ascending-distinct h (Ascending.more {x} g a) = Distinct.more (λ m. h x (g x m)) (ascending-distinct h a)
+
+  pub ascending-map : {Y : Type 0} {Q : Y → Y → Type 0} (f : X → Y) → ((x y : X) → R x y → Q (f x) (f y)) → {l : List X} → Ascending R l → Ascending Q (map f l)
+  ascending-map f h Ascending.none = Ascending.none
+  ascending-map {Q = Q} f h {l = x ∷ l} (Ascending.more g a) =
+      Ascending.more (λ y m. let r = map-out f l y m in subst (λ z. Q (f x) z) (sym (r .2)) (h x (r .0) (g (r .0) (r .1)))) (ascending-map f h a)
+
+  pub ascending-append : {l m : List X} → Ascending R l → Ascending R m → ((x y : X) → x ∈ l → y ∈ m → R x y) → Ascending R (l ++ m)
+  ascending-append Ascending.none b h = b
+  ascending-append {l = x ∷ l} (Ascending.more g a) b h =
+      Ascending.more (λ y k. ⊎-elim (λ k. g y k) (λ k. h x y (List·Memᴰ·head refl) k) (List·Memᴰ·append-cases l k))
+      (ascending-append a b (λ x y k. h x y (List·Memᴰ·tail k)))
+
+  -- two tests, where no element that passes g stands before one that passes f
+  pub keep-either : (f g : X → Bool) → ((x : X) → f x ≡ true → g x ≡ false) → ((x y : X) → R x y → g x ≡ true → f y ≡ false)
+      → {l : List X} → Ascending R l → keep (λ x. f x || g x) l ≡ keep f l ++ keep g l
+  unfolding keep
+  keep-either f g d o Ascending.none = refl
+  keep-either f g d o {l = x ∷ l} (Ascending.more h a) =
+      let ih = keep-either f g d o a in
+      ⊎-elim (λ (p : f x ≡ true). rw (p, d x p) (ap (λ k. x ∷ k) ih))
+      (λ (p : f x ≡ false).
+      ⊎-elim (λ (q : g x ≡ true). rw (p, q) (ap (λ k. x ∷ k) (ih ∙ ap (λ k. k ++ keep g l) (none q)) ∙ sym (ap (λ k. k ++ (x ∷ keep g l)) (none q))))
+      (λ (q : g x ≡ false). rw (p, q) ih)
+      (test (g x)))
+      (test (f x))
+    where
+      none : g x ≡ true → keep f l ≡ []
+      none q = keep-none f l (λ y m. o x y (h y m) q)

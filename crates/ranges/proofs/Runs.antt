@@ -3,7 +3,6 @@ use Prim.Native.Nat.{ℕ, _+_, _-_, _≤_, _<_, max}
 use mathlib.Core.Bool.{Bool, true, false}
 use mathlib.Core.List.{List, [], _∷_}
 use mathlib.Core.Path.{_≡_, sym, _∙_, ap}
-use native.Mathlib.Numerals.{add-one}
 use borrow.Author.Tests.{le-leb, lt-leb, eq-eqb, ne-eqb}
 use lib.ListN.{length, getD, take, drop}
 use Rattle.lists.specs.Lists.{keep}
@@ -12,7 +11,6 @@ use Rattle.automata.specs.Automaton.{Transition, rangesOf}
 use Rattle.automata.specs.Records.{readRecords, recordAt}
 use Rattle.automata.proofs.Records.{records-at, records-end}
 use Rattle.ranges.specs.Span.{startsBelow, overlapping}
-use Rattle.ranges.specs.Cuts.{nearer, nextCut}
 
 -- the ranges among the records of a run
 abbrev pub rangesIn : List ℕ → List Transition
@@ -65,18 +63,3 @@ module _ (s : List ℕ) (at : ℕ) (e : overlapping (rangesIn s) ≡ overlapping
         → r ≡ startsBelow (getD s (at + 3) 0) (rangesIn (take (length s - (at + 5)) (drop (at + 5) s))) → r ≡ overlapping (rangesIn s)
     unfolding overlapping
     overlap-first k r q = q ∙ rw (part-all (at + 5) s) (sym (e ∙ rw (ranges-at s at h k)))
-
--- the next cut: what is found among the ranges before `at`, and the ranges from there on
-module _ (s : List ℕ) (a top found at : ℕ) (e : nextCut a top (rangesIn s) ≡ nextCut a found (rangesIn (drop at s))) where
-  pub cut-ended : length s - at < 5 → found ≡ nextCut a top (rangesIn s)
-  unfolding nextCut
-  cut-ended h = sym (e ∙ rw (ranges-end s at h))
-
-  module _ (h : 5 ≤ length s - at) where
-    pub cut-skip : (getD s (at + 1) 0 ≡ 1 → ⊥) → nextCut a top (rangesIn s) ≡ nextCut a found (rangesIn (drop (at + 5) s))
-    cut-skip k = e ∙ ap (nextCut a found) (ranges-skip s at h k)
-
-    pub cut-next : getD s (at + 1) 0 ≡ 1 → (r : ℕ) → r ≡ nearer a (getD s (at + 2) 0) (nearer a (getD s (at + 3) 0 + 1) found)
-        → nextCut a top (rangesIn s) ≡ nextCut a r (rangesIn (drop (at + 5) s))
-    unfolding nextCut
-    cut-next k r q = e ∙ rw (ranges-at s at h k, q, add-one (getD s (at + 3) 0))

@@ -2,9 +2,16 @@
 use Prim.Native.Nat.{ℕ, zero, suc, _-_}
 use mathlib.Core.Bool.{cond}
 use mathlib.Core.List.{List, [], _∷_}
+use mathlib.Core.Logic.{_⊎_}
+use mathlib.Core.Path.{_≡_}
 use lib.Dec.{ltb}
+use Rattle.lists.specs.Lists.{_∈_}
 use Rattle.automata.specs.Automaton.{Transition}
 use Rattle.ranges.specs.Span.{Span}
+
+-- every first and every last plus 1
+abbrev pub Cut : List Transition → ℕ → Type 0
+Cut es c = (e : Transition) × e ∈ es × ((c ≡ e .first) ⊎ (c ≡ suc (e .last)))
 
 -- the lesser of the cut found so far and c, which counts only above a
 unfoldable pub nearer : ℕ → ℕ → ℕ → ℕ

@@ -1,5 +1,5 @@
-// Ranges of symbols: what two ranges share, whether the ranges of a run of records overlap, the symbols that none of them holds,
-// and the next cut among them. Each function on a run reads each of its records once.
+// Ranges of symbols: what two ranges share, whether the ranges of a run of records overlap, and the symbols that none of them holds.
+// Each function on a run reads each of its records once.
 ghost use mathlib.Core.Path.{_≡_};
 ghost use Prim.Native.Nat.{_+_, _*_, _≤_, min, max};
 ghost use lib.ListN.{length};
@@ -7,7 +7,6 @@ ghost use lib.Seq.{sets};
 ghost use Rattle.automata.specs.Automaton.{rangesOf};
 ghost use Rattle.automata.specs.Records.{readRecords};
 ghost use Rattle.ranges.specs.Span.{intersectRanges, spanOf, startsBelow, overlapping};
-ghost use Rattle.ranges.specs.Cuts.{nearer, nextCut};
 ghost use Rattle.ranges.specs.Missing.{Sorted, missing, gap, spanWords};
 
 // The common symbols of two ranges.
@@ -78,44 +77,6 @@ pub fn has_overlapping_ranges(run: &[u32]) -> bool
     false
 }
 
-// The lesser of the cut found so far and c, which counts only above a.
-fn nearer_cut(a: u64, c: u64, found: u64) -> u64
-    ensures { λ r. ⌜ r ≡ nearer a c found ⌝ }
-{
-    if a < c {
-        if c < found {
-            return c;
-        }
-    }
-    found
-}
-
-// The least of the cut found so far and the cuts of a range above a.
-fn lower_cut(a: u64, first: u32, last: u32, found: u64) -> u64
-    ensures { λ r. ⌜ r ≡ nearer a first (nearer a (last + 1) found) ⌝ }
-{
-    let found = nearer_cut(a, last as u64 + 1, found);
-    nearer_cut(a, first as u64, found)
-}
-
-// The least of `top` and the cuts above `above` of the run's ranges: every first, every last plus 1.
-pub fn next_cut(run: &[u32], above: u64, top: u64) -> u64
-    ensures { λ r. ⌜ r ≡ nextCut above top (rangesOf (readRecords (now (run .entry)))) ⌝ }
-{
-    let mut found = top;
-    let mut at: usize = 0;
-    while 5 <= run.len() - at {
-        let kind = run[at + 1];
-        let first = run[at + 2];
-        let last = run[at + 3];
-        at += 5;
-        if kind == 1 {
-            found = lower_cut(above, first, last, found);
-        }
-    }
-    found
-}
-
 // The first symbol above those settled so far and the range's last.
 fn past(cursor: u64, last: u32) -> u64
     ensures { λ r. ⌜ r ≡ max cursor (last + 1) ⌝ }
@@ -125,6 +86,26 @@ fn past(cursor: u64, last: u32) -> u64
     } else {
         cursor
     }
+}
+
+// A range's first symbol, or top if that is less: where a span ends that goes up to and without the range.
+pub fn until(first: u32, top: u64) -> u64
+    ensures { λ r. ⌜ r ≡ min first top ⌝ }
+{
+    if (first as u64) < top {
+        first as u64
+    } else {
+        top
+    }
+}
+
+// The symbol behind a range's last, or top if that is less: where a span ends that goes up to the range's end. Behind the greatest symbol of 32 bits
+// there is one of 64.
+pub fn through(last: u32, top: u64) -> u64
+    ensures { λ r. ⌜ r ≡ min (last + 1) top ⌝ }
+{
+    let behind = last as u64 + 1;
+    if behind < top { behind } else { top }
 }
 
 // Writes the span from `from` up to and without `to` behind n spans, if it has a symbol; answers how many spans there are then.
@@ -139,17 +120,6 @@ fn add_gap(holes: &mut [u32], n: usize, from: u64, to: u64) -> usize
         return n + 1;
     }
     n
-}
-
-// The lesser of a range's first symbol and top.
-fn until(first: u32, top: u64) -> u64
-    ensures { λ r. ⌜ r ≡ min first top ⌝ }
-{
-    if (first as u64) < top {
-        first as u64
-    } else {
-        top
-    }
 }
 
 // Writes low and high of each hole that the run's ranges leave from lower to upper at the front of holes; answers how many holes there are.

@@ -7,11 +7,12 @@ use Rattle.automata.specs.Automaton.{Transition, Automaton, holds}
 use Rattle.automata.specs.Records.{readRecords}
 use Rattle.automata.specs.WellFormed.{lastSymbol}
 use Rattle.determinize.specs.Partition.{partOf, partition}
-use Rattle.determinize.specs.Determinize.{targets, add, meet, explore, table, states, transitionOf, transitionsOf, transitionsFrom, built, limited, answerOf, determinize}
+use Rattle.determinize.specs.Determinize.{targets, someOf, subsets, table, states, transitionOf, transitionsOf, transitionsFrom, built, limited, answerOf, determinize}
 use Rattle.ranges.specs.Cuts.{nearer, nextCut, spans, cutAll}
 use Rattle.ranges.specs.Missing.{covered}
 use Rattle.refusal.specs.Answer.{given}
-use Rattle.sets.specs.Sets.{has, pickFrom, same, index}
+use Rattle.search.specs.Search
+use Rattle.sets.specs.Sets.{has, pickFrom, isEmpty, same, index}
 use Rattle.sets.specs.Closure.{through, closed}
 use Rattle.sheets.specs.Fault.{isBad, recordFault, recordsFault, transitionsFault, statesFault, fault}
 use Rattle.sheets.specs.Sheet.{read}
@@ -60,7 +61,7 @@ DC = record {
 }
 
 pub determinized : (determinize 0 lastSymbol (read A) ≡ given DA) × (determinize 0 lastSymbol (read B) ≡ given DB) × (determinize 0 lastSymbol (read C) ≡ given DC)
-unfolding any keep tabulate holds readRecords has pickFrom same index through closed isEpsilon epsilonRow closures closure outgoing step startSet least kindOf nearer nextCut spans cutAll covered partOf partition targets add meet explore table states transitionOf transitionsOf transitionsFrom built limited answerOf determinize
+unfolding any keep tabulate holds readRecords has pickFrom same index through closed isEpsilon epsilonRow closures closure outgoing step startSet least kindOf nearer nextCut spans cutAll covered partOf partition targets isEmpty someOf subsets Search.index Search.add Search.meet Search.explore Search.table table states transitionOf transitionsOf transitionsFrom built limited answerOf determinize
 determinized = (refl, refl, refl)
 
 pub no-fault : (fault A ≡ 0) × (fault B ≡ 0) × (fault C ≡ 0)

@@ -10,7 +10,7 @@ use Rattle.automata.specs.Automaton.{holds}
 use Rattle.automata.specs.Records.{readRecords}
 use Rattle.automata.specs.WellFormed.{lastSymbol}
 use Rattle.determinize.specs.Partition.{Part, partOf, partition}
-use Rattle.determinize.specs.Determinize.{targets, determinize}
+use Rattle.determinize.specs.Determinize.{determinize}
 use Rattle.ranges.specs.Span.{Span, intersectRanges, startsBelow, overlapping}
 use Rattle.ranges.specs.Cuts.{nearer, nextCut, spans, cutAll}
 use Rattle.ranges.specs.Missing.{covered, missing}

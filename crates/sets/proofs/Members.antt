@@ -1,7 +1,7 @@
 -- The members of a set in ascending order, one after the other.
 use Prim.Native.Nat.{ℕ, zero, suc, _+_, _-_, _≤_, _<_}
 use mathlib.Core.Bool.{Bool, true, false, cond, false≢true}
-use mathlib.Core.List.{List, [], _∷_, List·Memᴰ·head, List·Memᴰ·tail}
+use mathlib.Core.List.{[], _∷_, List·Memᴰ·head}
 use mathlib.Core.Logic.{_⊎_, inl, inr, ⊎-elim}
 use mathlib.Core.Path.{_≡_, refl, sym, _∙_, ap, ap₂, subst}
 use native.Mathlib.Nat.{eq-or-lt-of-le}
@@ -10,15 +10,10 @@ use borrow.Author.Tests.{le-leb, lt-leb, leb-true, ltb-true, ltb-false}
 use lib.Dec.{leb, ltb}
 use lib.ListN.{getD}
 use Rattle.lists.specs.Lists.{_∈_, keep}
-use Rattle.lists.proofs.Lists.{keep-all, keep-none, keep-out}
+use Rattle.lists.proofs.Lists.{keep-ext, keep-all, keep-none, keep-out}
 use Rattle.lists.proofs.Tests.{test, true-same}
 use Rattle.sets.specs.Sets.{Set, has, pickFrom, Canon, membersFrom, nextMember}
 use Rattle.sets.proofs.Sets.{mem-has, pick-out, has-below}
-
-keep-ext : {A : Type 0} (f g : A → Bool) (l : List A) → ((x : A) → x ∈ l → f x ≡ g x) → keep f l ≡ keep g l
-unfolding keep
-keep-ext f g [] h = refl
-keep-ext f g (x ∷ l) h = rw (h x (List·Memᴰ·head refl), keep-ext f g l (λ y m. h y (List·Memᴰ·tail m)))
 
 -- a stretch without members
 pub from-skip : (S : Set) (q m : ℕ) → q ≤ m → ((x : ℕ) → q ≤ x → x < m → has x S ≡ false) → membersFrom q S ≡ membersFrom m S

@@ -2,16 +2,22 @@
 use Prim.Native.Nat.{ℕ, _+_, _-_, _*_, _≤_, _<_}
 use mathlib.Core.Bool.{Bool, true, false, _&&_, _||_}
 use mathlib.Core.List.{List, [], _∷_, List·Memᴰ·head, List·Memᴰ·tail}
+use mathlib.Core.Logic.{⊎-elim}
 use mathlib.Core.Path.{_≡_, refl, sym, _∙_, ap, subst}
 use native.Mathlib.Omega.{arith}
 use borrow.Author.Needs.{needs}
 use borrow.Author.Tests.{eq-eqb, lt-leb, le-leb, ne-eqb}
-use lib.ListN.{length, getD, take, drop}
+use lib.Dec.{eqb}
+use lib.ListN.{length, getD, drop}
 use Rattle.lists.specs.Lists.{_∈_, any}
-use Rattle.lists.proofs.Lists.{any-ext}
-use Rattle.automata.specs.Automaton.{Transition, holds}
+use Rattle.lists.proofs.Lists.{any-ext, keep-in}
+use Rattle.lists.proofs.Tests.{test}
+use Rattle.automata.specs.Automaton.{Transition, holds, rangesOf}
 use Rattle.automata.specs.Records.{readRecords, recordAt}
-use Rattle.automata.proofs.Records.{records-at, records-end, part-record}
+use Rattle.automata.proofs.Records.{records-at, records-end}
+use Rattle.ranges.specs.Missing.{Sorted}
+use Rattle.ranges.proofs.Runs.{rangesIn, ranges-at}
+use Rattle.ranges.proofs.SortedCuts.{sorted-above, sorted-skip, sorted-next, cut-ended, cut-skip, cut-below, cut-holds, cut-above}
 use Rattle.sets.specs.Sets.{Set, has, pick, Canon}
 use Rattle.sets.specs.BitSet.{setAt}
 use Rattle.sets.specs.Words.{unionAt}
@@ -27,6 +33,11 @@ or-assoc false b c = refl
 or-none : (a : Bool) → (a || false) ≡ a
 or-none true = refl
 or-none false = refl
+
+any-false : {X : Type 0} (xs : List X) → any (λ x. false) xs ≡ false
+unfolding any
+any-false [] = refl
+any-false (x ∷ xs) = any-false xs
 
 -- one element after the other
 module _ {X : Type 0} (f : ℕ → X → Bool) where
@@ -50,6 +61,11 @@ module _ {X : Type 0} (f : ℕ → X → Bool) where
   unfolding withAll any
   all-one S x = pick-ext 0 256 _ _ (λ q l. ap (λ b. has q S || b) (or-none (f q x)))
 
+  all-nothing : (S : Set) (xs : List X) → ((q : ℕ) (x : X) → x ∈ xs → f q x ≡ false) → withAll S f [] ≡ withAll S f xs
+  unfolding withAll any
+  all-nothing S xs h =
+      pick-ext 0 256 _ _ (λ q l. ap (λ b. has q S || b) (sym (any-ext (f q) (λ x. false) xs (h q) ∙ any-false xs)))
+
   pub all-ext : (g : ℕ → X → Bool) (S : Set) (xs : List X) → ((q : ℕ) (x : X) → x ∈ xs → f q x ≡ g q x) → withAll S f xs ≡ withAll S g xs
   unfolding withAll
   all-ext g S xs h = pick-ext 0 256 _ _ (λ q l. ap (λ b. has q S || b) (any-ext (f q) (g q) xs (h q)))
@@ -71,47 +87,61 @@ module _ (c : List ℕ) (a : ℕ) where
   unfolding gathered
   gather-skip t e h = sym (all-skip _ (setAt t 0) e (at-canon t 0) (λ q. and-no (takes a e) _ h))
 
+  gather-nothing : (t : List ℕ) (es : List Transition) → ((e : Transition) → e ∈ es → takes a e ≡ false) → setAt t 0 ≡ gathered t c a es
+  unfolding gathered
+  gather-nothing t es h =
+      sym (all-none _ (setAt t 0) (at-canon t 0)) ∙ all-nothing _ (setAt t 0) es (λ q e m. and-no (takes a e) _ (h e m))
+
   gather-take : (t : List ℕ) (e : Transition) → takes a e ≡ true → 4 ≤ length t → setAt (unionAt t 0 c (4 * e .to)) 0 ≡ gathered t c a (e ∷ [])
   unfolding gathered
   gather-take t e h l = unioned t 0 c (4 * e .to) l ∙ pick-ext 0 256 _ _ (λ r l. rw h) ∙ sym (all-one _ (setAt t 0) e)
 
--- a record that the code tests
-module _ (t c : List ℕ) (a : ℕ) (r : List ℕ) where
-  pub record-epsilon : (getD r 1 0 ≡ 1 → ⊥) → setAt t 0 ≡ gathered t c a (recordAt r 0 ∷ [])
-  unfolding takes
-  record-epsilon h = gather-skip c a t (recordAt r 0) (rw (ne-eqb (getD r 1 0) 1 h))
-
-  pub record-below : getD r 1 0 ≡ 1 → a < getD r 2 0 → setAt t 0 ≡ gathered t c a (recordAt r 0 ∷ [])
-  unfolding takes holds
-  record-below k h = gather-skip c a t (recordAt r 0) (rw (eq-eqb (getD r 1 0) 1 k, lt-leb (getD r 2 0) a h))
-
-  pub record-above : getD r 1 0 ≡ 1 → getD r 2 0 ≤ a → getD r 3 0 < a → setAt t 0 ≡ gathered t c a (recordAt r 0 ∷ [])
-  unfolding takes holds
-  record-above k l h = gather-skip c a t (recordAt r 0) (rw (eq-eqb (getD r 1 0) 1 k, le-leb (getD r 2 0) a l, lt-leb a (getD r 3 0) h))
-
-  pub record-taken : (u : List ℕ) → 4 ≤ length t → getD r 1 0 ≡ 1 → getD r 2 0 ≤ a → a ≤ getD r 3 0 → u ≡ unionAt t 0 c (4 * getD r 4 0) → setAt u 0 ≡ gathered t c a (recordAt r 0 ∷ [])
-  unfolding takes holds
-  record-taken u n k l h e = ap (λ x. setAt x 0) e ∙ gather-take c a t (recordAt r 0) (rw (eq-eqb (getD r 1 0) 1 k, le-leb (getD r 2 0) a l, le-leb a (getD r 3 0) h)) n
-
-pub ruleset recordLaws = (record-epsilon, record-below, record-above, record-taken, needs)
+-- no range takes a symbol that lies below the first of each
+takes-none : (a : ℕ) (es : List Transition) → ((d : Transition) → d ∈ rangesOf es → a < d .first) → (e : Transition) → e ∈ es → takes a e ≡ false
+unfolding takes rangesOf holds
+takes-none a es h e m =
+    ⊎-elim (λ (t : eqb (e .kind) 1 ≡ true). rw (t, lt-leb (e .first) a (h e (keep-in (λ e. eqb (e .kind) 1) m t)))) (λ (t : eqb (e .kind) 1 ≡ false). rw t)
+    (test (eqb (e .kind) 1))
 
 -- the run of a state, from the record at a place on
 module _ (old c : List ℕ) (a : ℕ) (run : List ℕ) (t : List ℕ) (at : ℕ) (e : gathered t c a (readRecords (drop at run)) ≡ gathered old c a (readRecords run)) where
   pub run-ended : length run - at < 5 → setAt t 0 ≡ gathered old c a (readRecords run)
   run-ended h = sym (gather-none c a t) ∙ ap (gathered t c a) (sym (records-end run at h)) ∙ e
 
-  pub run-next : 5 ≤ length run - at → (u : List ℕ) → setAt u 0 ≡ gathered t c a (recordAt (take (at + 5 - at) (drop at run)) 0 ∷ []) → gathered u c a (readRecords (drop (at + 5) run)) ≡ gathered old c a (readRecords run)
-  run-next h u k = sym (gather-cons c a t u (recordAt run at) (readRecords (drop (at + 5) run)) (k ∙ ap (λ x. gathered t c a (x ∷ [])) (part-record run at))) ∙ ap (gathered t c a) (sym (records-at run at h)) ∙ e
+  module _ (h : 5 ≤ length run - at) where
+    next : (u : List ℕ) → setAt u 0 ≡ gathered t c a (recordAt run at ∷ []) → gathered u c a (readRecords (drop (at + 5) run)) ≡ gathered old c a (readRecords run)
+    next u k = sym (gather-cons c a t u (recordAt run at) (readRecords (drop (at + 5) run)) k) ∙ ap (gathered t c a) (sym (records-at run at h)) ∙ e
 
-pub run-begins : (t c : List ℕ) (a : ℕ) (run : List ℕ) → gathered t c a (readRecords (drop 0 run)) ≡ gathered t c a (readRecords run)
-run-begins t c a run = refl
+    pub run-skip : (getD run (at + 1) 0 ≡ 1 → ⊥) → gathered t c a (readRecords (drop (at + 5) run)) ≡ gathered old c a (readRecords run)
+    unfolding takes
+    run-skip k = next t (gather-skip c a t (recordAt run at) (rw (ne-eqb (getD run (at + 1) 0) 1 k)))
+
+    module _ (k : getD run (at + 1) 0 ≡ 1) where
+      pub run-below : getD run (at + 2) 0 ≤ a → getD run (at + 3) 0 < a → gathered t c a (readRecords (drop (at + 5) run)) ≡ gathered old c a (readRecords run)
+      unfolding takes holds
+      run-below l g = next t (gather-skip c a t (recordAt run at) (rw (eq-eqb (getD run (at + 1) 0) 1 k, le-leb (getD run (at + 2) 0) a l, lt-leb a (getD run (at + 3) 0) g)))
+
+      pub run-holds : getD run (at + 2) 0 ≤ a → a ≤ getD run (at + 3) 0 → length t ≡ length old → 4 ≤ length old → (u : List ℕ) → u ≡ unionAt t 0 c (4 * getD run (at + 4) 0)
+          → gathered u c a (readRecords (drop (at + 5) run)) ≡ gathered old c a (readRecords run)
+      unfolding takes holds
+      run-holds l g n m u q =
+          next u
+          (ap (λ x. setAt x 0) q
+          ∙ gather-take c a t (recordAt run at) (rw (eq-eqb (getD run (at + 1) 0) 1 k, le-leb (getD run (at + 2) 0) a l, le-leb a (getD run (at + 3) 0) g)) (omega arith))
+
+      pub run-above : Sorted (rangesIn (drop at run)) → a < getD run (at + 2) 0 → setAt t 0 ≡ gathered old c a (readRecords run)
+      run-above s g =
+          let r = ranges-at run at h k in
+          let f : (d : Transition) → d ∈ rangesIn (drop at run) → a < d .first =
+          λ d m. sorted-above a (recordAt run at) (rangesIn (drop (at + 5) run)) (subst Sorted r s) g d (rw r at m) in
+          gather-nothing c a t (readRecords (drop at run)) (takes-none a (readRecords (drop at run)) f) ∙ e
 
 -- the targets of the records from a place on
 module _ (run c : List ℕ) (at : ℕ) (t : Targets (readRecords (drop at run)) c) (h : 5 ≤ length run - at) where
-  pub target-here : 4 * recordAt (take (at + 5 - at) (drop at run)) 0 .to + 4 ≤ length c
-  target-here = subst (λ (e : Transition). 4 * e .to + 4 ≤ length c) (sym (part-record run at)) (t .inside (recordAt run at) (rw (records-at run at h) (List·Memᴰ·head refl)))
+  pub target-here : 4 * getD run (at + 4) 0 + 4 ≤ length c
+  target-here = t .inside (recordAt run at) (rw (records-at run at h) (List·Memᴰ·head refl))
 
   pub target-next : Targets (readRecords (drop (at + 5) run)) c
   target-next = record { inside = λ e m. t .inside e (rw (records-at run at h) (List·Memᴰ·tail m)) }
 
-pub ruleset runLaws = (run-begins, run-ended, run-next, target-here, target-next, needs)
+pub ruleset runLaws = (run-ended, run-skip, run-below, run-holds, run-above, target-here, target-next, sorted-skip, sorted-next, cut-ended, cut-skip, cut-below, cut-holds, cut-above, needs)

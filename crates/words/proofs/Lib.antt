@@ -3,6 +3,7 @@ pub mod Visiting
 pub mod Kind
 pub mod Closures
 pub mod Simulation
+pub mod Outgoing
 pub mod Gather
 pub mod Epsilons
 pub mod Stepping

@@ -1,21 +1,18 @@
 -- Reading a word symbol by symbol: the laws by which acceptance is proved.
 use Prim.Native.Nat.{ℕ, _+_, _*_, _≤_, _<_}
-use mathlib.Core.Bool.{Bool, true, false, _&&_, false≢true}
+use mathlib.Core.Bool.{Bool, true}
 use mathlib.Core.List.{List, [], _∷_}
 use mathlib.Core.Path.{_≡_, refl, sym, _∙_, ap, subst}
 use native.Mathlib.Omega.{arith}
 use borrow.Author.Needs.{needs}
-use lib.Dec.{eqb}
 use lib.ListN.{length, getD, drop, drop-of-length-le}
 use lib.Seq.{sets}
-use Rattle.lists.specs.Lists.{any}
-use Rattle.lists.proofs.Lists.{keep-none}
 use Rattle.lists.proofs.Parts.{drop-at}
-use Rattle.automata.specs.Automaton.{Automaton, holds}
-use Rattle.sets.specs.Sets.{Set, has, Canon, isEmpty}
+use Rattle.automata.specs.Automaton.{Automaton}
+use Rattle.sets.specs.Sets.{Set, Canon, isEmpty}
 use Rattle.sets.specs.BitSet.{setAt, entries}
 use Rattle.sets.specs.Words.{putAt}
-use Rattle.sets.proofs.Sets.{no-member, pick-out, empty-yes, has-nil}
+use Rattle.sets.proofs.Sets.{empty-yes}
 use Rattle.sets.proofs.BitSet.{entry-at}
 use Rattle.sets.proofs.Stores.{put-same}
 use Rattle.sheets.specs.Accepted.{Accepted}
@@ -23,28 +20,15 @@ use Rattle.sheets.specs.Runs.{startsOf}
 use Rattle.sheets.specs.Sheet.{stateCount, read}
 use Rattle.sheets.proofs.Meaning.{read-well}
 use Rattle.sheets.proofs.Runs.{starts-indexed}
-use Rattle.words.specs.Simulation.{closures, closure, outgoing, step, simulate, startSet}
+use Rattle.words.specs.Simulation.{closures, closure, step, simulate, startSet}
 use Rattle.words.specs.Gather.{Tables}
+use Rattle.words.proofs.Outgoing.{step-nil}
 use Rattle.words.proofs.Stepping.{step-canon}
-
--- from no state no symbol leads anywhere
-step-nothing : (A : Automaton) (a : ℕ) → step A [] a ≡ []
-unfolding step outgoing any
-step-nothing A a =
-    no-member _
-    (λ q h.
-    let e : outgoing A [] ≡ [] = keep-none _ (A .transitions) (λ d m. ap (_&&_ (eqb (d .kind) 1)) (has-nil (d .from)) ∙ and-false (eqb (d .kind) 1)) in
-    let f : any (λ d. holds a d && has q (closure A (d .to))) (outgoing A []) ≡ true = pick-out 0 (A .size) _ q h .2 in
-    false≢true (sym (ap (any (λ d. holds a d && has q (closure A (d .to)))) e) ∙ f))
-  where
-    and-false : (b : Bool) → (b && false) ≡ false
-    and-false true = refl
-    and-false false = refl
 
 pub simulate-nothing : (A : Automaton) (w : List ℕ) → simulate A [] w ≡ []
 unfolding simulate
 simulate-nothing A [] = refl
-simulate-nothing A (a ∷ w) = ap (λ S. simulate A S w) (step-nothing A a) ∙ simulate-nothing A w
+simulate-nothing A (a ∷ w) = ap (λ S. simulate A S w) (step-nil A a) ∙ simulate-nothing A w
 
 pub advance-done : (cur u v : List ℕ) (S : Set) → setAt u 0 ≡ S → v ≡ putAt cur 0 u 0 → 4 ≤ length cur → setAt v 0 ≡ S
 advance-done cur u v S e h l = ap (λ x. setAt x 0) h ∙ put-same cur 0 u 0 l ∙ e

@@ -3,7 +3,7 @@ use Prim.Native.Nat.{ℕ, _+_, _*_, _≤_, _<_}
 use mathlib.Core.Bool.{true, _&&_, _||_}
 use mathlib.Core.List.{List, [], _∷_}
 use mathlib.Core.Logic.{⊎-elim}
-use mathlib.Core.Path.{_≡_, refl, sym, _∙_, ap}
+use mathlib.Core.Path.{_≡_, refl, sym, _∙_, ap, subst}
 use native.Mathlib.Omega.{arith}
 use borrow.Author.Needs.{needs}
 use borrow.Author.Tests.{eq-eqb, eqb-true}
@@ -12,9 +12,12 @@ use lib.ListN.{length, getD}
 use Rattle.lists.specs.Lists.{any}
 use Rattle.lists.proofs.Lists.{any-in, any-out, any-ext, keep-in, keep-out}
 use Rattle.lists.proofs.Tests.{test, true-same, and-both, and-parts}
-use Rattle.automata.specs.Automaton.{Automaton, InBounds, holds, leaving}
+use Rattle.automata.specs.Automaton.{Automaton, InBounds, holds, leaving, rangesOf}
 use Rattle.automata.specs.Records.{readRecords, writeRecords}
 use Rattle.automata.proofs.Records.{read-write}
+use Rattle.ranges.specs.Cuts.{nextCut}
+use Rattle.ranges.specs.Missing.{Sorted}
+use Rattle.ranges.proofs.Sorting.{leaving-sorted}
 use Rattle.sets.specs.Sets.{Set, has, pick, Canon, membersFrom, nextMember}
 use Rattle.sets.specs.BitSet.{setAt}
 use Rattle.sets.specs.Words.{clearAt}
@@ -29,6 +32,7 @@ use Rattle.sheets.proofs.Runs.{run-at}
 use Rattle.words.specs.Simulation.{closure, outgoing, step}
 use Rattle.words.specs.Gather.{takes, reaches, gathered, Targets, Tables, withReached, withAll}
 use Rattle.words.proofs.Visiting.{member-here, member-later}
+use Rattle.words.proofs.Outgoing.{member-cut-begins, member-cut-next, member-cut-ended}
 use Rattle.words.proofs.Gather.{all-none, all-cons, all-one}
 use Rattle.words.proofs.Closures.{closure-sound, run-bound}
 
@@ -97,6 +101,10 @@ module _ (s starts c : List ℕ) (t : Tables s starts c) (a : ℕ) where
             omega (arith, t .long, t .accepted .few-states, i);
       }
 
+  -- and its ranges are sorted
+  pub step-sorted : (q : ℕ) (run : List ℕ) → run ≡ writeRecords (leaving (read s) q) → Sorted (rangesOf (readRecords run))
+  step-sorted q run e = subst (λ es. Sorted (rangesOf es)) (sym (ap readRecords e ∙ read-write (leaving (read s) q))) (leaving-sorted (read s) q (read-well s (t .accepted)))
+
   -- gathering the run of q adds what q reaches
   gathered-reached : (q : ℕ) (old : List ℕ) → gathered old c a (leaving (read s) q) ≡ withAll (setAt old 0) (reaches (read s) a) (q ∷ [])
   unfolding gathered reaches withAll leaving
@@ -117,6 +125,19 @@ module _ (s starts c : List ℕ) (t : Tables s starts c) (a : ℕ) where
     pub step-run : (q : ℕ) → Canon (stateCount s) (setAt cur 0) → q ≡ nextMember (setAt cur 0) q → q < 256 → RunAt s starts q
     step-run q n h l = run-at s (t .accepted) starts q (t .indexed) (has-below (stateCount s) (setAt cur 0) n q (visit-has (setAt cur 0) (at-canon cur 0) q h l))
 
+    -- the next cut, with what was found among the members before q
+    module _ (top : ℕ) where
+      pub cut-begins : (q : ℕ) → q ≡ nextMember (setAt cur 0) 0 → nextCut a top (outgoing (read s) (membersFrom q (setAt cur 0))) ≡ nextCut a top (outgoing (read s) (setAt cur 0))
+      cut-begins q h = member-cut-begins (read s) (read-well s (t .accepted)) (setAt cur 0) (at-canon cur 0) a top q h
+
+      module _ (q found : ℕ) (i : nextCut a found (outgoing (read s) (membersFrom q (setAt cur 0))) ≡ nextCut a top (outgoing (read s) (setAt cur 0))) where
+        pub cut-next : q ≡ nextMember (setAt cur 0) q → q < 256 → (x next : ℕ) (run : List ℕ) → x ≡ nextMember (setAt cur 0) (q + 1) → run ≡ writeRecords (leaving (read s) q) → next ≡ nextCut a found (rangesOf (readRecords run))
+            → nextCut a next (outgoing (read s) (membersFrom x (setAt cur 0))) ≡ nextCut a top (outgoing (read s) (setAt cur 0))
+        cut-next h l x next run k r e = member-cut-next (read s) (read-well s (t .accepted)) (setAt cur 0) (at-canon cur 0) a top q x found next run i h l k r e
+
+        pub cut-ended : 256 ≤ q → found ≡ nextCut a top (outgoing (read s) (setAt cur 0))
+        cut-ended l = member-cut-ended (read s) (read-well s (t .accepted)) (setAt cur 0) (at-canon cur 0) a top q found i l
+
     pub step-begins : (u v : List ℕ) (q : ℕ) → u ≡ clearAt v 0 → 4 ≤ length v → q ≡ nextMember (setAt cur 0) 0 → withReached (read s) a u (membersFrom q (setAt cur 0)) ≡ step (read s) (setAt cur 0) a
     unfolding withReached withAll
     step-begins u v q e l h =
@@ -135,4 +156,4 @@ module _ (s starts c : List ℕ) (t : Tables s starts c) (a : ℕ) where
     step-ended q u i l =
         sym (all-none (reaches (read s) a) (setAt u 0) (at-canon u 0)) ∙ ap (withReached (read s) a u) (sym (from-end (setAt cur 0) (at-canon cur 0) q l)) ∙ i
 
-pub ruleset stepLaws = (step-run, step-targets, step-begins, step-next, step-ended, member-here, member-later, needs)
+pub ruleset stepLaws = (step-run, step-targets, step-sorted, step-begins, step-next, step-ended, cut-begins, cut-next, cut-ended, member-here, member-later, needs)

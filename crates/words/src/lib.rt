@@ -6,12 +6,16 @@ ghost use mathlib.Core.Path.{_≡_};
 ghost use mathlib.Core.List.{[], _∷_};
 ghost use Prim.Native.Nat.{_+_, _*_, _≤_, _<_};
 ghost use lib.ListN.{length, getD};
+ghost use Rattle.automata.specs.Automaton.{rangesOf};
 ghost use Rattle.automata.specs.Records.{recordAt, readRecords};
+ghost use Rattle.ranges.specs.Cuts.{nextCut};
+ghost use Rattle.ranges.specs.Missing.{Sorted};
 ghost use Rattle.sets.specs.BitSet.{setAt, entries};
 ghost use Rattle.sets.specs.Sets.{Canon};
+ghost use Rattle.sets.specs.Words.{unionAt};
 ghost use Rattle.sheets.specs.Sheet.{stateCount, read};
 ghost use Rattle.words.specs.Gather.{gathered, Targets, Tables};
-ghost use Rattle.words.specs.Simulation.{closures, step, startSet, simulate, least, kindOf, kind};
+ghost use Rattle.words.specs.Simulation.{closures, outgoing, step, startSet, simulate, least, kindOf, kind};
 ghost use Rattle.words.specs.Epsilons.{Fresh, SelvesAdded, Named, EpsilonsAdded};
 ghost use Rattle.sheets.specs.Accepted.{Accepted};
 ghost use Rattle.utf8.specs.Utf8.{decode, wellformed};
@@ -65,36 +69,44 @@ pub fn state_closures(s: &[u32], rows: &mut [u64])
     sets::warshall(rows, n);
 }
 
-// next takes in the closure of the target of the record r, if that is a range that holds the symbol.
-fn follow_record(r: &[u32], symbol: u32, closures: &[u64], next: &mut [u64])
-    requires { ⌜ (length (now r) ≡ 5) × (4 * recordAt (now r) 0 .to + 4 ≤ length (now closures)) × (4 ≤ length (now next)) ⌝ }
-    ensures { λ u. ⌜ setAt (now (next .exit)) 0 ≡ gathered (now (next .entry)) (now (closures .entry)) symbol (recordAt (now (r .entry)) 0 ∷ []) ⌝ }
+// next takes in the closure of a state.
+fn take_closure(next: &mut [u64], closures: &[u64], state: u32)
+    requires { ⌜ (4 ≤ length (now next)) × (4 * state + 4 ≤ length (now closures)) ⌝ }
+    ensures { λ u. ⌜ now (next .exit) ≡ unionAt (now (next .entry)) 0 (now (closures .entry)) (4 * state) ⌝ }
 {
-    if r[1] != 1 {
-        return;
-    }
-    if symbol < r[2] {
-        return;
-    }
-    if r[3] < symbol {
-        return;
-    }
-    sets::union_from(next, closures, r[4] as usize);
+    sets::union_from(next, closures, state as usize);
 }
 
-// next takes in the closures of the targets of the run whose range holds the symbol.
-fn follow(run: &[u32], symbol: u32, closures: &[u64], next: &mut [u64])
-    requires { ⌜ Targets (readRecords (now run)) (now closures) × (4 ≤ length (now next)) ⌝ }
-    ensures { λ u. ⌜ setAt (now (next .exit)) 0 ≡ gathered (now (next .entry)) (now (closures .entry)) symbol (readRecords (now (run .entry))) ⌝ }
+// next takes in the closures of the targets of the run whose range holds the symbol. Answers the least of top and the cuts above the symbol, which are
+// every first and every last plus 1. Behind a range that starts above the symbol no range holds it or is cut below that start.
+fn follow(run: &[u32], symbol: u32, closures: &[u64], next: &mut [u64], top: u64) -> u64
+    requires { ⌜ Targets (readRecords (now run)) (now closures) × Sorted (rangesOf (readRecords (now run))) × (4 ≤ length (now next)) ⌝ }
+    ensures cut { λ r. ⌜ r ≡ nextCut symbol top (rangesOf (readRecords (now (run .entry)))) ⌝ }
+    ensures reached { λ r. ⌜ setAt (now (next .exit)) 0 ≡ gathered (now (next .entry)) (now (closures .entry)) symbol (readRecords (now (run .entry))) ⌝ }
 {
+    let mut found = top;
     let mut at: usize = 0;
     while 5 <= run.len() - at {
-        follow_record(&run[at..at + 5], symbol, closures, next);
+        let kind = run[at + 1];
+        let first = run[at + 2];
+        let last = run[at + 3];
+        let to = run[at + 4];
         at += 5;
+        if kind == 1 {
+            if symbol < first {
+                return ranges::until(first, found);
+            }
+            if symbol <= last {
+                take_closure(next, closures, to);
+                found = ranges::through(last, found);
+            }
+        }
     }
+    found
 }
 
-// The states that the symbol leads to from those of current, in next.
+// The states that the symbol leads to from those of current, in next. Answers the least of top and the cuts above the symbol: every symbol from
+// this one up to the cut leads there.
 pub fn step(
     s: &[u32],
     starts: &[u32],
@@ -102,16 +114,26 @@ pub fn step(
     current: &[u64],
     symbol: u32,
     next: &mut [u64],
-)
+    top: u64,
+) -> u64
     requires { ⌜ Tables (now s) (now starts) (now closures) × Canon (stateCount (now s)) (setAt (now current) 0) × (4 ≤ length (now current)) × (4 ≤ length (now next)) ⌝ }
-    ensures { λ u. ⌜ setAt (now (next .exit)) 0 ≡ step (read (now (s .entry))) (setAt (now (current .entry)) 0) symbol ⌝ }
+    ensures cut { λ r. ⌜ r ≡ nextCut symbol top (outgoing (read (now (s .entry))) (setAt (now (current .entry)) 0)) ⌝ }
+    ensures reached { λ r. ⌜ setAt (now (next .exit)) 0 ≡ step (read (now (s .entry))) (setAt (now (current .entry)) 0) symbol ⌝ }
 {
     sets::clear(next);
+    let mut found = top;
     let mut q = sets::next_member(current, 0);
     while q < 256 {
-        follow(sheets::run(s, starts, q as u32), symbol, closures, next);
+        found = follow(
+            sheets::run(s, starts, q as u32),
+            symbol,
+            closures,
+            next,
+            found,
+        );
         q = sets::next_member(current, q + 1);
     }
+    found
 }
 
 // The smaller of two accept words that is not 0, or 0.
@@ -150,7 +172,7 @@ fn advance(s: &[u32], starts: &[u32], closures: &[u64], current: &mut [u64], sym
     ensures { λ u. ⌜ setAt (now (current .exit)) 0 ≡ step (read (now (s .entry))) (setAt (now (current .entry)) 0) symbol ⌝ }
 {
     let mut next = [0u64; 4];
-    step(s, starts, closures, current, symbol, &mut next);
+    step(s, starts, closures, current, symbol, &mut next, 0);
     sets::copy_row(current, &next, 0);
 }
 

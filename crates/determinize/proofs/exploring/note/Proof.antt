@@ -1,5 +1,5 @@
 -- `note` meets its contract: a note past the room is stored nowhere.
-use Rattle.determinize.proofs.Visits.{noteLaws}
+use Rattle.determinize.proofs.Placing.{noteLaws}
 use Rattle.determinize.proofs.exploring.note.Statement.{statement}
 use Rattle.determinize.proofs.exploring.note.Tie as tie
 

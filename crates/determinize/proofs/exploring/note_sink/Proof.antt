@@ -1,5 +1,5 @@
 -- `note_sink` meets its contract.
-use Rattle.determinize.proofs.Visits.{sinkLaws}
+use Rattle.determinize.proofs.Placing.{sinkLaws}
 use Rattle.determinize.proofs.exploring.note_sink.Statement.{statement}
 use Rattle.determinize.proofs.exploring.note_sink.Tie as tie
 

@@ -6,13 +6,14 @@ use lib.ListN.{length}
 use Rattle.sets.specs.BitSet.{setAt, entries}
 use Rattle.sheets.specs.Sheet.{stateCount, read}
 use Rattle.determinize.specs.Notes.{Canonical}
-use Rattle.determinize.proofs.Visits.{Visiting, spanLaws, visit-next, canonical-next, cut-counts, cut-most}
+use Rattle.determinize.proofs.Placing.{cut-counts, cut-most}
+use Rattle.determinize.proofs.Visits.{Visiting, spanLaws, visit-next, canonical-next}
 use Rattle.determinize.proofs.exploring.partition_ranges.Statement.{statement}
 use Rattle.determinize.proofs.exploring.partition_ranges.Tie as tie
 
 abbrev Inv-loop : tie.InvT-loop
 Inv-loop s starts closures lower upper set from table₀ sets notes₀ noted top a₀ n₀ count₀ table notes a n count =
-    (length table ≡ 1024) × (length notes ≡ 10240) × (n < 256) × (a ≤ 4294967296) × (count + lower ≤ noted + a)
+    (top ≤ 4294967296) × (length table ≡ 1024) × (length notes ≡ 10240) × (n < 256) × (a ≤ 4294967296) × (count + lower ≤ noted + a)
     × Canonical (stateCount s) (entries table n)
     × Visiting lower upper (read s) (setAt set 0) (entries table₀ sets) from notes₀ noted table notes n count a
 
@@ -22,8 +23,7 @@ abbrev μ-loop : tie.MeasureT-loop
 pub partition-ranges-spec : {M : Type 1} → statement M
 partition-ranges-spec =
     tie.close
-    (tie.spec Inv-loop μ-loop (λ c. search spanLaws) (λ c. search spanLaws) (λ c κs. search spanLaws) (λ c. search spanLaws)
-    (λ c. search spanLaws) (λ c. search spanLaws) (λ c κs. search spanLaws) (λ c. search spanLaws) (λ c. search spanLaws)
-    (λ c. search spanLaws) (λ c. search spanLaws) (λ c. search spanLaws)
-    (λ c. (search needs, search needs, search needs, search cut-most, search cut-counts, search canonical-next, search visit-next))
+    (tie.spec Inv-loop μ-loop (λ c. search spanLaws) (λ c. search spanLaws) (λ c. search spanLaws) (λ c κs. search spanLaws)
+    (λ c. search spanLaws) (λ c. search spanLaws) (λ c. search spanLaws) (λ c. search spanLaws) (λ c. search spanLaws)
+    (λ c. (search needs, search needs, search needs, search needs, search cut-most, search cut-counts, search canonical-next, search visit-next))
     (λ c. search spanLaws) (λ c. search spanLaws) (λ c. search spanLaws))

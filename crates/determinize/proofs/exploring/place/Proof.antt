@@ -1,5 +1,5 @@
 -- `place` meets its contract: the empty set, a set that the table has, and a new one.
-use Rattle.determinize.proofs.Visits.{placeLaws}
+use Rattle.determinize.proofs.Placing.{placeLaws}
 use Rattle.determinize.proofs.exploring.place.Statement.{statement}
 use Rattle.determinize.proofs.exploring.place.Tie as tie
 

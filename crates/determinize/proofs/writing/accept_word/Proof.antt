@@ -1,5 +1,5 @@
 -- `accept_word` meets its contract: the copied row is the set.
-use Rattle.determinize.proofs.Sheets.{acceptLaws}
+use Rattle.determinize.proofs.Sections.{acceptLaws}
 use Rattle.determinize.proofs.writing.accept_word.Statement.{statement}
 use Rattle.determinize.proofs.writing.accept_word.Tie as tie
 

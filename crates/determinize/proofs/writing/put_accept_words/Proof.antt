@@ -8,7 +8,7 @@ use Rattle.lists.specs.Written.{Written}
 use Rattle.sets.specs.BitSet.{entries}
 use Rattle.sheets.specs.Sheet.{read}
 use Rattle.words.specs.Simulation.{kindOf}
-use Rattle.determinize.proofs.Sheets.{acceptLaws, accepts-next}
+use Rattle.determinize.proofs.Sections.{acceptLaws, accepts-next}
 use Rattle.determinize.proofs.writing.put_accept_words.Statement.{statement}
 use Rattle.determinize.proofs.writing.put_accept_words.Tie as tie
 

@@ -1,5 +1,5 @@
 -- `put_note` meets its contract: 256 stands for the sink.
-use Rattle.determinize.proofs.Sheets.{settleLaws}
+use Rattle.determinize.proofs.Sections.{settleLaws}
 use Rattle.determinize.proofs.writing.put_note.Statement.{statement}
 use Rattle.determinize.proofs.writing.put_note.Tie as tie
 

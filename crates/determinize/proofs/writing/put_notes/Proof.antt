@@ -2,7 +2,7 @@
 use Prim.Native.Nat.{_+_, _-_, _≤_}
 use mathlib.Core.Path.{_≡_}
 use lib.ListN.{length}
-use Rattle.determinize.proofs.Sheets.{NotesLeft, notesLaws}
+use Rattle.determinize.proofs.Sections.{NotesLeft, notesLaws}
 use Rattle.determinize.proofs.writing.put_notes.Statement.{statement}
 use Rattle.determinize.proofs.writing.put_notes.Tie as tie
 

@@ -1,5 +1,5 @@
 -- `write_sheet` meets its contract: the sections one behind the other.
-use Rattle.determinize.proofs.Sheets.{sheetLaws}
+use Rattle.determinize.proofs.Sections.{sheetLaws}
 use Rattle.determinize.proofs.writing.write_sheet.Statement.{statement}
 use Rattle.determinize.proofs.writing.write_sheet.Tie as tie
 

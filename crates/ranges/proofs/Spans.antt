@@ -11,10 +11,9 @@ use Rattle.lists.specs.Lists.{_∈_, keep, Ascending}
 use Rattle.lists.proofs.Lists.{keep-out}
 use Rattle.lists.proofs.Tests.{test, and-parts}
 use Rattle.automata.specs.Automaton.{Transition, holds}
 use Rattle.ranges.specs.Span.{Span, inside}
-use Rattle.ranges.specs.Cuts.{nextCut, spans, cutAll}
+use Rattle.ranges.specs.Cuts.{Cut, nextCut, spans, cutAll}
 use Rattle.ranges.proofs.Cuts.{next-le, next-gt, next-is, next-cuts, next-alike, cut-one}
-use Rattle.determinize.specs.Partition.{Cut}
 
 -- the first has a symbol, and the second lies above it
 abbrev pub Ahead : Span → Span → Type 0

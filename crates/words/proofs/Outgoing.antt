@@ -1,27 +1,44 @@
 -- The ranges that leave a set, and the next cut among them, member by member.
-use Prim.Native.Nat.{ℕ, zero, suc, _+_, _≤_, _<_}
-use mathlib.Core.Bool.{Bool, true, false, cond, _&&_, _||_}
-use mathlib.Core.List.{List, _∷_, _++_, flatMap}
+use Prim.Native.Nat.{ℕ, _+_, _≤_, _<_}
+use mathlib.Core.Bool.{Bool, true, false, _&&_, _||_, false≢true}
+use mathlib.Core.List.{List, [], _∷_, _++_}
 use mathlib.Core.Logic.{⊎-elim}
-use mathlib.Core.Path.{_≡_, refl, sym, _∙_, ap, subst}
+use mathlib.Core.Path.{_≡_, refl, sym, _∙_, ap}
 use native.Mathlib.Omega.{arith}
 use borrow.Author.Tests.{eqb-true, ne-eqb, leb-true}
 use lib.Dec.{eqb, leb}
-use Rattle.lists.specs.Lists.{keep}
-use Rattle.lists.proofs.Lists.{keep-out}
+use Rattle.lists.specs.Lists.{any, keep}
+use Rattle.lists.proofs.Lists.{keep-ext, keep-and, keep-none, keep-out}
+use Rattle.lists.proofs.Members.{keep-either}
 use Rattle.lists.proofs.Tests.{test, and-parts}
-use Rattle.automata.specs.Automaton.{Transition, Automaton, leaving, rangesOf}
+use Rattle.automata.specs.Automaton.{Transition, Automaton, holds, leaving, rangesOf}
 use Rattle.automata.specs.Records.{readRecords, writeRecords}
 use Rattle.automata.specs.WellFormed.{Lex, Before, WellFormed}
 use Rattle.automata.proofs.Records.{read-write}
-use Rattle.sets.specs.Sets.{Set, has, pickFrom, Canon, membersFrom, nextMember}
-use Rattle.sets.proofs.Sets.{pick-out, has-mem}
+use Rattle.sets.specs.Sets.{Set, has, Canon, membersFrom, nextMember}
+use Rattle.sets.proofs.Sets.{no-member, pick-out, has-mem}
 use Rattle.sets.proofs.Members.{from-end, visit-start, visit-next, next-above}
-use Rattle.words.specs.Simulation.{outgoing}
 use Rattle.ranges.specs.Cuts.{nextCut}
 use Rattle.ranges.proofs.Cuts.{next-append}
-use Rattle.determinize.proofs.Lists.{keep-and, keep-either, keep-ext}
-use Rattle.determinize.proofs.Steps.{outgoing-nil}
+use Rattle.words.specs.Simulation.{closure, outgoing, step}
+
+and-false : (b : Bool) → (b && false) ≡ false
+and-false true = refl
+and-false false = refl
+
+module _ (A : Automaton) where
+  -- no range leaves the empty set, and no symbol leads anywhere from it
+  pub outgoing-nil : outgoing A [] ≡ []
+  unfolding outgoing has
+  outgoing-nil = keep-none _ (A .transitions) (λ e m. and-false (eqb (e .kind) 1))
+
+  pub step-nil : (a : ℕ) → step A [] a ≡ []
+  unfolding step any
+  step-nil a =
+      no-member (step A [] a)
+      (λ q h.
+      let f : any (λ d. holds a d && has q (closure A (d .to))) (outgoing A []) ≡ true = pick-out 0 (A .size) _ q h .2 in
+      false≢true (sym (ap (any (λ d. holds a d && has q (closure A (d .to)))) outgoing-nil) ∙ f))
 
 from-rises : (d e : Transition) → Before d e → d .from ≤ e .from
 from-rises d e (Lex.here h) = omega arith
@@ -29,7 +46,7 @@ from-rises d e (Lex.later p h) = omega arith
 
 module _ (A : Automaton) (w : WellFormed A) where
   -- a member below all others
-  pub outgoing-cons : (q : ℕ) (R : Set) → ((x : ℕ) → has x R ≡ true → q < x) → outgoing A (q ∷ R) ≡ rangesOf (leaving A q) ++ outgoing A R
+  outgoing-cons : (q : ℕ) (R : Set) → ((x : ℕ) → has x R ≡ true → q < x) → outgoing A (q ∷ R) ≡ rangesOf (leaving A q) ++ outgoing A R
   unfolding outgoing has leaving rangesOf
   outgoing-cons q R h =
       let f : Transition → Bool = λ e. eqb (e .from) q && eqb (e .kind) 1 in
@@ -51,31 +68,10 @@ module _ (A : Automaton) (w : WellFormed A) where
       split false true r = refl
       split false false r = refl
 
-      none : (b : Bool) → (b && false) ≡ false
-      none true = refl
-      none false = refl
-
       apart : (e : Transition) → e .from ≡ q → (eqb (e .kind) 1 && has (e .from) R) ≡ false
       apart e c =
-          ⊎-elim (λ (t : has (e .from) R ≡ true). let k = h (e .from) t in absurd (omega arith)) (λ (t : has (e .from) R ≡ false). rw t (none (eqb (e .kind) 1)))
+          ⊎-elim (λ (t : has (e .from) R ≡ true). let k = h (e .from) t in absurd (omega arith)) (λ (t : has (e .from) R ≡ false). rw t (and-false (eqb (e .kind) 1)))
           (test (has (e .from) R))
-
-  outgoing-pick : (k n : ℕ) (P : ℕ → Bool) → outgoing A (pickFrom k n P) ≡ flatMap (λ q. rangesOf (leaving A q)) (pickFrom k n P)
-  unfolding pickFrom flatMap
-  outgoing-pick k zero P = outgoing-nil A
-  outgoing-pick k (suc n) P = go (P k) (outgoing-pick (suc k) n P)
-    where
-      R : Set
-      R = pickFrom (suc k) n P
-
-      go : (b : Bool) → outgoing A R ≡ flatMap (λ q. rangesOf (leaving A q)) R
-          → outgoing A (cond b (k ∷ R) R) ≡ flatMap (λ q. rangesOf (leaving A q)) (cond b (k ∷ R) R)
-      go true e = outgoing-cons k R (λ x h. let b = pick-out (suc k) n P x h .0 in omega arith) ∙ ap (λ l. rangesOf (leaving A k) ++ l) e
-      go false e = e
-
-  -- the runs of the members, ascending
-  pub outgoing-runs : (n : ℕ) (S : Set) → Canon n S → outgoing A S ≡ flatMap (λ q. rangesOf (leaving A q)) S
-  outgoing-runs n S c = subst (λ (R : Set). outgoing A R ≡ flatMap (λ q. rangesOf (leaving A q)) R) c (outgoing-pick 0 n (λ q. has q S))
 
   -- the next cut, with what was found among the members before q
   module _ (S : Set) (c : Canon 256 S) (a top : ℕ) where

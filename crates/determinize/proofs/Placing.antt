@@ -1,0 +1,107 @@
+-- The laws by which the parts of the first pass are proved: a note, the place of a set in the table, and the next cut.
+use Prim.Native.Nat.{ℕ, suc, _+_, _-_, _*_, _≤_, _<_}
+use mathlib.Core.Bool.{Bool, true, false}
+use mathlib.Core.List.{List, [], _∷_, _++_}
+use mathlib.Core.Path.{_≡_, refl, sym, _∙_, ap}
+use native.Mathlib.Omega.{arith}
+use borrow.Author.Needs.{needs}
+use borrow.Author.Tests.{le-leb, lt-leb}
+use mir.Syntax.{w32}
+use mir.Val.{Fits}
+use lib.ListN.{length}
+use lib.Seq.{sets, set-out}
+use Rattle.lists.specs.Written.{Written}
+use Rattle.lists.proofs.Written.{written-none}
+use Rattle.automata.specs.Automaton.{Transition}
+use Rattle.automata.specs.Records.{writeRecords}
+use Rattle.sets.specs.Sets.{Set, isEmpty, index}
+use Rattle.sets.specs.BitSet.{setAt, entries}
+use Rattle.sets.specs.Words.{putAt}
+use Rattle.sets.proofs.Sets.{empty-yes, empty-no}
+use Rattle.sets.proofs.BitSet.{length-entries}
+use Rattle.sets.proofs.Stores.{entries-put}
+use Rattle.ranges.specs.Cuts.{nextCut}
+use Rattle.ranges.proofs.Cuts.{next-le, next-gt}
+use Rattle.determinize.specs.Notes.{number, sinkNotes, Placed, add}
+use Rattle.determinize.proofs.Tables.{add-empty, add-known, add-new}
+use Rattle.determinize.proofs.Notes.{index-end}
+
+-- a note behind 2,048 others is not stored
+sets-past : (l : List ℕ) (i : ℕ) (vs : List ℕ) → length l ≤ i → sets l i vs ≡ l
+sets-past l i [] h = refl
+sets-past l i (v ∷ vs) h = ap (λ t. sets t (suc i) vs) (set-out l i v h) ∙ sets-past l (suc i) vs (omega arith)
+
+pub note-past : (l : List ℕ) (k a b c d e : ℕ) → length l ≡ 10240 → 2048 ≤ k → Written l (5 * k) (a ∷ b ∷ c ∷ d ∷ e ∷ []) l (5 * k + 5)
+note-past l k a b c d e h g = record { stored = sym (sets-past l (5 * k) (a ∷ b ∷ c ∷ d ∷ e ∷ []) (omega arith)); behind = refl }
+
+pub note-put : (l m : List ℕ) (k a b c d e r : ℕ) → Written l (5 * k) (a ∷ b ∷ c ∷ d ∷ e ∷ []) m r → Written l (5 * k) (a ∷ b ∷ c ∷ d ∷ e ∷ []) m (5 * k + 5)
+note-put l m k a b c d e r w = record { stored = w .stored; behind = refl }
+
+pub ruleset noteLaws = (note-past, note-put, needs)
+
+-- the sink's loop
+pub sink-noted : (l m : List ℕ) (k lo hi j : ℕ) → lo ≤ hi → Written l (5 * k) (j ∷ 1 ∷ lo ∷ hi ∷ 256 ∷ []) m (5 * k + 5)
+    → Written l (5 * k) (writeRecords (sinkNotes lo hi j)) m (5 * (k + 1))
+unfolding sinkNotes writeRecords
+sink-noted l m k lo hi j h w = rw (le-leb lo hi h) (record { stored = w .stored; behind = omega arith })
+
+pub sink-none : (l : List ℕ) (k lo hi j : ℕ) → hi < lo → Written l (5 * k) (writeRecords (sinkNotes lo hi j)) l (5 * k)
+unfolding sinkNotes writeRecords
+sink-none l k lo hi j h = rw (lt-leb lo hi h) (written-none l (5 * k))
+
+pub ruleset sinkLaws = (sink-noted, sink-none, needs)
+
+-- the place of a set in the table
+module _ (t set : List ℕ) (n : ℕ) (few : n < 256) where
+  pub place-empty : (b : Bool) → b ≡ isEmpty (setAt set 0) → b ≡ true → Placed (setAt set 0) (entries t n) t n 256
+  place-empty b e h =
+      let z : setAt set 0 ≡ [] = empty-yes (setAt set 0) (sym e ∙ h) in
+      record { added = sym (ap (λ R. add R (entries t n)) z ∙ add-empty (entries t n)); named = sym (ap (λ R. number R (entries t n)) z ∙ (unfold number in refl)); few = omega arith }
+
+  number-some : (R : Set) (T : List Set) → (R ≡ [] → ⊥) → index R T ≡ number R T
+  unfolding number
+  number-some [] T h = absurd (h refl)
+  number-some (q ∷ R) T h = refl
+
+  module _ (b : Bool) (e : b ≡ isEmpty (setAt set 0)) (h : b ≡ false) (j : ℕ) (i : j ≡ index (setAt set 0) (entries t n)) where
+    some : setAt set 0 ≡ [] → ⊥
+    some = empty-no (setAt set 0) (sym e ∙ h)
+
+    pub place-known : j < n → Placed (setAt set 0) (entries t n) t n j
+    place-known l =
+        record {
+          added = sym (add-known (setAt set 0) (entries t n) some (omega (arith, length-entries t n)));
+          named = i ∙ number-some (setAt set 0) (entries t n) some;
+          few = omega arith;
+        }
+
+    pub place-new : n ≤ j → length t ≡ 1024 → (u : List ℕ) → u ≡ putAt t (4 * n) set 0 → Placed (setAt set 0) (entries t n) u (n + 1) n
+    place-new l k u f =
+        let R = setAt set 0 in
+        let T = entries t n in
+        let a : entries u (n + 1) ≡ T ++ R ∷ [] = ap (λ x. entries x (n + 1)) f ∙ entries-put t n set (omega arith) in
+        let far : length T ≤ index R T = omega (arith, length-entries t n) in
+        record {
+          added = a ∙ sym (add-new R T some far);
+          named = sym (sym (number-some R (entries u (n + 1)) some) ∙ ap (index R) a ∙ index-end R T far ∙ length-entries t n);
+          few = omega arith;
+        }
+
+pub ruleset placeLaws = (place-empty, place-known, place-new, needs)
+
+-- the bounds of the next cut
+module _ (a top c : ℕ) (es : List Transition) (e : c ≡ nextCut a top es) where
+  pub cut-some : a < top → 1 ≤ c
+  cut-some h = omega (arith, next-gt a top es h)
+
+  pub cut-less : a < top → top - c < top - a
+  cut-less h = omega (arith, next-gt a top es h)
+
+  pub cut-counts : (k lo count : ℕ) → a < top → k + lo ≤ count + a → k + 1 + lo ≤ count + c
+  cut-counts k lo count h l = omega (arith, next-gt a top es h)
+
+  pub cut-most : top ≤ 4294967296 → c ≤ 4294967296
+  cut-most f = omega (arith, next-le a top es)
+
+  pub cut-fits : top ≤ 4294967296 → Fits w32 (c - 1)
+  cut-fits f = omega (arith, next-le a top es)
