@@ -10,7 +10,7 @@ use lib.Dec.{ltb}
 use lib.ListN.{getD, length, List·getD-eq-default}
 use Rattle.lists.specs.Lists.{_∈_}
 use Rattle.lists.proofs.Lists.{keep-in, keep-out}
-use Rattle.lists.proofs.Members.{at-in}
+use Rattle.lists.proofs.Members.{at-in, at-default}
 use Rattle.lists.proofs.Tests.{test}
 use Rattle.automata.specs.Automaton.{Automaton, stay, Word, none, more, InBounds}
 use Rattle.automata.specs.WellFormed.{mostStates}
@@ -28,7 +28,6 @@ use Rattle.determinize.specs.Determinize.{targets, someOf, subsets, tabl
 use Rattle.determinize.specs.Reached.{Reached, Good, MoreThan, AllReached}
 use Rattle.determinize.proofs.Tables.{same-decides}
 use Rattle.determinize.proofs.Targets.{targets-reached, targets-in}
-use Rattle.determinize.proofs.Laws.{at-entry}
 
 module _ (lo hi : ℕ) (A : Automaton) where
   -- the graph of the nonempty sets
@@ -94,7 +93,7 @@ module _ (lo hi : ℕ) (A : Automaton) where
 
       pub table-start : getD T 0 [] ≡ startSet A
       unfolding table subsets
-      table-start = at-entry T 0 [] (startSet A) table-some ∙ Queue.table-start G decides (mostStates - 1) T e
+      table-start = at-default T 0 [] (startSet A) table-some ∙ Queue.table-start G decides (mostStates - 1) T e
 
       -- every symbol leads from an entry to an entry or to nothing
       pub table-closed : (j a : ℕ) → lo ≤ a → a ≤ hi → In T (step A (getD T j []) a)

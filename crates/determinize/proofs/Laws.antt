@@ -1,10 +1,11 @@
 -- The laws by which code makes the table: entry by entry and span by span.
-use Prim.Native.Nat.{ℕ, zero, suc, _+_, _-_, _≤_, _<_}
+use Prim.Native.Nat.{ℕ, suc, _+_, _-_, _≤_, _<_}
 use mathlib.Core.List.{List, [], _∷_}
-use mathlib.Core.Path.{_≡_, refl, sym, _∙_, ap}
+use mathlib.Core.Path.{_≡_, sym, _∙_, ap}
 use native.Mathlib.Numerals.{add-one}
 use native.Mathlib.Omega.{arith}
 use lib.ListN.{getD, length}
+use Rattle.lists.proofs.Members.{at-default}
 use Rattle.automata.specs.Automaton.{Automaton}
 use Rattle.automata.specs.WellFormed.{mostStates}
 use Rattle.search.specs.Search
@@ -36,12 +37,6 @@ module _ (lo hi : ℕ) (A : Automaton) (S : Set) (old : List Set) where
     pub meet-full : mostStates ≤ length T → mostStates ≤ length (meet (targets lo hi A S) old)
     meet-full h = rw (sym i) (omega (arith, extends-length (meet-extends (spanTargets a hi A S) T)))
 
--- an entry of the table, whatever stands for those that it lacks
-pub at-entry : {X : Type 0} (T : List X) (i : ℕ) (c d : X) → i < length T → getD T i c ≡ getD T i d
-at-entry [] i c d h = absurd (omega arith)
-at-entry (x ∷ T) zero c d h = refl
-at-entry (x ∷ T) (suc i) c d h = at-entry T i c d (omega arith)
-
 -- the entries of the table are taken one after the other: i of them are done
 module _ (lo hi : ℕ) (A : Automaton) where
   abbrev pub queue : ℕ → List Set → Found Set
@@ -56,7 +51,7 @@ module _ (lo hi : ℕ) (A : Automaton) where
     unfolding subsets meet
     next h =
         Queue.queue-step (subsets lo hi A) (mostStates - 1) i T (omega arith) h
-        ∙ ap (λ S. queue (suc i) (Search.meet same (someOf (targets lo hi A S)) T)) (at-entry T i (startSet A) [] h)
+        ∙ ap (λ S. queue (suc i) (Search.meet same (someOf (targets lo hi A S)) T)) (at-default T i (startSet A) [] h)
 
     pub queue-next : i < length T → (U : List Set) → U ≡ meet (targets lo hi A (getD T i [])) T → queue (i + 1) U ≡ table lo hi A
     queue-next h U e = rw (e, add-one i) (sym (next h) ∙ q)

@@ -9,7 +9,6 @@ pub mod Runs
 pub mod Written
 pub mod Sink
 pub mod Counts
-pub mod KindByRuns
 pub mod Laws
 pub mod Answers
 pub mod Theorems

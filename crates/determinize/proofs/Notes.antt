@@ -11,6 +11,7 @@ use lib.Dec.{eqb, leb}
 use lib.ListN.{getD, length, drop, drop-of-length-le}
 use lib.Seq.{drop-cons}
 use Rattle.lists.specs.Lists.{_∈_}
+use Rattle.lists.proofs.Lists.{map-ext, map-append}
 use Rattle.lists.proofs.Tests.{test}
 use Rattle.automata.specs.Automaton.{Automaton, InBounds}
 use Rattle.automata.specs.WellFormed.{mostStates}
@@ -94,14 +95,6 @@ module _ (lo hi : ℕ) (A : Automaton) (T : List Set) where
   pub notes-past : (i : ℕ) → length T ≤ i → notesFrom lo hi A T i (drop i T) ≡ []
   unfolding notesFrom
   notes-past i h = ap (notesFrom lo hi A T i) (drop-of-length-le T h)
-
-map-ext : {X Y Z : Type 0} (f : Y → Z) (g : X → Y) (h : X → Z) (l : List X) → ((x : X) → x ∈ l → f (g x) ≡ h x) → map f (map g l) ≡ map h l
-map-ext f g h [] e = refl
-map-ext f g h (x ∷ l) e = ap₂ _∷_ (e x (List·Memᴰ·head refl)) (map-ext f g h l (λ y m. e y (List·Memᴰ·tail m)))
-
-map-append : {X Y : Type 0} (f : X → Y) (l m : List X) → map f (l ++ m) ≡ map f l ++ map f m
-map-append f [] m = refl
-map-append f (x ∷ l) m = ap (λ k. f x ∷ k) (map-append f l m)
 
 -- in a finished table the notes stand for the transitions
 module _ (lo hi : ℕ) (A : Automaton) (ok : InBounds A) (T : List Set) (e : table lo hi A ≡ found T) where

@@ -3,6 +3,5 @@ pub mod Partition
 pub mod Determinize
 pub mod Deterministic
 pub mod Reached
-pub mod Kinds
 pub mod Notes
 pub mod Sheets

@@ -1,4 +1,4 @@
--- Laws of `any`, `keep` and `tabulate`: what membership says.
+-- Laws of `any`, `keep`, `tabulate` and `map`: what membership says.
 use Prim.Native.Nat.{ℕ, zero, suc, _+_, _≤_, _<_}
 use mathlib.Core.Bool.{Bool, true, false, cond, not, _&&_, _||_, false≢true}
 use mathlib.Core.List.{List, [], _∷_, _++_, map, List·Memᴰ·head, List·Memᴰ·tail, nil≢cons}
@@ -128,6 +128,14 @@ pub map-tabulate : {X Y : Type 0} (f : X → Y) (n : ℕ) (g : ℕ → X) → ma
 unfolding tabulate
 map-tabulate f zero g = refl
 map-tabulate f (suc n) g = ap (λ l. f (g 0) ∷ l) (map-tabulate f n (λ k. g (suc k)))
+
+pub map-ext : {X Y Z : Type 0} (f : Y → Z) (g : X → Y) (h : X → Z) (l : List X) → ((x : X) → x ∈ l → f (g x) ≡ h x) → map f (map g l) ≡ map h l
+map-ext f g h [] e = refl
+map-ext f g h (x ∷ l) e = ap₂ _∷_ (e x (List·Memᴰ·head refl)) (map-ext f g h l (λ y m. e y (List·Memᴰ·tail m)))
+
+pub map-append : {X Y : Type 0} (f : X → Y) (l m : List X) → map f (l ++ m) ≡ map f l ++ map f m
+map-append f [] m = refl
+map-append f (x ∷ l) m = ap (λ k. f x ∷ k) (map-append f l m)
 
 pub length-keep : {A : Type 0} (f : A → Bool) (l : List A) → length (keep f l) ≤ length l
 unfolding keep

@@ -24,6 +24,12 @@ at-in [] j d h = absurd (omega arith)
 at-in (x ∷ l) zero d h = List·Memᴰ·head refl
 at-in (x ∷ l) (suc j) d h = List·Memᴰ·tail (at-in l j d (omega arith))
 
+-- an entry of a list, whatever stands for those that it lacks
+pub at-default : {X : Type 0} (l : List X) (j : ℕ) (c d : X) → j < length l → getD l j c ≡ getD l j d
+at-default [] j c d h = absurd (omega arith)
+at-default (x ∷ l) zero c d h = refl
+at-default (x ∷ l) (suc j) c d h = at-default l j c d (omega arith)
+
 module _ {X : Type 0} where
   pub distinct-end : (x : X) (l : List X) → Distinct l → (x ∈ l → ⊥) → Distinct (l ++ x ∷ [])
   distinct-end x [] Distinct.none f = Distinct.more (λ m. List·Memᴰ·not-nil m) Distinct.none
@@ -64,6 +70,18 @@ distinct-map f {l = x ∷ l} h (Distinct.more g d) =
     (distinct-map f (λ y z m n. h y z (List·Memᴰ·tail m) (List·Memᴰ·tail n)) d)
 
 module _ {X : Type 0} {R : X → X → Type 0} where
+  pub ascending-first : {x : X} {l : List X} → Ascending R (x ∷ l) → (y : X) → y ∈ l → R x y
+  ascending-first (Ascending.more g a) = g
+
+  pub ascending-rest : {x : X} {l : List X} → Ascending R (x ∷ l) → Ascending R l
+  ascending-rest (Ascending.more g a) = a
+
+  -- by another relation that holds between its elements
+  pub ascending-by : {Q : X → X → Type 0} {l : List X} → ((x y : X) → x ∈ l → y ∈ l → R x y → Q x y) → Ascending R l → Ascending Q l
+  ascending-by h Ascending.none = Ascending.none
+  ascending-by h (Ascending.more g a) =
+      Ascending.more (λ y m. h _ y (List·Memᴰ·head refl) (List·Memᴰ·tail m) (g y m)) (ascending-by (λ x y m n. h x y (List·Memᴰ·tail m) (List·Memᴰ·tail n)) a)
+
   pub ascending-keep : (f : X → Bool) {l : List X} → Ascending R l → Ascending R (keep f l)
   unfolding keep
   ascending-keep f Ascending.none = Ascending.none

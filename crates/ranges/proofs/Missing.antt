@@ -10,6 +10,7 @@ use borrow.Author.Tests.{le-leb, leb-true, leb-false, lt-ltb, le-ltb, ltb-true, 
 use lib.Dec.{leb, ltb}
 use Rattle.lists.specs.Lists.{_∈_, any, keep, Ascending}
 use Rattle.lists.proofs.Tests.{test, and-parts}
+use Rattle.lists.proofs.Members.{ascending-first, ascending-rest}
 use Rattle.lists.proofs.Lists.{any-in, any-out, keep-in, keep-out}
 use Rattle.automata.specs.Automaton.{Transition, holds}
 use Rattle.ranges.specs.Span.{Span, Inside, inside}
@@ -24,12 +25,6 @@ span-eq s t p q = λ i. record { low = p i; high = q i }
 record Separate (hs : List Span) : Type 0 where
   ascends : Ascending Apart hs
   full : (s : Span) → s ∈ hs → s .low ≤ s .high
-
-ascending-rest : {X : Type 0} {R : X → X → Type 0} {x : X} {l : List X} → Ascending R (x ∷ l) → Ascending R l
-ascending-rest (Ascending.more g a) = a
-
-pub ascending-first : {X : Type 0} {R : X → X → Type 0} {x : X} {l : List X} → Ascending R (x ∷ l) → (y : X) → y ∈ l → R x y
-ascending-first (Ascending.more g a) = g
 
 rest-separate : {s : Span} {hs : List Span} → Separate (s ∷ hs) → Separate hs
 rest-separate p = record { ascends = ascending-rest (p .ascends); full = λ t m. p .full t (List·Memᴰ·tail m) }

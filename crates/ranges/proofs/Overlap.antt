@@ -13,9 +13,10 @@ use Rattle.lists.specs.Lists.{_∈_, any, keep}
 use Rattle.lists.proofs.Tests.{test, or-right}
 use Rattle.lists.proofs.Lists.{keep-in, keep-none}
 use Rattle.automata.specs.Automaton.{Transition, holds}
+use Rattle.lists.proofs.Members.{ascending-first}
 use Rattle.ranges.specs.Span.{Span, Inside, InsideAny, intersectRanges, startsBelow, overlapping, Shared}
 use Rattle.ranges.specs.Missing.{missing, Holes, Sorted}
-use Rattle.ranges.proofs.Missing.{held, holds-ends, ascending-first, rest-sorted, any-none, missing-holes}
+use Rattle.ranges.proofs.Missing.{held, holds-ends, rest-sorted, any-none, missing-holes}
 
 -- a symbol lies in both ranges exactly when it lies in what they share
 pub intersect-exact : (s t : Span) (x : ℕ) → (Inside x s × Inside x t) ↔ InsideAny x (intersectRanges s t)

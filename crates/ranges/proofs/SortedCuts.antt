@@ -12,9 +12,10 @@ use lib.ListN.{length, getD, drop}
 use Rattle.lists.specs.Lists.{_∈_}
 use Rattle.automata.specs.Automaton.{Transition}
 use Rattle.automata.specs.Records.{recordAt}
+use Rattle.lists.proofs.Members.{ascending-first}
 use Rattle.ranges.specs.Cuts.{nearer, nextCut}
 use Rattle.ranges.specs.Missing.{Sorted}
-use Rattle.ranges.proofs.Missing.{ascending-first, rest-sorted}
+use Rattle.ranges.proofs.Missing.{rest-sorted}
 use Rattle.ranges.proofs.Runs.{rangesIn, ranges-end, ranges-at, ranges-skip}
 
 module _ (a c b : ℕ) where

@@ -1,32 +1,17 @@
 -- The transitions of one state, in the order of a sheet, have sorted ranges.
 use Prim.Native.Nat.{ℕ, _≤_}
-use mathlib.Core.Bool.{Bool, true, false, cond}
-use mathlib.Core.List.{List, _∷_, List·Memᴰ·head, List·Memᴰ·tail}
-use mathlib.Core.Path.{_≡_, refl, sym, _∙_}
+use mathlib.Core.Bool.{true}
+use mathlib.Core.List.{List}
+use mathlib.Core.Path.{_≡_, sym, _∙_}
 use native.Mathlib.Omega.{arith}
 use borrow.Author.Tests.{eqb-true}
 use lib.Dec.{eqb}
 use Rattle.lists.specs.Lists.{_∈_, keep, Ascending}
 use Rattle.lists.proofs.Lists.{keep-out}
+use Rattle.lists.proofs.Members.{ascending-keep, ascending-by}
 use Rattle.automata.specs.Automaton.{Transition, Automaton, leaving, rangesOf}
 use Rattle.automata.specs.WellFormed.{Lex, Before, Sound, WellFormed}
 use Rattle.ranges.specs.Missing.{Sorted}
-
--- what is kept of an ascending list ascends
-pub keep-ascending : {X : Type 0} {R : X → X → Type 0} (f : X → Bool) {l : List X} → Ascending R l → Ascending R (keep f l)
-unfolding keep
-keep-ascending f Ascending.none = Ascending.none
-keep-ascending {R = R} f {l = x ∷ l} (Ascending.more g a) = go (f x) (keep-ascending f a)
-  where
-    go : (b : Bool) → Ascending R (keep f l) → Ascending R (cond b (x ∷ keep f l) (keep f l))
-    go true k = Ascending.more (λ y m. g y (keep-out f y l m .0)) k
-    go false k = k
-
--- a list that ascends by R ascends by S, where R gives S between its elements
-ascending-map : {X : Type 0} {R S : X → X → Type 0} {l : List X} → ((x y : X) → x ∈ l → y ∈ l → R x y → S x y) → Ascending R l → Ascending S l
-ascending-map h Ascending.none = Ascending.none
-ascending-map h (Ascending.more g a) =
-    Ascending.more (λ y m. h _ y (List·Memᴰ·head refl) (List·Memᴰ·tail m) (g y m)) (ascending-map (λ x y m n. h x y (List·Memᴰ·tail m) (List·Memᴰ·tail n)) a)
 
 rises : (d e : Transition) → d .from ≡ e .from → d .kind ≡ e .kind → Before d e → d .first ≤ e .first
 rises d e f k (Lex.here h) = absurd (omega arith)
@@ -42,9 +27,9 @@ sorted-ranges q es a f s =
     let out : (e : Transition) → e ∈ keep (λ e. eqb (e .kind) 1) es → e ∈ es × (eqb (e .kind) 1 ≡ true) = λ e m. keep-out (λ e. eqb (e .kind) 1) e es m in
     record {
       rises =
-          ascending-map
+          ascending-by
           (λ d e m n. rises d e (f d (out d m .0) ∙ sym (f e (out e n .0))) (eqb-true _ _ (out d m .1) ∙ sym (eqb-true _ _ (out e n .1))))
-          (keep-ascending (λ e. eqb (e .kind) 1) a);
+          (ascending-keep (λ e. eqb (e .kind) 1) a);
       full = λ e m. s e (out e m .0) .full;
     }
 
@@ -53,4 +38,4 @@ pub leaving-sorted : (A : Automaton) (q : ℕ) → WellFormed A → Sorted (rang
 unfolding leaving
 leaving-sorted A q w =
     let out : (e : Transition) → e ∈ leaving A q → e ∈ A .transitions × (eqb (e .from) q ≡ true) = λ e m. keep-out (λ e. eqb (e .from) q) e (A .transitions) m in
-    sorted-ranges q (leaving A q) (keep-ascending (λ e. eqb (e .from) q) (w .ascends)) (λ e m. eqb-true _ _ (out e m .1)) (λ e m. w .sound e (out e m .0))
+    sorted-ranges q (leaving A q) (ascending-keep (λ e. eqb (e .from) q) (w .ascends)) (λ e m. eqb-true _ _ (out e m .1)) (λ e m. w .sound e (out e m .0))

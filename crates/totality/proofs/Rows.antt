@@ -14,6 +14,7 @@ use Rattle.lists.specs.Lists.{_∈_, keep, tabulate, Ascending, none, more}
 use Rattle.lists.specs.Written.{Written}
 use Rattle.lists.proofs.Tests.{test}
 use Rattle.lists.proofs.Lists.{keep-in, keep-out, keep-all, keep-none, tabulate-end}
+use Rattle.lists.proofs.Members.{ascending-keep}
 use Rattle.automata.specs.Automaton.{Transition, Automaton, leaving, rangesOf}
 use Rattle.automata.specs.Ordered.{inOrder}
 use Rattle.automata.specs.Records.{readRecords, writeRecords}
@@ -23,7 +24,7 @@ use Rattle.automata.proofs.Records.{read-write, length-write, write-append}
 use Rattle.ranges.specs.Missing.{Holes, Apart}
 use Rattle.ranges.specs.Span.{Span}
 use Rattle.ranges.proofs.Missing.{missing-holes, held}
-use Rattle.ranges.proofs.Sorting.{keep-ascending, leaving-sorted}
+use Rattle.ranges.proofs.Sorting.{leaving-sorted}
 use Rattle.sheets.specs.Sheet.{stateCount, read}
 use Rattle.sheets.proofs.Meaning.{read-well}
 use Rattle.totality.specs.Merging.{leading, Mergeable, Fillable, Ready}
@@ -67,7 +68,7 @@ module _ (A : Automaton) (w : WellFormed A) (q : ℕ) where
       pub state-mergeable : Mergeable sink q (leaving A q) (holesOf lo hi (leaving A q))
       state-mergeable =
           record {
-            records = unfold leaving in keep-ascending (λ e. eqb (e .from) q) (w .ascends);
+            records = unfold leaving in ascending-keep (λ e. eqb (e .from) q) (w .ascends);
             holes = holes-ascend (state-holes .ascends) (state-holes .full);
             later = λ e h m n l. hole-first e h m l (range-kind e m l);
             sooner = λ e h m n l. ⊎-elim (λ k. epsilon-first e h m k) (λ k. range-first e h m k (below-low e h m n l k)) (kinds e m);

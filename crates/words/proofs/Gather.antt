@@ -17,7 +17,7 @@ use Rattle.automata.specs.Records.{readRecords, recordAt}
 use Rattle.automata.proofs.Records.{records-at, records-end}
 use Rattle.ranges.specs.Missing.{Sorted}
 use Rattle.ranges.proofs.Runs.{rangesIn, ranges-at}
-use Rattle.ranges.proofs.SortedCuts.{sorted-above, sorted-skip, sorted-next, cut-ended, cut-skip, cut-below, cut-holds, cut-above}
+use Rattle.ranges.proofs.SortedCuts.{sorted-above}
 use Rattle.sets.specs.Sets.{Set, has, pick, Canon}
 use Rattle.sets.specs.BitSet.{setAt}
 use Rattle.sets.specs.Words.{unionAt}
@@ -65,10 +65,6 @@ module _ {X : Type 0} (f : ℕ → X → Bool) where
   unfolding withAll any
   all-nothing S xs h =
       pick-ext 0 256 _ _ (λ q l. ap (λ b. has q S || b) (sym (any-ext (f q) (λ x. false) xs (h q) ∙ any-false xs)))
-
-  pub all-ext : (g : ℕ → X → Bool) (S : Set) (xs : List X) → ((q : ℕ) (x : X) → x ∈ xs → f q x ≡ g q x) → withAll S f xs ≡ withAll S g xs
-  unfolding withAll
-  all-ext g S xs h = pick-ext 0 256 _ _ (λ q l. ap (λ b. has q S || b) (any-ext (f q) (g q) xs (h q)))
 
 and-no : (a b : Bool) → a ≡ false → (a && b) ≡ false
 and-no a b h = rw h
@@ -144,4 +140,4 @@ module _ (run c : List ℕ) (at : ℕ) (t : Targets (readRecords (drop at run)) 
   pub target-next : Targets (readRecords (drop (at + 5) run)) c
   target-next = record { inside = λ e m. t .inside e (rw (records-at run at h) (List·Memᴰ·tail m)) }
 
-pub ruleset runLaws = (run-ended, run-skip, run-below, run-holds, run-above, target-here, target-next, sorted-skip, sorted-next, cut-ended, cut-skip, cut-below, cut-holds, cut-above, needs)
+pub ruleset targetLaws = (target-here, needs)

@@ -9,4 +9,5 @@ pub mod Epsilons
 pub mod Stepping
 pub mod Reading
 pub mod Answers
+pub mod KindByRuns
 pub mod Theorems

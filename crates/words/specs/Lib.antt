@@ -1,5 +1,6 @@
 -- Closures, steps and acceptance.
 pub mod Simulation
+pub mod Kinds
 pub mod Gather
 pub mod Epsilons
 pub mod Acceptance

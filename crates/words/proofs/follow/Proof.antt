@@ -9,7 +9,7 @@ use Rattle.ranges.specs.Missing.{Sorted}
 use Rattle.ranges.proofs.Runs.{rangesIn}
 use Rattle.ranges.proofs.SortedCuts.{sorted-skip, sorted-next, cut-skip, cut-below, cut-holds, cut-above, cut-ended}
 use Rattle.words.specs.Gather.{gathered, Targets}
-use Rattle.words.proofs.Gather.{runLaws, run-skip, run-below, run-holds, run-above, run-ended, target-next}
+use Rattle.words.proofs.Gather.{targetLaws, run-skip, run-below, run-holds, run-above, run-ended, target-next}
 use Rattle.words.proofs.follow.Statement.{statement}
 use Rattle.words.proofs.follow.Tie as tie
 
@@ -29,7 +29,7 @@ follow-spec =
     (λ c. search needs) (λ c. search needs) (λ c. search needs) (λ c. search needs) (λ c. search needs) (λ c. search needs)
     (λ c. search needs) (λ c. search needs) (λ c. search needs) (λ c. search needs)
     (λ c. search needs) (λ c κs. search needs) (λ c. search needs) (λ c. (search cut-above, search run-above))
-    (λ c κs. search runLaws) (λ c κs. search needs) (λ c. search needs)
+    (λ c κs. search targetLaws) (λ c κs. search needs) (λ c. search needs)
     (λ c. (search needs, search needs, search target-next, search sorted-next, search run-holds, search cut-holds))
     (λ c. search needs) (λ c. (search needs, search needs, search target-next, search sorted-next, search run-below, search cut-below))
     (λ c. search needs) (λ c. (search needs, search needs, search target-next, search sorted-skip, search run-skip, search cut-skip))

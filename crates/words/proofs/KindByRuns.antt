@@ -6,11 +6,11 @@ use mathlib.Core.Logic.{_↔_}
 use mathlib.Core.Path.{_≡_}
 use Rattle.automata.specs.Automaton.{Automaton, Run, stay, InBounds}
 use Rattle.sets.specs.Sets.{has}
 use Rattle.words.specs.Simulation.{simulate, startSet, kind}
 use Rattle.words.proofs.Closures.{join, closure-sound, closure-complete}
 use Rattle.words.proofs.Simulation.{simulate-sound, simulate-complete, closure-shut}
 use Rattle.words.proofs.Kind.{kindOf-some, kindOf-least}
-use Rattle.determinize.specs.Kinds.{Kind}
+use Rattle.words.specs.Kinds.{Kind}
 
 module _ (A : Automaton) (ok : InBounds A) where
   pub simulate-runs : (w : List ℕ) (q : ℕ) → (has q (simulate A (startSet A) w) ≡ true) ↔ Run A (A .start) w q
