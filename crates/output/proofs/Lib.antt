@@ -3,3 +3,5 @@ pub mod Writing
 pub mod Answers
 pub mod Inserting
 pub mod Storing
+pub mod Merging
+pub mod Halves

@@ -3,3 +3,4 @@ pub mod Output
 pub mod Made
 pub mod Ordered
 pub mod Storing
+pub mod Sorting

@@ -21,7 +21,6 @@ use Rattle.output.specs.declared.Made.{Made}
 use Rattle.output.specs.declared.Made.the-variants as made
 use Rattle.output.specs.Made.{outputOf}
 use Rattle.output.specs.Output.{outputs, roomFirst}
-use Rattle.output.specs.Storing.{Stored}
 use Rattle.output.proofs.Answers.{made-given, made-refused, room-lacking, room-enough, room-words, room-bytes}
 use Rattle.refusal.specs.declared.InputRefusal.{InputRefusal}
 use Rattle.refusal.specs.declared.InputRefusal.the-variants.{Epsilon}
@@ -41,6 +40,7 @@ use Rattle.sheets.specs.Sheet.{stateCount, read, write}
 use Rattle.sheets.proofs.Accepted.{check-accepted}
 use Rattle.sheets.proofs.Checking.{sheet-passed, sheet-refused}
 use Rattle.sheets.proofs.Runs.{starts-indexed}
+use Rattle.product.specs.Gathering.{Collected}
 use Rattle.product.specs.Product.{Pair, samePair, Joint, jointsFrom, pairs, transitionOf, transitionsFrom, placeIn, acceptOf, built, blockedAt, labelOf, product, intersection}
 use Rattle.product.specs.Tables.{codeOf, tableOf, numberIn, Queued, Ready, Within, foundIn, numberAt, sheetWords, Whole}
 use Rattle.product.proofs.Answers.{answer-over, answer-blocked, answer-many, answer-given}
@@ -78,7 +78,7 @@ module _ (a aruns b bruns : List ℕ) (ra : Ready a aruns) (rb : Ready b bruns) 
       let s = w .states (j .to) t in
       number-place words numbers n k (j .to) (omega (arith, s .0, ra .accepted .few-states)) (omega (arith, s .1, rb .accepted .few-states)) t))
 
-  module _ (buf : List ℕ) (end : ℕ) (s : Stored buf end (transitionsFrom (numberAt numbers) (read a) (read b) 0 (tableOf words n))) where
+  module _ (buf : List ℕ) (end : ℕ) (s : Collected buf end (transitionsFrom (numberAt numbers) (read a) (read b) 0 (tableOf words n))) where
     pub product-many : 10240 < end → product (read a) (read b) ≡ refused 22
     product-many h = answer-many (read a) (read b) (tableOf words n) (v .all) (v .free) (let o = s .over h in rw (sym gathered) o)
 

@@ -1,4 +1,5 @@
--- The product of two automata, what pairs of states reach, and what the code holds of them.
+-- The product of two automata, what pairs of states reach, and what the code holds of them and of their transitions.
 pub mod Product
 pub mod Reached
 pub mod Tables
+pub mod Gathering

@@ -8,6 +8,7 @@ add-joint-spec =
     tie.close
     (tie.spec
     (λ c. search jointLaws) (λ c. search jointLaws) (λ c. search jointLaws) (λ c. search jointLaws) (λ c. search jointLaws)
-    (λ c. search jointLaws) (λ c. search jointLaws) (λ c. search jointLaws) (λ c κs. search jointLaws) (λ c. search jointLaws)
-    (λ c. search jointLaws) (λ c. search jointLaws) (λ c κs. search jointLaws) (λ c κs. search jointLaws) (λ c. search jointLaws)
-    (λ c. search jointLaws) (λ c. search jointLaws) (λ c. search jointLaws))
+    (λ c. search jointLaws) (λ c. search jointLaws) (λ c. search jointLaws) (λ c κs. search jointLaws)
+    (λ c. search jointLaws) (λ c. search jointLaws) (λ c. search jointLaws) (λ c κs. search jointLaws)
+    (λ c κs. search jointLaws) (λ c κs. search jointLaws) (λ c. search jointLaws) (λ c. search jointLaws)
+    (λ c. search jointLaws) (λ c. search jointLaws))

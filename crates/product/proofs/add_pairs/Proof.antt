@@ -2,8 +2,8 @@
 use Prim.Native.Nat.{_-_, _≤_}
 use native.Mathlib.Omega.{arith}
 use lib.ListN.{drop}
-use Rattle.output.specs.Storing.{Left}
 use Rattle.sheets.specs.Sheet.{read}
+use Rattle.product.specs.Gathering.{Rest}
 use Rattle.product.specs.Product.{transitionsFrom}
 use Rattle.product.specs.Tables.{tableOf, numberAt}
 use Rattle.product.proofs.Adding.{pairsLaws, pairs-over, pairs-next}
@@ -12,7 +12,7 @@ use Rattle.product.proofs.add_pairs.Statement.{statement}
 use Rattle.product.proofs.add_pairs.Tie as tie
 
 abbrev Inv-loop : tie.InvT-loop
-Inv-loop a aruns b bruns queue n numbers buf₀ end₀ i₀ buf end i = (i ≤ n) × Left buf end (transitionsFrom (numberAt numbers) (read a) (read b) i (drop i (tableOf queue n))) (transitionsFrom (numberAt numbers) (read a) (read b) 0 (tableOf queue n))
+Inv-loop a aruns b bruns queue n numbers buf₀ end₀ i₀ buf end i = (i ≤ n) × Rest buf end (transitionsFrom (numberAt numbers) (read a) (read b) i (drop i (tableOf queue n))) (transitionsFrom (numberAt numbers) (read a) (read b) 0 (tableOf queue n))
 
 abbrev μ-loop : tie.MeasureT-loop
 μ-loop a aruns b bruns queue n numbers buf₀ end₀ i₀ buf end i = n - i

@@ -4,14 +4,14 @@ use mathlib.Core.List.{[], _∷_, _++_}
 use lib.ListN.{length, drop}
 use Rattle.automata.specs.Records.{recordAt, readRecords}
 use Rattle.output.specs.Ordered.{recordsIn}
-use Rattle.output.specs.Storing.{Left}
+use Rattle.product.specs.Gathering.{Rest}
 use Rattle.product.specs.Tables.{links, Narrow}
 use Rattle.product.proofs.Adding.{runLaws, run-over, run-next}
 use Rattle.product.proofs.add_run.Statement.{statement}
 use Rattle.product.proofs.add_run.Tie as tie
 
 abbrev Inv-loop : tie.InvT-loop
-Inv-loop d run i numbers buf₀ end k₀ at₀ buf k at = (at ≤ length run) × Narrow (readRecords (drop at run)) × Left buf k (links numbers i (recordAt d 0 ∷ []) (readRecords (drop at run))) (recordsIn buf₀ 0 end ++ links numbers i (recordAt d 0 ∷ []) (readRecords run))
+Inv-loop d run i numbers buf₀ end k₀ at₀ buf k at = (at ≤ length run) × Narrow (readRecords (drop at run)) × Rest buf k (links numbers i (recordAt d 0 ∷ []) (readRecords (drop at run))) (recordsIn buf₀ 0 end ++ links numbers i (recordAt d 0 ∷ []) (readRecords run))
 
 abbrev μ-loop : tie.MeasureT-loop
 μ-loop d run i numbers buf₀ end k₀ at₀ buf k at = length run - at

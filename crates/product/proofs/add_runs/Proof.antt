@@ -4,14 +4,14 @@ use mathlib.Core.List.{_++_}
 use lib.ListN.{length, drop}
 use Rattle.automata.specs.Records.{readRecords}
 use Rattle.output.specs.Ordered.{recordsIn}
-use Rattle.output.specs.Storing.{Left}
+use Rattle.product.specs.Gathering.{Rest}
 use Rattle.product.specs.Tables.{links, Narrow}
 use Rattle.product.proofs.Adding.{runsLaws, runs-over, runs-next}
 use Rattle.product.proofs.add_runs.Statement.{statement}
 use Rattle.product.proofs.add_runs.Tie as tie
 
 abbrev Inv-loop : tie.InvT-loop
-Inv-loop first second i numbers buf₀ end k₀ at₀ buf k at = (at ≤ length first) × Narrow (readRecords (drop at first)) × Left buf k (links numbers i (readRecords (drop at first)) (readRecords second)) (recordsIn buf₀ 0 end ++ links numbers i (readRecords first) (readRecords second))
+Inv-loop first second i numbers buf₀ end k₀ at₀ buf k at = (at ≤ length first) × Narrow (readRecords (drop at first)) × Rest buf k (links numbers i (readRecords (drop at first)) (readRecords second)) (recordsIn buf₀ 0 end ++ links numbers i (readRecords first) (readRecords second))
 
 abbrev μ-loop : tie.MeasureT-loop
 μ-loop first second i numbers buf₀ end k₀ at₀ buf k at = length first - at
