@@ -3,5 +3,6 @@ pub mod Writing
 pub mod Answers
 pub mod Inserting
 pub mod Storing
+pub mod Heads
 pub mod Merging
 pub mod Halves
