@@ -79,13 +79,7 @@ enum Operation {
     EpsilonEliminate,
 }
 
-fn made_by(
-    o: Operation,
-    sheet: &[u32],
-    labels: &[u8],
-    out: &mut [u32],
-    names: &mut [u8],
-) -> Made {
+fn made_by(o: Operation, sheet: &[u32], labels: &[u8], out: &mut [u32], names: &mut [u8]) -> Made {
     match o {
         Operation::Totalize => totality::totalize(sheet, labels, out, names),
         Operation::Complement => totality::complement(sheet, labels, out, names),

@@ -35,11 +35,7 @@ pub fn equivalent(case: &[u32]) -> bool {
     let a = replay::list(case, 0);
     let second = 1 + a.len();
     let b = replay::list(case, second);
-    answered(
-        case,
-        second + 1 + b.len(),
-        equivalence::is_equivalent(a, b),
-    )
+    answered(case, second + 1 + b.len(), equivalence::is_equivalent(a, b))
 }
 
 // The first sheet and its labels, the second and its labels, then whether the first is a subautomaton of the second.
