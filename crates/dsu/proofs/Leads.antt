@@ -8,7 +8,6 @@ use native.Mathlib.Omega.{arith}
 use lib.ListN.{length, getD, set, length-set}
 use lib.Seq.{getD-set-same, getD-set-other}
 use borrow.Author.Tests.{lt-leb}
-use Rattle.dsu.specs.declared.DSU.{DSU}
 use Rattle.dsu.specs.declared.Found.the-variants.{Root}
 use Rattle.dsu.specs.declared.FindAnswer.{FindAnswer}
 use Rattle.dsu.specs.Sets.{Seen, top, up, fault, seen, Way, broken, reached, point, onward, walk, way, setsOf, findOf}

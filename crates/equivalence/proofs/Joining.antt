@@ -8,7 +8,7 @@ use lib.ListN.{length, set, length-set}
 use lib.Seq.{getD-set-same, getD-set-other}
 use Rattle.dsu.specs.declared.DSU.{DSU}
 use Rattle.dsu.specs.declared.Answer.{Answer}
-use Rattle.dsu.specs.Classes.{Merges, Spanned}
+use Rattle.dsu.specs.Classes.{Spanned}
 use Rattle.dsu.specs.Sets.{newOf}
 use Rattle.dsu.specs.Laws.{Valid, classOf, JoinLaw, old, new}
 use Rattle.dsu.proofs.Generated.{spanned-alone, spanned-more, spanned-renamed}

@@ -174,10 +174,28 @@ fn walk(a: &[u32], b: &[u32]) -> bool
     let mut one = [0u32; 512];
     let mut two = [0u32; 512];
     let made = offer(
-        &mut repr, &mut size, &mut one, &mut two, n, 0, n1, a[1], b[1],
+        &mut repr,
+        &mut size,
+        &mut one,
+        &mut two,
+        n,
+        0,
+        n1,
+        a[1],
+        b[1],
     );
     walk_pairs(
-        a, b, &starts_a, &starts_b, &mut repr, &mut size, &mut one, &mut two, n, made, n1,
+        a,
+        b,
+        &starts_a,
+        &starts_b,
+        &mut repr,
+        &mut size,
+        &mut one,
+        &mut two,
+        n,
+        made,
+        n1,
     )
 }
 
