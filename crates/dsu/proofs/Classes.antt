@@ -5,7 +5,7 @@ use mathlib.Core.Path.{_≡_, refl, sym, ap, _∙_}
 use mathlib.Core.Logic.{_⊎_, inl, inr}
 use native.Mathlib.Decide.{ℕ-discrete}
 use native.Mathlib.Omega.{arith}
-use Rattle.dsu.specs.Classes.{Classes, none, old, new, Joined, before, across, back}
+use Rattle.dsu.specs.Classes.{Classes, none, old, new, Joined, before, across, back, Ker}
 use Rattle.dsu.proofs.Count.{Merged}
 
 pub classes-unique : {R : ℕ → ℕ → Type 0} {n j k : ℕ} → Classes R n j → Classes R n k → j ≡ k
@@ -20,10 +20,6 @@ pub classes-moved : {R S : ℕ → ℕ → Type 0} {n k : ℕ} → ((p q : ℕ) 
 classes-moved f g none = none
 classes-moved f g (old {n = n} i h r c) = old i h (f i n (omega arith) (omega arith) r) (classes-moved (λ p q a b. f p q (omega arith) (omega arith)) (λ p q a b. g p q (omega arith) (omega arith)) c)
 classes-moved f g (new {n = n} o c) = new (λ i h s. o i h (g i n (omega arith) (omega arith) s)) (classes-moved (λ p q a b. f p q (omega arith) (omega arith)) (λ p q a b. g p q (omega arith) (omega arith)) c)
-
--- the relation of two numbers that f takes to the same
-abbrev pub Ker : (ℕ → ℕ) → ℕ → ℕ → Type 0
-Ker f p q = f p ≡ f q
 
 pub classes-alone : (f : ℕ → ℕ) (n : ℕ) → ((p q : ℕ) → p < n → q < n → f p ≡ f q → p ≡ q) → Classes (Ker f) n n
 classes-alone f zero h = none

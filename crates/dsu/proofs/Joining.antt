@@ -3,8 +3,8 @@ use Prim.Native.Nat.{ℕ, _+_, _≤_, _<_}
 use mathlib.Core.Path.{_≡_, refl, sym, ap, _∙_}
 use mathlib.Core.List.{List}
 use native.Mathlib.Omega.{arith}
-use lib.ListN.{getD, set}
-use mir.Syntax.{w32, w64}
+use lib.ListN.{getD}
+use mir.Syntax.{w64}
 use mir.Val.{Fits}
 use borrow.Author.Needs.{needs}
 use borrow.Author.Tests.{lt-ltb, le-ltb, le-leb, lt-leb, eq-eqb, ne-eqb}
@@ -16,7 +16,7 @@ use Rattle.dsu.specs.declared.Found.the-variants.{Root, Refused}
 use Rattle.dsu.specs.declared.Outcome.the-variants.{Done}
 use Rattle.dsu.specs.declared.Answer.{Answer}
 use Rattle.dsu.specs.Sets.{Way, broken, reached, way, changed, refuse, under, join, joinSecond, joinFirst, unionOf}
-use Rattle.dsu.specs.Steps.{Roots, climbed, answered}
+use Rattle.dsu.specs.Steps.{Roots, Put, climbed, answered}
 use Rattle.dsu.proofs.Leads.{leads-end, way-leads}
 
 -- i and j are the roots as indices
@@ -24,13 +24,11 @@ module _ (d : DSU) (a b : ℕ) (r : Roots (d .size) (d .n) a b) (i j : ℕ) (is-
   sizes : getD (d .size) i 0 + getD (d .size) j 0 ≤ 1024
   sizes = rw (is-i, is-j) (omega (arith, r .few, r .first-fits, r .second-fits))
 
-  pub put-fits : Fits w32 (getD (d .size) i 0 + getD (d .size) j 0)
-  put-fits = let h = sizes in omega arith
+-- `put_under`
+pub put-made : (d : DSU) (l : List ℕ) (a b : ℕ) (l′ z′ : List ℕ) → Put l (d .size) a b l′ z′ → _≡_ {A = Answer} (record { outcome = Done; sets = changed d l′ z′ }) (under d l a b)
+put-made d l a b l′ z′ p = rw (p .parents, p .sizes)
 
-  pub put-made : (l : List ℕ) → _≡_ {A = Answer} (record { outcome = Done; sets = changed d (set l j a) (set (d .size) i (getD (d .size) i 0 + getD (d .size) j 0)) }) (under d l a b)
-  put-made l = rw (is-i, is-j)
-
-pub ruleset putting = (put-fits, put-made, needs)
+pub ruleset putting = (put-made, needs)
 
 pub roots-turned : {z : List ℕ} {n a b : ℕ} → Roots z n a b → Roots z n b a
 roots-turned r = record { few = r .few; first-inside = r .second-inside; second-inside = r .first-inside; first-fits = r .second-fits; second-fits = r .first-fits }

@@ -6,10 +6,11 @@ use native.Mathlib.Decide.{ℕ-discrete}
 use native.Mathlib.Omega.{arith}
 use lib.ListN.{length, getD, set, length-set}
 use lib.Seq.{getD-set-same, getD-set-other}
+use Rattle.dsu.specs.Sets.{setsOf}
 use Rattle.dsu.specs.Steps.{Met}
 use Rattle.dsu.specs.Laws.{classOf, count, Valid}
 use Rattle.dsu.proofs.Count.{count-cong}
-use Rattle.dsu.proofs.Leads.{sets, Leads, here, above, after, leads-start, leads-end, leads-lt, leads-class, pointed-leads, end-apart, after-leads}
+use Rattle.dsu.proofs.Leads.{Leads, here, above, after, leads-start, leads-end, leads-lt, leads-class, pointed-leads, end-apart, after-leads}
 
 -- what holds of the element at y after a store at x, by whether y is x
 pub set-case : (P : ℕ → Type 0) (l : List ℕ) (x a y : ℕ) → x < length l → (y ≡ x → P a) → ((y ≡ x → ⊥) → P (getD l y 0)) → P (getD (set l x a) y 0)
@@ -19,7 +20,7 @@ set-case P l x a y h f g = by-place (ℕ-discrete y x)
     by-place (yes e) = subst P (sym (ap (λ (k : ℕ). getD (set l x a) k 0) e ∙ getD-set-same l x a 0 h)) (f e)
     by-place (no e) = subst P (sym (getD-set-other l x y a 0 e)) (g e)
 
-module _ (l z : List ℕ) (n : ℕ) (v : Valid (sets l z n)) where
+module _ (l z : List ℕ) (n : ℕ) (v : Valid (setsOf l z n)) where
   pub met : (x : ℕ) → x < n → Met z n x
   met x h = record { few = v .few; inside = h; some = v .some x h; fits = v .fits x h }
 
@@ -34,7 +35,7 @@ module _ (l z : List ℕ) (n : ℕ) (v : Valid (sets l z n)) where
           let w = ih (omega (arith, v .grows x h e)) in
           (w .0, above (met x h) (record { apart = e; inside = v .inside x h; grows = v .grows x h e }) (w .1))
 
-  pub leads-to-class : (x : ℕ) → x < n → Leads l z n x (classOf (sets l z n) x)
+  pub leads-to-class : (x : ℕ) → x < n → Leads l z n x (classOf (setsOf l z n) x)
   leads-to-class x h =
       let w = leads-some (suc n) x h (omega (arith, v .some x h)) in
       subst (λ (a : ℕ). Leads l z n x a) (sym (leads-class (w .1))) (w .1)
@@ -44,10 +45,10 @@ module _ (l z : List ℕ) (n : ℕ) (v : Valid (sets l z n)) where
     x-in : x < length l
     x-in = omega (arith, v .long-repr, leads-start t .inside)
 
-    same-class : (y : ℕ) → y < n → classOf (sets l z n) y ≡ classOf (sets (set l x a) z n) y
+    same-class : (y : ℕ) → y < n → classOf (setsOf l z n) y ≡ classOf (setsOf (set l x a) z n) y
     same-class y h = sym (leads-class (pointed-leads l z n x a (v .long-repr) t apart (leads-to-class y h)))
 
-    pointed-valid : Valid (sets (set l x a) z n)
+    pointed-valid : Valid (setsOf (set l x a) z n)
     pointed-valid = record {
       few = v .few;
       long-repr = omega (arith, v .long-repr, length-set l x a);
@@ -56,14 +57,14 @@ module _ (l z : List ℕ) (n : ℕ) (v : Valid (sets l z n)) where
       grows = λ y h. set-case (λ (k : ℕ). (k ≡ y → ⊥) → getD z y 0 < getD z k 0) l x a y x-in (λ e r. subst (λ (k : ℕ). getD z k 0 < getD z a 0) (sym e) (leads-lt t apart)) (λ e r. v .grows y h r);
       some = v .some;
       fits = v .fits;
-      counted = λ y h. set-case (λ (k : ℕ). k ≡ y → getD z y 0 ≡ count (classOf (sets (set l x a) z n)) y n) l x a y x-in (λ e r. absurd (apart (r ∙ e))) (λ e r. v .counted y h r ∙ count-cong (classOf (sets l z n)) (classOf (sets (set l x a) z n)) y n same-class);
+      counted = λ y h. set-case (λ (k : ℕ). k ≡ y → getD z y 0 ≡ count (classOf (setsOf (set l x a) z n)) y n) l x a y x-in (λ e r. absurd (apart (r ∙ e))) (λ e r. v .counted y h r ∙ count-cong (classOf (setsOf l z n)) (classOf (setsOf (set l x a) z n)) y n same-class);
     }
 
 -- what `find` leaves
-pub after-valid : {l z : List ℕ} {n x a : ℕ} → Valid (sets l z n) → (t : Leads l z n x a) → Valid (sets (after t) z n)
+pub after-valid : {l z : List ℕ} {n x a : ℕ} → Valid (setsOf l z n) → (t : Leads l z n x a) → Valid (setsOf (after t) z n)
 unfolding after
 after-valid v (here m e) = v
 after-valid {l} {z} {n} v (above {x = x} {a = a} m h t) = pointed-valid (after t) z n (after-valid v t) x a (after-leads (v .long-repr) t (above m h t)) (end-apart h t)
 
-pub after-class : {l z : List ℕ} {n x a : ℕ} → Valid (sets l z n) → (t : Leads l z n x a) (y : ℕ) → y < n → classOf (sets (after t) z n) y ≡ classOf (sets l z n) y
+pub after-class : {l z : List ℕ} {n x a : ℕ} → Valid (setsOf l z n) → (t : Leads l z n x a) (y : ℕ) → y < n → classOf (setsOf (after t) z n) y ≡ classOf (setsOf l z n) y
 after-class {l} {z} {n} v t y h = leads-class (after-leads (v .long-repr) t (leads-to-class l z n v y h))

@@ -13,13 +13,13 @@ use Rattle.dsu.specs.declared.DSU.{DSU}
 use Rattle.dsu.specs.declared.FindAnswer.{FindAnswer}
 use Rattle.dsu.specs.declared.Outcome.the-variants.{Done}
 use Rattle.dsu.specs.declared.Answer.{Answer}
-use Rattle.dsu.specs.Sets.{findOf, under, join, unionOf, upTo, fresh, newOf}
+use Rattle.dsu.specs.Sets.{setsOf, findOf, under, join, unionOf, upTo, fresh, newOf}
 use Rattle.dsu.specs.Steps.{Met}
 use Rattle.dsu.specs.Classes.{Classes, before}
 use Rattle.dsu.specs.Laws.{classOf, Same, Valid, NewLaw, FindLaw, UnionLaw}
 use Rattle.dsu.proofs.Count.{count-one}
 use Rattle.dsu.proofs.Classes.{classes-unique, classes-some, classes-moved, classes-alone, Joins, turned, merged-joins, classes-fewer}
-use Rattle.dsu.proofs.Leads.{sets, Leads, here, after, leads-end, leads-way, leads-find, leads-class}
+use Rattle.dsu.proofs.Leads.{Leads, here, after, leads-end, leads-way, leads-find, leads-class}
 use Rattle.dsu.proofs.Keep.{leads-to-class, after-valid, after-class}
 use Rattle.dsu.proofs.Merge.{Apart, two-fit, merged-class, merged-valid}
 
@@ -41,7 +41,7 @@ upTo-at (suc k) i h = by-place (λ c. upTo-at k i c) (ℕ-discrete i k)
 
 module _ (k n : ℕ) (few : n ≤ 512) (in-k : n ≤ k) where
   abbrev begun : DSU
-  begun = sets (upTo k) (replicate k 1) n
+  begun = setsOf (upTo k) (replicate k 1) n
 
   ones : (x : ℕ) → x < n → _≡_ {A = ℕ} (getD (replicate k 1) x 0) 1
   ones x h = getD-replicate k x 1 0 (omega arith)
@@ -98,7 +98,7 @@ find-law d x r e v h =
       is-n = refl;
       valid = after-valid v t;
       kept = after-class v t;
-      as-many = λ k w. same-classes d (sets (after t) (d .size) (d .n)) (after-class v t) w;
+      as-many = λ k w. same-classes d (setsOf (after t) (d .size) (d .n)) (after-class v t) w;
     })
 
 -- union
@@ -130,7 +130,7 @@ module _ (d : DSU) (x y : ℕ) (x-in : x < d .n) (y-in : y < d .n) where
   }
 
 -- m has the parents after both finds
-module _ (d : DSU) (m : List ℕ) (v : Valid (sets m (d .size) (d .n))) (same : (w : ℕ) → w < d .n → classOf (sets m (d .size) (d .n)) w ≡ classOf d w) where
+module _ (d : DSU) (m : List ℕ) (v : Valid (setsOf m (d .size) (d .n))) (same : (w : ℕ) → w < d .n → classOf (setsOf m (d .size) (d .n)) w ≡ classOf d w) where
   -- y's root put under x's
   under-joins : (x y : ℕ) → x < d .n → y < d .n → (r : Apart m (d .n) (classOf d x) (classOf d y)) → Joins (d .n) (classOf d) (classOf (under d m (classOf d x) (classOf d y) .sets)) x y
   under-joins x y x-in y-in r =
@@ -147,10 +147,10 @@ module _ (d : DSU) (m : List ℕ) (v : Valid (sets m (d .size) (d .n))) (same : 
     abbrev b : ℕ
     b = classOf d y
 
-    first-law : Apart m (d .n) a b → UnionLaw d x y (under d m a b)
+    pub first-law : Apart m (d .n) a b → UnionLaw d x y (under d m a b)
     first-law r = apart-law d x y x-in y-in (under d m a b .sets) refl (merged-valid m (d .size) (d .n) v a b r) (under-joins x y x-in y-in r)
 
-    second-law : Apart m (d .n) b a → UnionLaw d x y (under d m b a)
+    pub second-law : Apart m (d .n) b a → UnionLaw d x y (under d m b a)
     second-law r = apart-law d x y x-in y-in (under d m b a .sets) refl (merged-valid m (d .size) (d .n) v b a r) (turned (under-joins y x y-in x-in r))
 
     join-law : Met (d .size) (d .n) a × (getD m a 0 ≡ a) → Met (d .size) (d .n) b × (getD m b 0 ≡ b) → UnionLaw d x y (join d m a b)
@@ -162,7 +162,7 @@ module _ (d : DSU) (m : List ℕ) (v : Valid (sets m (d .size) (d .n))) (same : 
         by-size r false e = first-law r
 
         by-same : Dec (a ≡ b) → UnionLaw d x y (join d m a b)
-        by-same (yes e) = rw (eq-eqb a b e) (same-law d x y x-in y-in (sets m (d .size) (d .n)) refl v e same)
+        by-same (yes e) = rw (eq-eqb a b e) (same-law d x y x-in y-in (setsOf m (d .size) (d .n)) refl v e same)
         by-same (no h) =
             let r : Apart m (d .n) a b = record { a-in = ra .0 .inside; b-in = rb .0 .inside; a-root = ra .1; b-root = rb .1; apart = h } in
             rw (ne-eqb a b h, le-ltb (d .n) (getD (d .size) a 0 + getD (d .size) b 0) (two-fit m (d .size) (d .n) v a b r)) (by-size r (ltb (getD (d .size) a 0) (getD (d .size) b 0)) refl)
@@ -177,7 +177,7 @@ union-law d x y r e v x-in y-in =
     let same₁ = after-class v s in
     let t = subst (λ (b : ℕ). Leads (after s) z n y b) (same₁ y y-in) (leads-to-class (after s) z n v₁ y y-in) in
     let v₂ = after-valid v₁ t in
-    let same₂ : (w : ℕ) → w < n → classOf (sets (after t) z n) w ≡ classOf d w = λ w h. after-class v₁ t w h ∙ same₁ w h in
+    let same₂ : (w : ℕ) → w < n → classOf (setsOf (after t) z n) w ≡ classOf d w = λ w h. after-class v₁ t w h ∙ same₁ w h in
     let end : (w : ℕ) → w < n → Met z n (classOf d w) × (getD (after t) (classOf d w) 0 ≡ classOf d w) = λ w h. leads-end (subst (Leads (after t) z n w) (same₂ w h) (leads-to-class (after t) z n v₂ w h)) in
     let is : r ≡ join d (after t) (classOf d x) (classOf d y) = e ∙ rw (lt-leb n x x-in, lt-leb n y y-in, leads-way s, leads-way t) in
     subst (UnionLaw d x y) (sym is) (join-law d (after t) v₂ same₂ x y x-in y-in (end x x-in) (end y y-in))

@@ -8,16 +8,12 @@ use native.Mathlib.Omega.{arith}
 use lib.ListN.{length, getD, set, length-set}
 use lib.Seq.{getD-set-same, getD-set-other}
 use borrow.Author.Tests.{lt-leb}
-use Rattle.dsu.specs.declared.DSU.{DSU}
 use Rattle.dsu.specs.declared.Found.the-variants.{Root}
 use Rattle.dsu.specs.declared.FindAnswer.{FindAnswer}
-use Rattle.dsu.specs.Sets.{Seen, top, up, fault, seen, Way, broken, reached, point, onward, walk, way, findOf}
+use Rattle.dsu.specs.Sets.{Seen, top, up, fault, seen, Way, broken, reached, point, onward, walk, way, setsOf, findOf}
 use Rattle.dsu.specs.Steps.{Met}
 use Rattle.dsu.specs.Laws.{rootOf, classOf}
 use Rattle.dsu.proofs.Ways.{Higher, seen-top, seen-up, at-top, at-up, way-top, way-up}
-
-abbrev pub sets : List ℕ → List ℕ → ℕ → DSU
-sets l z n = record { repr = l; size = z; n = n }
 
 -- the way from x leads to a
 pub data Leads (l z : List ℕ) (n : ℕ) : ℕ → ℕ → Type 0 where
@@ -76,11 +72,11 @@ module _ (l z : List ℕ) (n : ℕ) where
   way-leads x a m i e = subst (Ends l z n x) e (walk-ends (suc n) x i)
 
 -- `find` by the way
-pub leads-find : {l z : List ℕ} {n x a : ℕ} (t : Leads l z n x a) → findOf (sets l z n) x ≡ record { found = Root a; sets = sets (after t) z n }
+pub leads-find : {l z : List ℕ} {n x a : ℕ} (t : Leads l z n x a) → findOf (setsOf l z n) x ≡ record { found = Root a; sets = setsOf (after t) z n }
 unfolding findOf
 leads-find {l} {z} {n} {x} t = rw (lt-leb n x (leads-start t .inside), leads-way t)
 
-pub leads-class : {l z : List ℕ} {n x a : ℕ} → Leads l z n x a → classOf (sets l z n) x ≡ a
+pub leads-class : {l z : List ℕ} {n x a : ℕ} → Leads l z n x a → classOf (setsOf l z n) x ≡ a
 unfolding classOf
 leads-class t = ap (λ (f : FindAnswer). rootOf (f .found)) (leads-find t)
 

@@ -9,4 +9,6 @@ pub mod Keep
 pub mod Merge
 pub mod Classes
 pub mod Laws
+pub mod Generated
+pub mod Lent
 pub mod Refusals

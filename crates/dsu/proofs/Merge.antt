@@ -7,11 +7,12 @@ use native.Mathlib.Decide.{ℕ-discrete}
 use native.Mathlib.Omega.{arith}
 use lib.ListN.{length, getD, set, length-set}
 use lib.Seq.{getD-set-same, getD-set-other}
+use Rattle.dsu.specs.Sets.{setsOf}
 use Rattle.dsu.specs.Steps.{Met}
 use Rattle.dsu.specs.Laws.{classOf, count, Valid}
 use Rattle.dsu.proofs.Ways.{Higher}
 use Rattle.dsu.proofs.Count.{count-two, Merged, count-win, count-rest}
-use Rattle.dsu.proofs.Leads.{sets, Leads, here, above, leads-class}
+use Rattle.dsu.proofs.Leads.{Leads, here, above, leads-class}
 use Rattle.dsu.proofs.Keep.{set-case, leads-to-class}
 
 -- two roots, and their sizes together
@@ -22,10 +23,10 @@ pub record Apart (l : List ℕ) (n a b : ℕ) : Type 0 where
   pub b-root : getD l b 0 ≡ b
   pub apart : a ≡ b → ⊥
 
-module _ (l z : List ℕ) (n : ℕ) (v : Valid (sets l z n)) (a b : ℕ) (r : Apart l n a b) where
+module _ (l z : List ℕ) (n : ℕ) (v : Valid (setsOf l z n)) (a b : ℕ) (r : Apart l n a b) where
   -- two classes have no more than n elements
   pub two-fit : getD z a 0 + getD z b 0 ≤ n
-  two-fit = omega (arith, v .counted a (r .a-in) (r .a-root), v .counted b (r .b-in) (r .b-root), count-two (classOf (sets l z n)) a b n (r .apart))
+  two-fit = omega (arith, v .counted a (r .a-in) (r .a-root), v .counted b (r .b-in) (r .b-root), count-two (classOf (setsOf l z n)) a b n (r .apart))
 
   abbrev joint : ℕ
   joint = getD z a 0 + getD z b 0
@@ -82,21 +83,21 @@ module _ (l z : List ℕ) (n : ℕ) (v : Valid (sets l z n)) (a b : ℕ) (r : Ap
       } in
       (λ e. above {a = a} (still-met y (m .inside)) h′ (rw p (ih .0 e)), λ k. above {a = c} (still-met y (m .inside)) h′ (rw p (ih .1 k)))
 
-  pub merged-class : Merged (classOf (sets l z n)) (classOf (sets parents sized n)) a b n
+  pub merged-class : Merged (classOf (setsOf l z n)) (classOf (setsOf parents sized n)) a b n
   merged-class = record {
     moved = λ y h e. leads-class (merged-leads (leads-to-class l z n v y h) .0 e);
     left = λ y h e. leads-class (merged-leads (leads-to-class l z n v y h) .1 e);
   }
 
-  counted-root : (y : ℕ) → y < n → (y ≡ b → ⊥) → getD l y 0 ≡ y → getD sized y 0 ≡ count (classOf (sets parents sized n)) y n
+  counted-root : (y : ℕ) → y < n → (y ≡ b → ⊥) → getD l y 0 ≡ y → getD sized y 0 ≡ count (classOf (setsOf parents sized n)) y n
   counted-root y h not-b e = by-place (ℕ-discrete y a)
     where
-      by-place : Dec (y ≡ a) → getD sized y 0 ≡ count (classOf (sets parents sized n)) y n
-      by-place (yes q) = subst (λ (k : ℕ). getD sized k 0 ≡ count (classOf (sets parents sized n)) k n) (sym q)
-          (omega (arith, getD-set-same z a joint 0 a-long, v .counted a (r .a-in) (r .a-root), v .counted b (r .b-in) (r .b-root), count-win (classOf (sets l z n)) (classOf (sets parents sized n)) a b (r .apart) n merged-class))
-      by-place (no q) = other y q ∙ v .counted y h e ∙ sym (count-rest (classOf (sets l z n)) (classOf (sets parents sized n)) a b (r .apart) y n q not-b merged-class)
+      by-place : Dec (y ≡ a) → getD sized y 0 ≡ count (classOf (setsOf parents sized n)) y n
+      by-place (yes q) = subst (λ (k : ℕ). getD sized k 0 ≡ count (classOf (setsOf parents sized n)) k n) (sym q)
+          (omega (arith, getD-set-same z a joint 0 a-long, v .counted a (r .a-in) (r .a-root), v .counted b (r .b-in) (r .b-root), count-win (classOf (setsOf l z n)) (classOf (setsOf parents sized n)) a b (r .apart) n merged-class))
+      by-place (no q) = other y q ∙ v .counted y h e ∙ sym (count-rest (classOf (setsOf l z n)) (classOf (setsOf parents sized n)) a b (r .apart) y n q not-b merged-class)
 
-  pub merged-valid : Valid (sets parents sized n)
+  pub merged-valid : Valid (setsOf parents sized n)
   merged-valid = record {
     few = v .few;
     long-repr = omega (arith, v .long-repr, length-set l b a);
@@ -107,5 +108,5 @@ module _ (l z : List ℕ) (n : ℕ) (v : Valid (sets l z n)) (a b : ℕ) (r : Ap
         (λ e q. omega (arith, other y (not-root y a q (r .a-root)), v .grows y h q, no-less (getD l y 0)));
     some = λ y h. omega (arith, v .some y h, no-less y);
     fits = still-fits;
-    counted = λ y h. set-case (λ (k : ℕ). k ≡ y → getD sized y 0 ≡ count (classOf (sets parents sized n)) y n) l b a y b-long (λ e q. absurd (r .apart (q ∙ e))) (λ e q. counted-root y h e q);
+    counted = λ y h. set-case (λ (k : ℕ). k ≡ y → getD sized y 0 ≡ count (classOf (setsOf parents sized n)) y n) l b a y b-long (λ e q. absurd (r .apart (q ∙ e))) (λ e q. counted-root y h e q);
   }

@@ -1,10 +1,11 @@
 // Join sets by value: each element's parent, the size of its class, and the number of elements.
 ghost use mathlib.Core.Path.{_≡_};
 ghost use mathlib.Core.List.{List};
-ghost use Prim.Native.Nat.{ℕ};
+ghost use Prim.Native.Nat.{ℕ, _<_};
 ghost use Rattle.dsu.specs.declared.Found.{Found};
-ghost use Rattle.dsu.specs.Sets.{way, newOf, findOf, unionOf, join, under};
-ghost use Rattle.dsu.specs.Steps.{Met, Roots, answered, climbed};
+ghost use Rattle.dsu.specs.Sets.{way, setsOf, newOf, findOf, unionOf, join, under};
+ghost use Rattle.dsu.specs.Steps.{Met, Roots, Put, answered, climbed};
+ghost use Rattle.dsu.specs.Laws.{Valid, JoinLaw};
 use refusal::StateRefusal;
 
 pub struct DSU {
@@ -91,16 +92,24 @@ fn find_from(repr: &mut [u32; 512], size: &[u32; 512], n: usize, x: usize) -> Fo
     find_in(repr, size, n, x)
 }
 
-// The root b put under the root a, in sets with the parents repr.
+// The root b put under the root a, whose size is then that of both.
+fn put_in(repr: &mut [u32; 512], size: &mut [u32; 512], n: usize, a: u32, b: u32)
+    requires { ⌜ Roots (now size) n a b ⌝ }
+    ensures { λ r. ⌜ Put (now (repr .entry)) (now (size .entry)) a b (now (repr .exit)) (now (size .exit)) ⌝ }
+{
+    let i = a as usize;
+    let j = b as usize;
+    size[i] = size[i] + size[j];
+    repr[j] = a;
+}
+
+// The same in sets with the parents repr.
 fn put_under(sets: DSU, mut repr: [u32; 512], a: u32, b: u32) -> Answer
     requires { ⌜ Roots (sets .size) (sets .n) a b ⌝ }
     ensures { λ r. ⌜ r ≡ under sets repr a b ⌝ }
 {
     let mut size = sets.size;
-    let i = wide(a);
-    let j = wide(b);
-    size[i] = size[i] + size[j];
-    repr[j] = a;
+    put_in(&mut repr, &mut size, sets.n, a, b);
     Answer {
         outcome: Outcome::Done,
         sets: DSU {
@@ -136,6 +145,31 @@ fn join_roots(sets: DSU, repr: [u32; 512], a: u32, b: u32) -> Answer
         return put_under(sets, repr, b, a);
     }
     put_under(sets, repr, a, b)
+}
+
+// The classes of x and y made one, where they are two, on lent arrays of valid sets; whether they were two. Two elements that are
+// in one class already cost two finds.
+pub fn join_in(repr: &mut [u32; 512], size: &mut [u32; 512], n: usize, x: usize, y: usize) -> bool
+    requires { ⌜ Valid (setsOf (now repr) (now size) n) × (x < n) × (y < n) ⌝ }
+    ensures { λ r. ⌜ JoinLaw (setsOf (now (repr .entry)) (now (size .entry)) n) (setsOf (now (repr .exit)) (now (size .exit)) n) x y r ⌝ }
+{
+    let f = find_from(repr, size, n, x);
+    let Found::Root(a) = f else {
+        return false;
+    };
+    let g = find_from(repr, size, n, y);
+    let Found::Root(b) = g else {
+        return false;
+    };
+    if a == b {
+        return false;
+    }
+    if size[a as usize] < size[b as usize] {
+        put_in(repr, size, n, b, a);
+        return true;
+    }
+    put_in(repr, size, n, a, b);
+    true
 }
 
 impl DSU {

@@ -3,14 +3,8 @@ use Prim.Native.Nat.{ℕ, zero, suc, _≤_, _<_}
 use mathlib.Core.Path.{_≡_, refl, sym, ap, _∙_}
 use native.Mathlib.Decide.{ℕ-discrete}
 use native.Mathlib.Omega.{arith}
-use Rattle.dsu.specs.Classes.{Classes, none, old, new}
-use Rattle.equality.specs.Walking.{Ker}
-
--- some number, some class
-pub classes-positive : {R : ℕ → ℕ → Type 0} {n k : ℕ} → Classes R n k → 0 < n → 0 < k
-classes-positive none h = h
-classes-positive (old i l r c) h = classes-positive c (omega arith)
-classes-positive (new o c) h = omega arith
+use Rattle.dsu.specs.Classes.{Classes, none, old, new, Ker}
+use Rattle.dsu.proofs.Generated.{classes-positive}
 
 -- with no second class, all are in one
 pub classes-one : {f : ℕ → ℕ} {n k : ℕ} → Classes (Ker f) n k → k ≤ 1 → (p q : ℕ) → p < n → q < n → f p ≡ f q

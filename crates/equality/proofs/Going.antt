@@ -11,15 +11,14 @@ use Rattle.sheets.specs.Runs.{startsOf, RunAt}
 use Rattle.sheets.specs.Sheet.{stateCount, read}
 use Rattle.sheets.proofs.Runs.{run-at, starts-indexed}
 use lib.Seq.{sets}
-use Rattle.equality.specs.declared.Pairs.{Pairs}
 use Rattle.equality.specs.declared.Seen.{Seen}
 use Rattle.equality.specs.declared.Seen.the-variants.{Alike, Differ}
 use Rattle.equality.specs.declared.Verdict.the-variants.{Same, Different}
 use Rattle.equality.specs.Successors.{stateAfter, acceptOf}
 use Rattle.equality.specs.Forced.{states}
-use Rattle.equality.specs.Walking.{Closed, Chained, Spelled}
+use Rattle.equality.specs.Walking.{trail, Closed, Chained, Spelled}
 use Rattle.equality.specs.Verdict.{Decided}
-use Rattle.equality.specs.Code.{twoOf, classes, queue, Long, Begun, Ready, Saw, Given, Going}
+use Rattle.equality.specs.Code.{twoOf, Pairs, classes, queue, Begun, Ready, Saw, Given, Going}
 use Rattle.equality.proofs.Queue.{room, begun, ended, short}
 use Rattle.equality.proofs.Spelling.{chained, differs}
 use Rattle.equality.proofs.Onward.{total}
@@ -87,16 +86,14 @@ module _ (a b starts-a starts-b : List ℕ) (low high n1 head : ℕ) (w : Pairs)
       near : getD (r .depth) head 0 + 1 + 2 ≤ states (twoOf a b low high)
       near = short (twoOf a b low high) (total a b low high (g .given .sheets)) (classes r) (queue r) (r .made) (v .0 .walking) head x (v .1) (v .2, v .3) (v .4)
 
-      pub walk-spell : Chained (queue r) (r .made) × Long r × (head < r .made) × (r .made ≤ 512) × (getD (r .depth) head 0 < length o)
+      pub walk-spell : Chained (trail (queue r)) head × (head < 512) × (getD (r .depth) head 0 < length o)
       walk-spell = (
-        chained (v .0 .walking),
-        v .0 .sets .long,
-        v .1,
-        omega (arith, room (twoOf a b low high) (total a b low high (g .given .sheets)) (classes r) (queue r) (r .made) (v .0 .walking), v .0 .sets .few),
+        chained (v .0 .walking) (v .1),
+        omega (arith, room (twoOf a b low high) (total a b low high (g .given .sheets)) (classes r) (queue r) (r .made) (v .0 .walking), v .0 .sets .few, v .1),
         omega (arith, near, v .0 .sets .few, g .given .room),
       )
 
-      pub walk-differs : (n : ℕ) (o′ : List ℕ) → Spelled (queue r) (r .made) head x n o o′ → (o₀ : List ℕ) → o ≡ o₀ → Decided (twoOf a b low high) o₀ o′ (Different n)
+      pub walk-differs : (n : ℕ) (o′ : List ℕ) → Spelled (trail (queue r)) head x n o o′ → (o₀ : List ℕ) → o ≡ o₀ → Decided (twoOf a b low high) o₀ o′ (Different n)
       unfolding Decided
       walk-differs n o′ p o₀ kept = (differs (twoOf a b low high) (total a b low high (g .given .sheets)) (classes r) (queue r) (r .made) (v .0 .walking) head x (v .1) (v .2, v .3) (v .4) n o o′ p, p .within, p .behind ∙ ap (drop n) kept)
 

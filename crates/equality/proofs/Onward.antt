@@ -6,11 +6,11 @@ use native.Mathlib.Omega.{arith}
 use lib.ListN.{getD}
 use Rattle.sheets.specs.Sheet.{stateCount, read}
 use Rattle.sheets.proofs.Meaning.{read-well}
-use Rattle.equality.specs.declared.Pairs.{Pairs}
+use Rattle.dsu.specs.Classes.{Merges}
 use Rattle.equality.specs.Successors.{successor, acceptOf}
 use Rattle.equality.specs.Forced.{states}
-use Rattle.equality.specs.Walking.{Queue, Merges}
-use Rattle.equality.specs.Code.{twoOf, classes, queue, Sheets, Offered, had, put, Good}
+use Rattle.equality.specs.Walking.{Queue}
+use Rattle.equality.specs.Code.{twoOf, Pairs, classes, queue, Sheets, Offered, had, put, Good}
 use Rattle.equality.proofs.Forced.{Total}
 use Rattle.equality.proofs.Queue.{renamed, pushed}
 use Rattle.equality.proofs.Successors.{next-inside}

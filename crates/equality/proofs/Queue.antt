@@ -4,21 +4,15 @@ use mathlib.Core.Path.{_≡_, refl, sym, ap, subst, _∙_}
 use native.Mathlib.Decide.{ℕ-discrete}
 use native.Mathlib.Omega.{arith}
 use borrow.Author.Count.{below-more}
-use Rattle.dsu.specs.Classes.{Classes, Joined, before, across, back}
+use Rattle.dsu.specs.Classes.{Classes, Ker, Merges}
 use Rattle.dsu.proofs.Classes.{classes-moved}
+use Rattle.dsu.proofs.Generated.{generated-into, spanned-alone, spanned-more, spanned-renamed, spanned-room}
 use Rattle.equality.specs.Successors.{successor, acceptOf}
 use Rattle.equality.specs.Forced.{Two, Symbol, states, left, right, successorIn, acceptIn, Such, Forced}
-use Rattle.equality.specs.Walking.{Queue, Generated, pair, same, turn, chain, Ker, Met, Walking, Closed, Pushed, Merges}
+use Rattle.equality.specs.Walking.{Queue, Met, Walking, Closed, Pushed}
 use Rattle.equality.specs.Verdict.{Equal}
 use Rattle.equality.proofs.Forced.{Total, successor-left, accept-left, successor-right, accept-right, forced-least, forced-in, agree-words}
-use Rattle.equality.proofs.Classes.{classes-positive, classes-one}
-
--- what holds of each pair holds of all that the pairs join
-generated-into : {t : Two} {r : Queue} {k : ℕ} (R : ℕ → ℕ → Type 0) → ((p : ℕ) → p < states t → R p p) → ((p q : ℕ) → R p q → R q p) → ((p q s : ℕ) → R p q → R q s → R p s) → ((i : ℕ) → i < k → R (left t (r .one i)) (right t (r .two i))) → {p q : ℕ} → Generated t r k p q → R p q
-generated-into R s u c h (pair i b) = h i b
-generated-into R s u c h (same {p = p} b) = s p b
-generated-into R s u c h (turn {p = p} {q = q} l) = u p q (generated-into R s u c h l)
-generated-into R s u c h (chain {p = p} {q = q} {s = w} l m) = c p q w (generated-into R s u c h l) (generated-into R s u c h m)
+use Rattle.equality.proofs.Classes.{classes-one}
 
 module _ (t : Two) (total : Total t) (f : ℕ → ℕ) (r : Queue) (made : ℕ) (w : Walking t f r made) where
   -- each pair is forced by the starts
@@ -40,16 +34,16 @@ module _ (t : Two) (total : Total t) (f : ℕ → ℕ) (r : Queue) (made : ℕ) 
 
   -- what is joined is forced, and agrees
   pub joined-forced : (p q : ℕ) → p < states t → q < states t → f p ≡ f q → Forced t p q
-  joined-forced p q hp hq e = generated-into (Forced t) (λ p b. Forced.same b) (λ p q l. Forced.turn l) (λ p q s l m. Forced.chain l m) pair-forced (w .only p q hp hq e)
+  joined-forced p q hp hq e = generated-into (Forced t) (λ p b. Forced.same b) (λ p q l. Forced.turn l) (λ p q s l m. Forced.chain l m) pair-forced (w .spanned .only p q hp hq e)
 
   pub joined-agree : (p q : ℕ) → p < states t → q < states t → f p ≡ f q → acceptIn t p ≡ acceptIn t q
   joined-agree p q hp hq e = generated-into (λ (p q : ℕ). acceptIn t p ≡ acceptIn t q) (λ p b. refl) (λ p q l. sym l) (λ p q s l m. l ∙ m)
-      (λ i b. accept-left t (r .one i) (w .in-one i b) ∙ w .agree i b ∙ sym (accept-right t (r .two i))) (w .only p q hp hq e)
+      (λ i b. accept-left t (r .one i) (w .in-one i b) ∙ w .agree i b ∙ sym (accept-right t (r .two i))) (w .spanned .only p q hp hq e)
 
   module _ (closed : Closed t f r made) where
     joined-follow : (p q x : ℕ) → p < states t → q < states t → Symbol t x → f p ≡ f q → f (successorIn t p x) ≡ f (successorIn t q x)
-    joined-follow p q x hp hq s e = generated-into {t = t} {r = r} (λ (p q : ℕ). f (successorIn t p x) ≡ f (successorIn t q x)) (λ p b. refl) (λ p q l. sym l) (λ p q s l m. l ∙ m)
-        (λ i b. rw (successor-left t (r .one i) x (w .in-one i b), successor-right t (r .two i) x) (closed i b x s)) (w .only p q hp hq e)
+    joined-follow p q x hp hq s e = generated-into {n = states t} {one = r .one} {two = λ i. right t (r .two i)} (λ (p q : ℕ). f (successorIn t p x) ≡ f (successorIn t q x)) (λ p b. refl) (λ p q l. sym l) (λ p q s l m. l ∙ m)
+        (λ i b. rw (successor-left t (r .one i) x (w .in-one i b), successor-right t (r .two i) x) (closed i b x s)) (w .spanned .only p q hp hq e)
 
     such : Such t (Ker f)
     such = record {
@@ -65,14 +59,14 @@ module _ (t : Two) (total : Total t) (f : ℕ → ℕ) (r : Queue) (made : ℕ) 
     pub ended : Equal t made
     ended = record {
       words = agree-words t total (λ p q l. let b = forced-in t total l in joined-agree p q (b .0) (b .1) (forced-joined p q l));
-      number = w .number;
-      counted = classes-moved (λ p q a b e. joined-forced p q a b e) (λ p q a b l. forced-joined p q l) (w .classes);
-      joined = w .counted;
+      number = w .spanned .number;
+      counted = classes-moved (λ p q a b e. joined-forced p q a b e) (λ p q a b l. forced-joined p q l) (w .spanned .classes);
+      joined = w .spanned .counted;
     }
 
   -- two successors that differ: two classes at least are left, so the word to them is short
   pub short : (i x : ℕ) → i < made → Symbol t x → (acceptOf (t .one) (successor (t .one) (r .one i) x) ≡ acceptOf (t .two) (successor (t .two) (r .two i) x) → ⊥) → r .depth i + 1 + 2 ≤ states t
-  short i x b s d = omega (arith, more-than (w .number) refl, w .shallow i b, w .counted)
+  short i x b s d = omega (arith, more-than (w .spanned .number) refl, w .shallow i b, w .spanned .counted)
     where
       p : ℕ
       p = successor (t .one) (r .one i) x
@@ -89,14 +83,14 @@ module _ (t : Two) (total : Total t) (f : ℕ → ℕ) (r : Queue) (made : ℕ) 
       apart : f (left t p) ≡ f (right t q) → ⊥
       apart e = d (sym (accept-left t p p-in) ∙ joined-agree (left t p) (right t q) (omega (arith, p-in)) (omega (arith, q-in)) e ∙ accept-right t q)
 
-      more-than : (k : ℕ) → k ≡ w .number → 2 ≤ k
-      more-than zero e = absurd (apart (classes-one (w .classes) (omega (arith, sym e)) (left t p) (right t q) (omega (arith, p-in)) (omega (arith, q-in))))
-      more-than (suc zero) e = absurd (apart (classes-one (w .classes) (omega (arith, sym e)) (left t p) (right t q) (omega (arith, p-in)) (omega (arith, q-in))))
+      more-than : (k : ℕ) → k ≡ w .spanned .number → 2 ≤ k
+      more-than zero e = absurd (apart (classes-one (w .spanned .classes) (omega (arith, sym e)) (left t p) (right t q) (omega (arith, p-in)) (omega (arith, q-in))))
+      more-than (suc zero) e = absurd (apart (classes-one (w .spanned .classes) (omega (arith, sym e)) (left t p) (right t q) (omega (arith, p-in)) (omega (arith, q-in))))
       more-than (suc (suc k)) e = omega arith
 
   -- fewer joins than states
   pub room : made < states t
-  room = omega (arith, w .counted, classes-positive (w .classes) (omega (arith, total .first .start-in)))
+  room = spanned-room (w .spanned) (omega (arith, total .first .start-in))
 
   -- other names for the same classes
   pub renamed : (g : ℕ → ℕ) → ((p : ℕ) → p < states t → g p ≡ f p) → Walking t g r made
@@ -111,30 +105,13 @@ module _ (t : Two) (total : Total t) (f : ℕ → ℕ) (r : Queue) (made : ℕ) 
     shallow = w .shallow;
     agree = w .agree;
     linked = λ i b. e (left t (r .one i)) (omega (arith, w .in-one i b)) ∙ w .linked i b ∙ sym (e (right t (r .two i)) (omega (arith, w .in-two i b)));
-    only = λ p q hp hq d. w .only p q hp hq (sym (e p hp) ∙ d ∙ e q hq);
-    number = w .number;
-    classes = classes-moved (λ p q a b d. e p a ∙ d ∙ sym (e q b)) (λ p q a b d. sym (e p a) ∙ d ∙ e q b) (w .classes);
-    counted = w .counted;
+    spanned = spanned-renamed (w .spanned) e;
   }
-
--- more pairs join more
-generated-more : {t : Two} {r s : Queue} {k m : ℕ} → k ≤ m → ((j : ℕ) → j < k → s .one j ≡ r .one j) → ((j : ℕ) → j < k → s .two j ≡ r .two j) → {p q : ℕ} → Generated t r k p q → Generated t s m p q
-generated-more {t} {r} {s} {k} {m} h a b l = generated-into (Generated t s m) (λ p c. same c) (λ p q l. turn l) (λ p q u l n. chain l n)
-    (λ i c. subst (λ (p : ℕ). Generated t s m p (right t (r .two i))) (a i c) (subst (λ (q : ℕ). Generated t s m (s .one i) (right t q)) (b i c) (pair i (omega arith)))) l
-
--- of the joined pair and of what was joined before, what is joined now
-merged-into : {n : ℕ} {f g : ℕ → ℕ} {p q : ℕ} → Merges n f g p q → (R : ℕ → ℕ → Type 0) → ((p q : ℕ) → R p q → R q p) → ((p q s : ℕ) → R p q → R q s → R p s) → ((u v : ℕ) → u < n → v < n → f u ≡ f v → R u v) → R p q → (u v : ℕ) → u < n → v < n → g u ≡ g v → R u v
-merged-into {n} {f} {g} {p} {q} m R tn ch h e u v hu hv d = by-way (m .only u v hu hv d)
-  where
-    by-way : Joined (Ker f) p q u v → R u v
-    by-way (before a) = h u v hu hv a
-    by-way (across a b) = ch u p v (h u p hu (m .x-in) a) (ch p q v e (tn v q (h v q hv (m .y-in) b)))
-    by-way (back a b) = ch u q v (h u q hu (m .y-in) a) (ch q p v (tn p q e) (tn v p (h v p hv (m .x-in) b)))
 
 -- the starts joined
 module _ (t : Two) (total : Total t) (f g : ℕ → ℕ) (r : Queue) (alone : (x y : ℕ) → x < states t → y < states t → f x ≡ f y → x ≡ y) (all : Classes (Ker f) (states t) (states t)) (m : Merges (states t) f g (left t (t .one .start)) (right t (t .two .start))) where
   pub begun : r .one 0 ≡ t .one .start → r .two 0 ≡ t .two .start → r .depth 0 ≡ 0 → acceptOf (t .one) (t .one .start) ≡ acceptOf (t .two) (t .two .start) → Walking t g r 1
-  begun a b z e = let c = m .fewer (states t) all in record {
+  begun a b z e = record {
     some = omega arith;
     at-one = a;
     at-two = b;
@@ -145,10 +122,7 @@ module _ (t : Two) (total : Total t) (f g : ℕ → ℕ) (r : Queue) (alone : (x
     shallow = λ i h. rw (first i h, z) (omega arith);
     agree = λ i h. rw (first i h, a, b) e;
     linked = λ i h. rw (first i h, a, b) (m .joined);
-    only = λ p q hp hq d. merged-into m (Generated t r 1) (λ p q l. turn l) (λ p q s l n. chain l n) (λ u v hu hv d. subst (Generated t r 1 u) (alone u v hu hv d) (same hu)) (subst (λ (p : ℕ). Generated t r 1 p (right t (t .two .start))) a (subst (λ (q : ℕ). Generated t r 1 (r .one 0) (right t q)) b (pair 0 (omega arith)))) p q hp hq d;
-    number = c .0;
-    classes = c .2;
-    counted = omega (arith, c .1);
+    spanned = spanned-more (spanned-alone (r .one) (λ i. right t (r .two i)) alone all) m (λ j h. refl) (λ j h. refl) a (ap (right t) b);
   }
     where
       first : (i : ℕ) → i < 1 → _≡_ {A = ℕ} i 0
@@ -157,7 +131,7 @@ module _ (t : Two) (total : Total t) (f g : ℕ → ℕ) (r : Queue) (alone : (x
 -- a pair more
 module _ (t : Two) (total : Total t) (f g : ℕ → ℕ) (r s : Queue) (made i x : ℕ) (w : Walking t f r made) (u : Pushed r s made i x (successor (t .one) (r .one i) x) (successor (t .two) (r .two i) x)) (i-in : i < made) (x-in : Symbol t x) (m : Merges (states t) f g (left t (successor (t .one) (r .one i) x)) (right t (successor (t .two) (r .two i) x))) where
   pub pushed : acceptOf (t .one) (successor (t .one) (r .one i) x) ≡ acceptOf (t .two) (successor (t .two) (r .two i) x) → Walking t g s (made + 1)
-  pushed e = let c = m .fewer (w .number) (w .classes) in record {
+  pushed e = record {
     some = omega arith;
     at-one = u .keep-one 0 (w .some) ∙ w .at-one;
     at-two = u .keep-two 0 (w .some) ∙ w .at-two;
@@ -170,12 +144,7 @@ module _ (t : Two) (total : Total t) (f g : ℕ → ℕ) (r s : Queue) (made i x
     linked = below-more (λ (j : ℕ). g (left t (s .one j)) ≡ g (right t (s .two j))) made
         (λ j h. rw (u .keep-one j h, u .keep-two j h) (m .kept (left t (r .one j)) (right t (r .two j)) (omega (arith, w .in-one j h)) (omega (arith, w .in-two j h)) (w .linked j h)))
         (rw (u .put-one, u .put-two) (m .joined));
-    only = λ p q hp hq d. merged-into m (Generated t s (made + 1)) (λ p q l. turn l) (λ p q s l n. chain l n)
-        (λ a b ha hb d. generated-more {r = r} (omega arith) (u .keep-one) (u .keep-two) (w .only a b ha hb d))
-        (subst (λ (p : ℕ). Generated t s (made + 1) p (right t (successor (t .two) (r .two i) x))) (u .put-one) (subst (λ (q : ℕ). Generated t s (made + 1) (s .one made) (right t q)) (u .put-two) (pair made (omega arith)))) p q hp hq d;
-    number = c .0;
-    classes = c .2;
-    counted = omega (arith, c .1, w .counted);
+    spanned = spanned-more (w .spanned) m (u .keep-one) (λ j h. ap (right t) (u .keep-two j h)) (u .put-one) (ap (right t) (u .put-two));
   }
     where
       met-old : (j : ℕ) → j < made → 0 < j → Met t s j

@@ -9,19 +9,19 @@ use lib.Seq.{drop-cons, getD-set-same, drop-set-lt, length-take-le}
 use Rattle.automata.specs.Automaton.{Word, none, more}
 use Rattle.equality.specs.Successors.{successor, stateAfter, acceptOf}
 use Rattle.equality.specs.Forced.{Two, Symbol}
-use Rattle.equality.specs.Walking.{Queue, Walking, Chained, Leads, here, back, Spelled}
+use Rattle.equality.specs.Walking.{Queue, Trail, trail, Walking, Chained, Leads, here, back, Spelled}
 use Rattle.equality.specs.Verdict.{Apart}
 use Rattle.equality.proofs.Forced.{Total}
 use Rattle.equality.proofs.Queue.{short}
 
 -- while it is written: the word from pair c on stands from at to n
-pub record Spelling (r : Queue) (made i x n : ℕ) (o₀ o : List ℕ) (at c : ℕ) : Type 0 where
-  pub c-in : c < made
+pub record Spelling (r : Trail) (i x n : ℕ) (o₀ o : List ℕ) (at c : ℕ) : Type 0 where
+  pub c-in : c ≤ i
   pub is-at : at ≡ r .depth c
   pub below : at < n
   pub within : n ≤ length o
   pub is-n : n ≡ r .depth i + 1
-  pub leads : Leads r made i x c (take (n - at) (drop at o))
+  pub leads : Leads r i x c (take (n - at) (drop at o))
   pub behind : drop n o ≡ drop n o₀
   pub long : length o ≡ length o₀
 
@@ -29,10 +29,10 @@ pub record Spelling (r : Queue) (made i x n : ℕ) (o₀ o : List ℕ) (at c : �
 piece : (o : List ℕ) (m k k′ : ℕ) → m < length o → k′ ≡ suc k → take k′ (drop m o) ≡ getD o m 0 ∷ take k (drop (suc m) o)
 piece o m k k′ h e = rw (e, drop-cons o m 0 h) refl
 
-module _ (r : Queue) (made i x : ℕ) where
-  pub spell-start : (o : List ℕ) (at n : ℕ) → i < made → at ≡ r .depth i → at < length o → n ≡ at + 1 → Spelling r made i x n (set o at x) (set o at x) at i
-  spell-start o at n i-in e h d = record {
-    c-in = i-in;
+module _ (r : Trail) (i x : ℕ) where
+  pub spell-start : (o : List ℕ) (at n : ℕ) → at ≡ r .depth i → at < length o → n ≡ at + 1 → Spelling r i x n (set o at x) (set o at x) at i
+  spell-start o at n e h d = record {
+    c-in = omega arith;
     is-at = e;
     below = omega arith;
     within = omega (arith, length-set o at x);
@@ -42,7 +42,7 @@ module _ (r : Queue) (made i x : ℕ) where
     long = refl;
   }
 
-  module _ (ch : Chained r made) (n : ℕ) (o₀ o : List ℕ) (at c : ℕ) (s : Spelling r made i x n o₀ o at c) where
+  module _ (ch : Chained r i) (n : ℕ) (o₀ o : List ℕ) (at c : ℕ) (s : Spelling r i x n o₀ o at c) where
     pub spell-inside : 0 < at → 0 < c
     spell-inside h = by-place (ℕ-discrete c 0)
       where
@@ -50,7 +50,7 @@ module _ (r : Queue) (made i x : ℕ) where
         by-place (yes e) = absurd (omega (arith, s .is-at, ap (λ (k : ℕ). r .depth k) e, ch .at-top))
         by-place (no e) = omega arith
 
-    pub spell-next : 0 < at → (by from : ℕ) → by ≡ r .by c → from ≡ r .from c → Spelling r made i x n o₀ (set o (at - 1) by) (at - 1) from
+    pub spell-next : 0 < at → (by from : ℕ) → by ≡ r .by c → from ≡ r .from c → Spelling r i x n o₀ (set o (at - 1) by) (at - 1) from
     spell-next h by from e-by e-from =
         let c-some = spell-inside h in
         let is-at = s .is-at in
@@ -71,11 +71,11 @@ module _ (r : Queue) (made i x : ℕ) where
         up : suc (at - 1) ≡ at
         up = omega arith
 
-    pub spell-done : at ≤ 0 → (o₁ : List ℕ) → drop n o₀ ≡ drop n o₁ → Spelled r made i x n o₁ o
+    pub spell-done : at ≤ 0 → (o₁ : List ℕ) → drop n o₀ ≡ drop n o₁ → Spelled r i x n o₁ o
     spell-done h o₁ e = record {
       is-n = s .is-n;
       within = s .within;
-      leads = subst (λ (k : ℕ). Leads r made i x k (take n o)) c-none (rw (at-none, minus) at (s .leads));
+      leads = subst (λ (k : ℕ). Leads r i x k (take n o)) c-none (rw (at-none, minus) at (s .leads));
       behind = s .behind ∙ e;
     }
       where
@@ -93,23 +93,28 @@ module _ (r : Queue) (made i x : ℕ) where
         c-none = by-place (ℕ-discrete c 0)
 
 -- the walk's trail is one
-pub chained : {t : Two} {f : ℕ → ℕ} {r : Queue} {made : ℕ} → Walking t f r made → Chained r made
-chained w = record { at-top = w .at-top; earlier = λ c h z. w .met c h z .earlier; deeper = λ c h z. w .met c h z .deeper; shallow = w .shallow }
+pub chained : {t : Two} {f : ℕ → ℕ} {r : Queue} {made i : ℕ} → Walking t f r made → i < made → Chained (trail r) i
+chained w i-in = record {
+  at-top = w .at-top;
+  earlier = λ c h z. w .met c (omega arith) z .earlier;
+  deeper = λ c h z. w .met c (omega arith) z .deeper;
+  shallow = λ c h. w .shallow c (omega arith);
+}
 
 -- the word leads both machines to the successors
-led : {t : Two} {f : ℕ → ℕ} {r : Queue} {made i x : ℕ} → Walking t f r made → Symbol t x → {c : ℕ} {v : List ℕ} → Leads r made i x c v → Word (t .low) (t .high) v × (stateAfter (t .one) (r .one c) v ≡ successor (t .one) (r .one i) x) × (stateAfter (t .two) (r .two c) v ≡ successor (t .two) (r .two i) x)
+led : {t : Two} {f : ℕ → ℕ} {r : Queue} {made i x : ℕ} → Walking t f r made → i < made → Symbol t x → {c : ℕ} {v : List ℕ} → Leads (trail r) i x c v → Word (t .low) (t .high) v × (stateAfter (t .one) (r .one c) v ≡ successor (t .one) (r .one i) x) × (stateAfter (t .two) (r .two c) v ≡ successor (t .two) (r .two i) x)
 unfolding stateAfter
-led w s here = (more (s .0) (s .1) none, refl, refl)
-led {t} w s (back {c = c} {v = v} z h l) =
-    let m = w .met c h z in
-    let ih = led w s l in
+led w i-in s here = (more (s .0) (s .1) none, refl, refl)
+led {t} w i-in s (back {c = c} {v = v} z h l) =
+    let m = w .met c (omega arith) z in
+    let ih = led w i-in s l in
     (more (m .symbol .0) (m .symbol .1) (ih .0), ap (λ (p : ℕ). stateAfter (t .one) p v) (sym (m .next-one)) ∙ ih .1, ap (λ (p : ℕ). stateAfter (t .two) p v) (sym (m .next-two)) ∙ ih .2)
 
 -- a difference: the word written is accepted by exactly one, and short
 module _ (t : Two) (total : Total t) (f : ℕ → ℕ) (r : Queue) (made : ℕ) (w : Walking t f r made) (i x : ℕ) (i-in : i < made) (x-in : Symbol t x) (differ : acceptOf (t .one) (successor (t .one) (r .one i) x) ≡ acceptOf (t .two) (successor (t .two) (r .two i) x) → ⊥) where
-  pub differs : (n : ℕ) (o o′ : List ℕ) → Spelled r made i x n o o′ → Apart t (take n o′)
+  pub differs : (n : ℕ) (o o′ : List ℕ) → Spelled (trail r) i x n o o′ → Apart t (take n o′)
   differs n o o′ s =
-      let l = led w x-in (s .leads) in
+      let l = led w i-in x-in (s .leads) in
       record {
         word = l .0;
         short = omega (arith, length-take-le n o′ (s .within), s .is-n, short t total f r made w i x i-in x-in differ);

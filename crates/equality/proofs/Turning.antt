@@ -14,14 +14,13 @@ use Rattle.sheets.specs.Accepted.{Accepted}
 use Rattle.sheets.specs.Sheet.{stateCount, read}
 use Rattle.sheets.proofs.Meaning.{read-well}
 use Rattle.dsu.specs.declared.DSU.{DSU}
-use Rattle.dsu.specs.Laws.{Valid}
-use Rattle.equality.specs.declared.Pairs.{Pairs}
+use Rattle.dsu.specs.Laws.{Valid, JoinLaw}
 use Rattle.equality.specs.declared.First.{First}
 use Rattle.equality.specs.declared.First.the-variants.{Symbol, Nothing}
 use Rattle.equality.specs.declared.Seen.the-variants.{Alike, Differ}
 use Rattle.equality.specs.Successors.{successor, acceptOf}
 use Rattle.equality.specs.Forced.{states}
-use Rattle.equality.specs.Code.{twoOf, Common, FirstOf, classes, queue, Long, Tried, withSets, withPair, Offered, Ready, Saw}
+use Rattle.equality.specs.Code.{twoOf, Pairs, Common, FirstOf, classes, queue, Stored, withSets, Offered, Ready, Saw}
 use Rattle.equality.proofs.Joining.{offer-had, offer-put}
 use Rattle.equality.proofs.Queue.{room}
 use Rattle.equality.proofs.Successors.{RunOf, run-of}
@@ -143,10 +142,8 @@ module _ (a b : List ℕ) (low high : ℕ) (ra rb : List ℕ) (n1 i j k : ℕ) (
       pub turn-small : (to-p < 512) × (n1 + to-q < 512)
       turn-small = (omega (arith, turn-join .1, sets-few), omega (arith, turn-join .2, sets-few))
 
-      pub turn-push : (d : DSU) → Long (withSets w d) × (w .made < 512) × (i < w .made) × (getD (w .depth) i 0 ≤ i)
-      turn-push d =
-          let l = ready .good .sets .long in
-          (record { one = l .one; two = l .two; from = l .from; by = l .by; depth = l .depth }, made-few, ready .i-in, ready .good .walking .shallow i (ready .i-in))
+      pub turn-push : (w .made < 512) × (i < w .made) × (getD (w .depth) i 0 ≤ i)
+      turn-push = (made-few, ready .i-in, ready .good .walking .shallow i (ready .i-in))
 
       module _ (m n : ℕ) (is-m : m ≡ acceptOf (read a) to-p) (is-n : n ≡ acceptOf (read b) to-q) where
         pub turn-differ : (m ≡ n → ⊥) → Saw (twoOf a b low high) i w (Differ x)
@@ -178,11 +175,14 @@ module _ (a b : List ℕ) (low high : ℕ) (ra rb : List ℕ) (n1 i j k : ℕ) (
                   (λ y lo hi p q. rw (next-p, next-q) at (on .1));
             }
 
-        module _ (s : m ≡ n) (d : DSU) (fresh : Bool) (t : Tried (w .sets) d to-p (n1 + to-q) fresh) where
+        module _ (s : m ≡ n) (d : DSU) (fresh : Bool) (t : JoinLaw (w .sets) d to-p (n1 + to-q) fresh) where
           pub turn-had : fresh ≡ false → Turning a b low high ra rb n1 i j (k + 1) (withSets w d)
           turn-had h = turn-offer s (withSets w d) (offer-had w n1 i x to-p to-q sets-few (ready .good .sets .long) d (rw h at t))
 
-          pub turn-put : fresh ≡ true → (v : Pairs) → v ≡ withPair (withSets w d) i x to-p to-q → Turning a b low high ra rb n1 i j (k + 1) v
-          turn-put h v is = turn-offer s v (rw is (offer-put w n1 i x to-p to-q sets-few (ready .good .sets .long) d (rw h at t) made-few))
+          pub turn-put : fresh ≡ true → (one two from by depth : List ℕ) → Stored (w .one) (w .two) (w .from) (w .by) (w .depth) (w .made) i x to-p to-q one two from by depth
+              → Turning a b low high ra rb n1 i j (k + 1) (record { sets = d; one = one; two = two; from = from; by = by; depth = depth; made = w .made + 1 })
+          turn-put h one two from by depth z =
+              turn-offer s (record { sets = d; one = one; two = two; from = from; by = by; depth = depth; made = w .made + 1 })
+              (offer-put w n1 i x to-p to-q sets-few (ready .good .sets .long) d (rw h at t) made-few one two from by depth z)
 
 pub ruleset turning = (turn-begin, turn-row, turn-done, turn-accept-a, turn-accept-b, turn-skip, turn-differ, needs)

@@ -1,6 +1,5 @@
 -- What the functions of the walk ask and give.
 use Prim.Native.Nat.{ℕ, _+_, _≤_, _<_}
-use mathlib.Core.Bool.{Bool, true, false}
 use mathlib.Core.List.{List}
 use mathlib.Core.Path.{_≡_}
 use lib.ListN.{length, getD, set}
@@ -11,16 +10,16 @@ use Rattle.sheets.specs.Runs.{Indexed}
 use Rattle.sheets.specs.Sheet.{stateCount, read}
 use Rattle.determinize.specs.Deterministic.{Deterministic}
 use Rattle.dsu.specs.declared.DSU.{DSU}
-use Rattle.dsu.specs.Classes.{Classes}
+use Rattle.dsu.specs.Classes.{Classes, Merges}
 use Rattle.dsu.specs.Laws.{Valid, classOf}
-use Rattle.equality.specs.declared.Pairs.{Pairs}
+use Rattle.dsu.specs.Sets.{setsOf}
 use Rattle.equality.specs.declared.First.{First}
 use Rattle.equality.specs.declared.First.the-variants.{Symbol, Nothing}
 use Rattle.equality.specs.declared.Seen.{Seen}
 use Rattle.equality.specs.declared.Seen.the-variants.{Alike, Differ}
 use Rattle.equality.specs.Successors.{successor, acceptOf}
 use Rattle.equality.specs.Forced.{Two, states}
-use Rattle.equality.specs.Walking.{Queue, Walking, Closed, Pushed, Merges}
+use Rattle.equality.specs.Walking.{Queue, Trail, Walking, Closed, Pushed}
 
 -- the two automata of two sheets
 abbrev pub twoOf : List ℕ → List ℕ → ℕ → ℕ → Two
@@ -39,6 +38,24 @@ pub record Common (d e : Transition) (low high x : ℕ) : Type 0 where
 abbrev pub FirstOf : Transition → Transition → ℕ → ℕ → First → Type 0
 FirstOf d e low high (Symbol x) = Common d e low high x
 FirstOf d e low high Nothing = (x : ℕ) → Common d e low high x → ⊥
+
+-- the pairs met so far and the sets that they are joined in. Pair i is made of one[i] and two[i]; but for the first, it was met from
+-- pair from[i] by the symbol by[i], and depth[i] symbols lead to it
+pub record Pairs : Type 0 where
+  pub sets : DSU
+  pub one : List ℕ
+  pub two : List ℕ
+  pub from : List ℕ
+  pub by : List ℕ
+  pub depth : List ℕ
+  pub made : ℕ
+
+-- the same of the arrays
+abbrev pub pairsOf : List ℕ → List ℕ → List ℕ → List ℕ → List ℕ → List ℕ → List ℕ → ℕ → ℕ → Pairs
+pairsOf repr size one two from by depth n made = record { sets = setsOf repr size n; one = one; two = two; from = from; by = by; depth = depth; made = made }
+
+abbrev pub trailOf : List ℕ → List ℕ → List ℕ → Trail
+trailOf from by depth = record { from = λ i. getD from i 0; by = λ i. getD by i 0; depth = λ i. getD depth i 0 }
 
 -- a state's class, and the queue of pairs
 abbrev pub classes : Pairs → ℕ → ℕ
@@ -74,22 +91,13 @@ pub record Begun (n n1 p q : ℕ) (r : Pairs) : Type 0 where
   pub at-depth : getD (r .depth) 0 0 ≡ 0
   pub made : r .made ≡ 1
 
--- x and y were joined in d before, and e has the classes of d; or they were not, and e has them joined
-pub data Tried (d e : DSU) (x y : ℕ) : Bool → Type 0 where
-  old : Valid e → e .n ≡ d .n → classOf d x ≡ classOf d y → ((z : ℕ) → z < d .n → classOf e z ≡ classOf d z) → Tried d e x y false
-  new : Valid e → e .n ≡ d .n → Merges (d .n) (classOf d) (classOf e) x y → Tried d e x y true
-
--- w with the pair p, q, met from pair i by x, behind the others
-unfoldable pub withPair : Pairs → ℕ → ℕ → ℕ → ℕ → Pairs
-withPair w i x p q = record {
-  sets = w .sets;
-  one = set (w .one) (w .made) p;
-  two = set (w .two) (w .made) q;
-  from = set (w .from) (w .made) i;
-  by = set (w .by) (w .made) x;
-  depth = set (w .depth) (w .made) (getD (w .depth) i 0 + 1);
-  made = w .made + 1;
-}
+-- one′ to depth′ are the lists one to depth with the pair p, q, met from pair i by x, behind the others
+pub record Stored (one two from by depth : List ℕ) (made i x p q : ℕ) (one′ two′ from′ by′ depth′ : List ℕ) : Type 0 where
+  pub put-one : one′ ≡ set one made p
+  pub put-two : two′ ≡ set two made q
+  pub put-from : from′ ≡ set from made i
+  pub put-by : by′ ≡ set by made x
+  pub put-depth : depth′ ≡ set depth made (getD depth i 0 + 1)
 
 -- w with other sets
 abbrev pub withSets : Pairs → DSU → Pairs

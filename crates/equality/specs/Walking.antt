@@ -1,9 +1,9 @@
 -- What holds while the walk goes on. The pairs met so far stand in a queue; each but the first keeps the pair that it was met from, and the symbol.
-use Prim.Native.Nat.{ℕ, suc, _+_, _<_, _≤_}
+use Prim.Native.Nat.{ℕ, _+_, _<_, _≤_}
 use mathlib.Core.List.{List, [], _∷_}
 use mathlib.Core.Path.{_≡_}
 use lib.ListN.{length, take, drop}
-use Rattle.dsu.specs.Classes.{Classes, Joined}
+use Rattle.dsu.specs.Classes.{Spanned}
 use Rattle.equality.specs.Successors.{successor, acceptOf}
 use Rattle.equality.specs.Forced.{Two, Symbol, states, left, right}
 
@@ -14,17 +14,6 @@ pub record Queue : Type 0 where
   pub from : ℕ → ℕ
   pub by : ℕ → ℕ
   pub depth : ℕ → ℕ
-
--- the equivalence that the first k pairs generate
-pub data Generated (t : Two) (r : Queue) (k : ℕ) : ℕ → ℕ → Type 0 where
-  pair : (i : ℕ) → i < k → Generated t r k (left t (r .one i)) (right t (r .two i))
-  same : {p : ℕ} → p < states t → Generated t r k p p
-  turn : {p q : ℕ} → Generated t r k p q → Generated t r k q p
-  chain : {p q s : ℕ} → Generated t r k p q → Generated t r k q s → Generated t r k p s
-
--- f gives p and q the same class
-abbrev pub Ker : (ℕ → ℕ) → ℕ → ℕ → Type 0
-Ker f p q = f p ≡ f q
 
 -- pair i was met from an earlier pair
 pub record Met (t : Two) (r : Queue) (i : ℕ) : Type 0 where
@@ -46,10 +35,7 @@ pub record Walking (t : Two) (f : ℕ → ℕ) (r : Queue) (made : ℕ) : Type 0
   pub shallow : (i : ℕ) → i < made → r .depth i ≤ i
   pub agree : (i : ℕ) → i < made → acceptOf (t .one) (r .one i) ≡ acceptOf (t .two) (r .two i)
   pub linked : (i : ℕ) → i < made → f (left t (r .one i)) ≡ f (right t (r .two i))
-  pub only : (p q : ℕ) → p < states t → q < states t → f p ≡ f q → Generated t r made p q
-  pub number : ℕ
-  pub classes : Classes (Ker f) (states t) number
-  pub counted : made + number ≡ states t
+  pub spanned : Spanned (states t) f (r .one) (λ i. right t (r .two i)) made
 
 -- the successors of the first h pairs are joined
 abbrev pub Closed : Two → (ℕ → ℕ) → Queue → ℕ → Type 0
@@ -68,30 +54,30 @@ pub record Pushed (r s : Queue) (made i x p q : ℕ) : Type 0 where
   pub put-by : s .by made ≡ x
   pub put-depth : s .depth made ≡ r .depth i + 1
 
--- g has the classes of f on the numbers below n, those of x and y made one, which were two
-pub record Merges (n : ℕ) (f g : ℕ → ℕ) (x y : ℕ) : Type 0 where
-  pub x-in : x < n
-  pub y-in : y < n
-  pub joined : g x ≡ g y
-  pub kept : (p q : ℕ) → p < n → q < n → f p ≡ f q → g p ≡ g q
-  pub only : (p q : ℕ) → p < n → q < n → g p ≡ g q → Joined (Ker f) x y p q
-  pub fewer : (k : ℕ) → Classes (Ker f) n k → (j : ℕ) × (k ≡ suc j) × Classes (Ker g) n j
+-- how each pair was met
+pub record Trail : Type 0 where
+  pub from : ℕ → ℕ
+  pub by : ℕ → ℕ
+  pub depth : ℕ → ℕ
 
--- what of a queue the writing of a word leans on
-pub record Chained (r : Queue) (made : ℕ) : Type 0 where
+abbrev pub trail : Queue → Trail
+trail r = record { from = r .from; by = r .by; depth = r .depth }
+
+-- what the writing of a word leans on: of the pairs up to i
+pub record Chained (r : Trail) (i : ℕ) : Type 0 where
   pub at-top : r .depth 0 ≡ 0
-  pub earlier : (c : ℕ) → c < made → 0 < c → r .from c < c
-  pub deeper : (c : ℕ) → c < made → 0 < c → r .depth c ≡ r .depth (r .from c) + 1
-  pub shallow : (c : ℕ) → c < made → r .depth c ≤ c
+  pub earlier : (c : ℕ) → c ≤ i → 0 < c → r .from c < c
+  pub deeper : (c : ℕ) → c ≤ i → 0 < c → r .depth c ≡ r .depth (r .from c) + 1
+  pub shallow : (c : ℕ) → c ≤ i → r .depth c ≤ c
 
--- by the queue, the word leads from a pair to the successors of pair i under x
-pub data Leads (r : Queue) (made i x : ℕ) : ℕ → List ℕ → Type 0 where
-  here : Leads r made i x i (x ∷ [])
-  back : {c : ℕ} {v : List ℕ} → 0 < c → c < made → Leads r made i x c v → Leads r made i x (r .from c) (r .by c ∷ v)
+-- by the trail, the word leads from a pair to the successors of pair i under x
+pub data Leads (r : Trail) (i x : ℕ) : ℕ → List ℕ → Type 0 where
+  here : Leads r i x i (x ∷ [])
+  back : {c : ℕ} {v : List ℕ} → 0 < c → c ≤ i → Leads r i x c v → Leads r i x (r .from c) (r .by c ∷ v)
 
 -- the first n words of o′ are that word from the first pair, and those behind are o's
-pub record Spelled (r : Queue) (made i x n : ℕ) (o o′ : List ℕ) : Type 0 where
+pub record Spelled (r : Trail) (i x n : ℕ) (o o′ : List ℕ) : Type 0 where
   pub is-n : n ≡ r .depth i + 1
   pub within : n ≤ length o′
-  pub leads : Leads r made i x 0 (take n o′)
+  pub leads : Leads r i x 0 (take n o′)
   pub behind : drop n o′ ≡ drop n o

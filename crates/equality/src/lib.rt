@@ -2,7 +2,7 @@
 // over the common ranges of their records. Each pair joins two classes of states, so that there are fewer pairs than states; for
 // each, every record of the one state is held against every record of the other.
 ghost use mathlib.Core.Path.{_≡_};
-ghost use Prim.Native.Nat.{_+_, _≤_, _<_};
+ghost use Prim.Native.Nat.{_≤_, _<_};
 ghost use lib.ListN.{length, getD};
 ghost use Rattle.automata.specs.Records.{recordAt};
 ghost use Rattle.sheets.specs.Accepted.{Accepted};
@@ -10,36 +10,16 @@ ghost use Rattle.sheets.specs.Sheet.{stateCount, read};
 ghost use Rattle.automata.specs.WellFormed.{lastSymbol};
 ghost use Rattle.determinize.specs.Deterministic.{Deterministic};
 ghost use Rattle.determinize.specs.Determinize.{determinize};
-ghost use Rattle.dsu.specs.Laws.{Valid, rootOf};
 ghost use Rattle.equality.specs.Successors.{acceptOf};
 ghost use Rattle.equality.specs.Walking.{Chained, Spelled};
-ghost use Rattle.equality.specs.Code.{twoOf, FirstOf, queue, Long, Begun, Tried, withPair, Ready, Saw, Going, Given};
+ghost use Rattle.equality.specs.Code.{twoOf, FirstOf, pairsOf, trailOf, Stored, Ready, Saw, Going, Given};
 ghost use Rattle.equality.specs.Verdict.{Decided};
 ghost use Rattle.equality.specs.Equality.{withSecond, determinized, compared, Judged};
 use determinize::Determinized;
 use dsu::DSU;
-use dsu::Found;
 use refusal::Refusal;
 use refusal::StateRefusal;
 use sheets::Checked;
-
-// The pairs met so far and the sets that they are joined in. Pair i is made of one[i] and two[i]; but for the first, it was
-// met from pair from[i] by the symbol by[i], and depth[i] symbols lead to it.
-pub struct Pairs {
-    pub sets: DSU,
-    pub one: [u32; 512],
-    pub two: [u32; 512],
-    pub from: [u32; 512],
-    pub by: [u32; 512],
-    pub depth: [u32; 512],
-    pub made: usize,
-}
-
-// The sets after two elements were joined, and whether they were not joined before.
-pub struct Attempt {
-    pub sets: DSU,
-    pub fresh: bool,
-}
 
 // The first symbol that two records share, if there is one.
 pub enum First {
@@ -53,8 +33,9 @@ pub enum Seen {
     Differ(u32),
 }
 
+// How many pairs there are after a turn, and what its records gave.
 pub struct Turned {
-    pub pairs: Pairs,
+    pub made: usize,
     pub seen: Seen,
 }
 
@@ -63,16 +44,6 @@ pub enum Verdict {
     Same(usize),
     Different(usize),
     Refused(Refusal),
-}
-
-// The representative in an answer; 512, which is no element, in a refusal.
-fn root(f: Found) -> u32
-    ensures { λ r. ⌜ r ≡ rootOf f ⌝ }
-{
-    match f {
-        Found::Root(a) => a,
-        Found::Refused(_) => 512,
-    }
 }
 
 // A state's accept word.
@@ -99,91 +70,56 @@ fn first_common(d: &[u32], e: &[u32], low: u32, high: u32) -> First
     }
 }
 
-// The starts, joined.
-fn begin(n1: usize, n2: usize, p: u32, q: u32) -> Pairs
-    requires { ⌜ (n1 ≤ 256) × (n2 ≤ 256) × (p < n1) × (q < n2) ⌝ }
-    ensures { λ r. ⌜ Begun (n1 + n2) n1 p q r ⌝ }
-{
-    let fresh = DSU::new(n1 + n2);
-    let d = fresh.sets;
-    let joined = d.union(p as usize, n1 + q as usize);
-    let sets = joined.sets;
-    let mut one = [0u32; 512];
-    let mut two = [0u32; 512];
-    let from = [0u32; 512];
-    let by = [0u32; 512];
-    let depth = [0u32; 512];
-    one[0] = p;
-    two[0] = q;
-    Pairs {
-        sets,
-        one,
-        two,
-        from,
-        by,
-        depth,
-        made: 1,
-    }
-}
-
-// Two elements joined, where they were not joined before.
-fn join(sets: DSU, x: usize, y: usize) -> Attempt
-    requires { ⌜ Valid sets × (x < sets .n) × (y < sets .n) ⌝ }
-    ensures { λ r. ⌜ Tried sets (r .sets) x y (r .fresh) ⌝ }
-{
-    let f = sets.find(x);
-    let s = f.sets;
-    let g = s.find(y);
-    let s = g.sets;
-    let found = f.found;
-    let other = g.found;
-    if root(found) == root(other) {
-        return Attempt {
-            sets: s,
-            fresh: false,
-        };
-    }
-    let u = s.union(x, y);
-    let s = u.sets;
-    Attempt {
-        sets: s,
-        fresh: true,
-    }
-}
-
 // The pair p, q, met from pair i by x, put behind the others.
-fn push(mut w: Pairs, i: usize, x: u32, p: u32, q: u32) -> Pairs
-    requires { ⌜ Long w × (w .made < 512) × (i < w .made) × (getD (w .depth) i 0 ≤ i) ⌝ }
-    ensures { λ r. ⌜ r ≡ withPair w i x p q ⌝ }
+fn push(
+    one: &mut [u32; 512],
+    two: &mut [u32; 512],
+    from: &mut [u32; 512],
+    by: &mut [u32; 512],
+    depth: &mut [u32; 512],
+    made: usize,
+    i: usize,
+    x: u32,
+    p: u32,
+    q: u32,
+)
+    requires { ⌜ (made < 512) × (i < made) × (getD (now depth) i 0 ≤ i) ⌝ }
+    ensures { λ r. ⌜ Stored (now (one .entry)) (now (two .entry)) (now (from .entry)) (now (by .entry)) (now (depth .entry)) made i x p q (now (one .exit)) (now (two .exit)) (now (from .exit)) (now (by .exit)) (now (depth .exit)) ⌝ }
 {
-    let m = w.made;
-    w.one[m] = p;
-    w.two[m] = q;
-    w.from[m] = i as u32;
-    w.by[m] = x;
-    w.depth[m] = w.depth[i] + 1;
-    w.made = m + 1;
-    w
+    one[made] = p;
+    two[made] = q;
+    from[made] = i as u32;
+    by[made] = x;
+    depth[made] = depth[i] + 1;
 }
 
 // The word that leads to the successors of pair i under x, at the front of out; how many symbols it has.
-fn spell(w: Pairs, i: usize, x: u32, out: &mut [u32]) -> usize
-    requires { ⌜ Chained (queue w) (w .made) × Long w × (i < w .made) × (w .made ≤ 512) × (getD (w .depth) i 0 < length (now out)) ⌝ }
-    ensures { λ n. ⌜ Spelled (queue w) (w .made) i x n (now (out .entry)) (now (out .exit)) ⌝ }
+fn spell(
+    from: &[u32; 512],
+    by: &[u32; 512],
+    depth: &[u32; 512],
+    i: usize,
+    x: u32,
+    out: &mut [u32],
+) -> usize
+    requires { ⌜ Chained (trailOf (now from) (now by) (now depth)) i × (i < 512) × (getD (now depth) i 0 < length (now out)) ⌝ }
+    ensures { λ n. ⌜ Spelled (trailOf (now (from .entry)) (now (by .entry)) (now (depth .entry))) i x n (now (out .entry)) (now (out .exit)) ⌝ }
 {
-    let mut at = w.depth[i] as usize;
+    let mut at = depth[i] as usize;
     let n = at + 1;
     out[at] = x;
     let mut c = i;
     while 0 < at {
         at -= 1;
-        out[at] = w.by[c];
-        c = w.from[c] as usize;
+        out[at] = by[c];
+        c = from[c] as usize;
     }
     n
 }
 
-// The successors of pair i, which has the records ra and rb: offered, up to the first two that differ in acceptance.
+// The successors of pair i, which has the records ra and rb, up to the first two that differ in acceptance: joined, and put behind the
+// other pairs where they were not joined before. Pair i is made of one[i] and two[i]; but for the first, it was met from pair from[i]
+// by the symbol by[i], and depth[i] symbols lead to it. repr and size are the join sets of the n states of both.
 fn turn(
     a: &[u32],
     b: &[u32],
@@ -191,12 +127,20 @@ fn turn(
     rb: &[u32],
     low: u32,
     high: u32,
+    repr: &mut [u32; 512],
+    size: &mut [u32; 512],
+    one: &mut [u32; 512],
+    two: &mut [u32; 512],
+    from: &mut [u32; 512],
+    by: &mut [u32; 512],
+    depth: &mut [u32; 512],
+    n: usize,
+    mut made: usize,
     n1: usize,
     i: usize,
-    mut w: Pairs,
 ) -> Turned
-    requires { ⌜ Ready (now a) (now b) low high (now ra) (now rb) n1 i w ⌝ }
-    ensures { λ r. ⌜ Saw (twoOf (now (a .entry)) (now (b .entry)) low high) i (r .pairs) (r .seen) ⌝ }
+    requires { ⌜ Ready (now a) (now b) low high (now ra) (now rb) n1 i (pairsOf (now repr) (now size) (now one) (now two) (now from) (now by) (now depth) n made) ⌝ }
+    ensures { λ r. ⌜ Saw (twoOf (now (a .entry)) (now (b .entry)) low high) i (pairsOf (now (repr .exit)) (now (size .exit)) (now (one .exit)) (now (two .exit)) (now (from .exit)) (now (by .exit)) (now (depth .exit)) n (r .made)) (r .seen) ⌝ }
 {
     let ca = ra.len() / 5;
     let cb = rb.len() / 5;
@@ -218,19 +162,16 @@ fn turn(
                         break 'runs Seen::Differ(x);
                     }
                     k += 1;
-                    let s = w.sets;
-                    let t = join(s, p as usize, n1 + q as usize);
-                    let s = t.sets;
-                    w.sets = s;
-                    if t.fresh {
-                        w = push(w, i, x, p, q);
+                    if dsu::join_in(repr, size, n, p as usize, n1 + q as usize) {
+                        push(one, two, from, by, depth, made, i, x, p, q);
+                        made += 1;
                     }
                 }
             }
         }
         j += 1;
     };
-    Turned { pairs: w, seen }
+    Turned { made, seen }
 }
 
 // The walk from the joined starts on: each pair in the queue has its turn. starts_a and starts_b say where the records of each
@@ -242,38 +183,58 @@ fn walk_pairs(
     starts_b: &[u32],
     low: u32,
     high: u32,
+    repr: &mut [u32; 512],
+    size: &mut [u32; 512],
+    one: &mut [u32; 512],
+    two: &mut [u32; 512],
+    from: &mut [u32; 512],
+    by: &mut [u32; 512],
+    depth: &mut [u32; 512],
+    n: usize,
+    mut made: usize,
     n1: usize,
-    mut w: Pairs,
     word: &mut [u32],
 ) -> Verdict
-    requires { ⌜ Going (now a) (now b) (now «starts_a») (now «starts_b») low high n1 0 w (now word) ⌝ }
+    requires { ⌜ Going (now a) (now b) (now «starts_a») (now «starts_b») low high n1 0 (pairsOf (now repr) (now size) (now one) (now two) (now from) (now by) (now depth) n made) (now word) ⌝ }
     ensures { λ r. ⌜ Decided (twoOf (now (a .entry)) (now (b .entry)) low high) (now (word .entry)) (now (word .exit)) r ⌝ }
 {
     let mut head: usize = 0;
-    while head < w.made {
-        let p = w.one[head];
-        let q = w.two[head];
+    while head < made {
+        let p = one[head];
+        let q = two[head];
+        let ra = sheets::run(a, starts_a, p);
+        let rb = sheets::run(b, starts_b, q);
         let t = turn(
             a,
             b,
-            sheets::run(a, starts_a, p),
-            sheets::run(b, starts_b, q),
+            ra,
+            rb,
             low,
             high,
+            repr,
+            size,
+            one,
+            two,
+            from,
+            by,
+            depth,
+            n,
+            made,
             n1,
             head,
-            w,
         );
-        w = t.pairs;
+        made = t.made;
         let seen = t.seen;
         match seen {
-            Seen::Differ(x) => return Verdict::Different(spell(w, head, x, word)),
+            Seen::Differ(x) => {
+                return Verdict::Different(spell(from, by, depth, head, x, word));
+            }
             Seen::Alike => {
                 head += 1;
             }
         }
     }
-    Verdict::Same(w.made)
+    Verdict::Same(made)
 }
 
 // The walk over two sheets in which every symbol from low to high has one transition in every state.
@@ -292,8 +253,44 @@ fn walk(a: &[u32], b: &[u32], low: u32, high: u32, word: &mut [u32]) -> Verdict
     sheets::run_starts(b, &mut starts_b);
     let n1 = a[2] as usize;
     let n2 = b[2] as usize;
-    let w = begin(n1, n2, first, second);
-    walk_pairs(a, b, &starts_a, &starts_b, low, high, n1, w, word)
+    let fresh = DSU::new(n1 + n2);
+    let sets = fresh.sets;
+    let n = sets.n;
+    let mut repr = sets.repr;
+    let mut size = sets.size;
+    dsu::join_in(
+        &mut repr,
+        &mut size,
+        n,
+        first as usize,
+        n1 + second as usize,
+    );
+    let mut one = [0u32; 512];
+    let mut two = [0u32; 512];
+    let mut from = [0u32; 512];
+    let mut by = [0u32; 512];
+    let mut depth = [0u32; 512];
+    one[0] = first;
+    two[0] = second;
+    walk_pairs(
+        a,
+        b,
+        &starts_a,
+        &starts_b,
+        low,
+        high,
+        &mut repr,
+        &mut size,
+        &mut one,
+        &mut two,
+        &mut from,
+        &mut by,
+        &mut depth,
+        n,
+        1,
+        n1,
+        word,
+    )
 }
 
 // The sheet d of a determinization against the determinization of b.

@@ -10,10 +10,10 @@ use lib.Dec.{ltb}
 use lib.ListN.{getD}
 use Rattle.lists.proofs.Members.{map-in, map-out}
 use Rattle.automata.specs.Automaton.{Transition, Automaton, InBounds, leaving}
-use Rattle.equivalence.specs.declared.Pairs.{Pairs}
+use Rattle.dsu.proofs.Generated.{generated-into}
 use Rattle.equivalence.specs.Triggers.{SameTrigger, First, Within}
 use Rattle.equivalence.specs.Equivalent.{Reached, start, step, Alike}
-use Rattle.equivalence.specs.Walking.{classes, oneAt, twoAt, Generated, pair, same, turn, chain, Good}
+use Rattle.equivalence.specs.Walking.{Pairs, classes, oneAt, twoAt, Good}
 use Rattle.equivalence.proofs.Triggers.{trigger-turn, trigger-chain, first-target, first-exists, within-self, within-chain}
 use Rattle.equivalence.proofs.Exact.{reached-in}
 
@@ -42,13 +42,6 @@ module _ (accept : ℕ → ℕ) (out : ℕ → List Transition) (f : ℕ → ℕ
         let k = trigger-chain t v in
         a .joined d g p u k ∙ b .joined g e u q (trigger-chain (trigger-turn k) s);
   }
-
-  -- what holds of each pair holds of all that the pairs generate
-  pub bisimilar-generated : {n1 : ℕ} {w : Pairs} → ((i : ℕ) → i < w .made → Bisimilar accept out f (oneAt w i) (n1 + twoAt w i)) → {x y : ℕ} → Generated n1 w x y → Bisimilar accept out f x y
-  bisimilar-generated h (pair i l) = h i l
-  bisimilar-generated h (same {x}) = bisimilar-self x
-  bisimilar-generated h (turn g) = bisimilar-turn (bisimilar-generated h g)
-  bisimilar-generated h (chain g k) = bisimilar-chain (bisimilar-generated h g) (bisimilar-generated h k)
 
 -- two automata side by side
 module _ (A B : Automaton) where
@@ -145,7 +138,8 @@ module _ (A B : Automaton) where
       (alike : (i : ℕ) → i < w .made → Alike A B (oneAt w i) (twoAt w i))
       (follows : (i : ℕ) → i < w .made → (d e : Transition) → First (leaving A (oneAt w i)) d → First (leaving B (twoAt w i)) e → SameTrigger d e → classes w (d .to) ≡ classes w (A .size + e .to)) where
     joined-agree : (p q : ℕ) → p < A .size → q < B .size → classes w p ≡ classes w (A .size + q) → Bisimilar acceptIn outOf (classes w) p (A .size + q)
-    joined-agree p q h k e = bisimilar-generated acceptIn outOf (classes w) (λ i l. agree (classes w) (oneAt w i) (twoAt w i) (reached-in A B in-a in-b (reached i l) .0) (alike i l) (follows i l)) (g .only p (A .size + q) (omega (arith, is-n)) (omega (arith, is-n)) e)
+    joined-agree p q h k e = generated-into (Bisimilar acceptIn outOf (classes w)) (λ x l. bisimilar-self acceptIn outOf (classes w) x) (λ x y b. bisimilar-turn acceptIn outOf (classes w) b) (λ x y z b c. bisimilar-chain acceptIn outOf (classes w) b c)
+        (λ i l. agree (classes w) (oneAt w i) (twoAt w i) (reached-in A B in-a in-b (reached i l) .0) (alike i l) (follows i l)) (g .spanned .only p (A .size + q) (omega (arith, is-n)) (omega (arith, is-n)) e)
 
     reached-joined : {p q : ℕ} → Reached A B p q → classes w p ≡ classes w (A .size + q)
     reached-joined start = started

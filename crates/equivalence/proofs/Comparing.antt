@@ -14,25 +14,18 @@ use Rattle.lists.proofs.Tests.{test}
 use Rattle.automata.specs.Automaton.{Transition}
 use Rattle.automata.specs.Records.{recordAt, readRecords}
 use Rattle.automata.proofs.Records.{records-at, records-end}
-use Rattle.dsu.specs.Classes.{Classes, none, old, new}
-use Rattle.equivalence.specs.declared.Pairs.{Pairs}
+use Rattle.dsu.proofs.Generated.{spanned-room}
 use Rattle.equivalence.specs.Triggers.{SameTrigger, Within, sameTrigger}
 use Rattle.equivalence.specs.Rows.{leadersBehind, leaders, RowEnd}
-use Rattle.equivalence.specs.Walking.{Good, Grown, CanOffer, Offered, Runs, CanTurn, Comes, Saw, Turned}
+use Rattle.equivalence.specs.Walking.{Pairs, Good, Grown, CanOffer, Offered, Runs, CanTurn, Comes, Saw, Turned}
 use Rattle.equivalence.proofs.Triggers.{trigger-test, trigger-apart, trigger-chain, not-true, not-false}
 use Rattle.equivalence.proofs.Reading.{test-parts}
 use Rattle.equivalence.proofs.Rows.{leaders-rest, leaders-out, leaders-led}
 use Rattle.equivalence.proofs.Turning.{Zipped, whole, next, zipped-left, zipped-right, zipped-grown, zipped-matched, zipped-heads, zipped-left-over, zipped-right-over}
 
--- some number, some class
-classes-positive : {R : ℕ → ℕ → Type 0} {n k : ℕ} → Classes R n k → 0 < n → 0 < k
-classes-positive none h = h
-classes-positive (old i l r c) h = classes-positive c (omega arith)
-classes-positive (new o c) h = omega arith
-
 -- fewer pairs than states
 pub room : (n1 x : ℕ) (w : Pairs) → Good n1 w → x < w .sets .n → w .made < 512
-room n1 x w g h = omega (arith, g .joins, g .few, classes-positive (g .counted) (omega arith))
+room n1 x w g h = omega (arith, g .few, spanned-room (g .spanned) (omega arith))
 
 grown-self : (w : Pairs) → Grown w w
 grown-self w = record { same-n = refl; more = omega arith; one = λ i h. refl; two = λ i h. refl; kept = λ x y h k e. e }

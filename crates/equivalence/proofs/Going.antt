@@ -23,9 +23,8 @@ use Rattle.sheets.specs.Sheet.{stateCount, read}
 use Rattle.sheets.proofs.Meaning.{read-well}
 use Rattle.sheets.proofs.Runs.{run-at, starts-indexed}
 use Rattle.totality.proofs.Rows.{leaves}
-use Rattle.equivalence.specs.declared.Pairs.{Pairs}
 use Rattle.equivalence.specs.Equivalent.{Reached, start, step, Alike, equivalent}
-use Rattle.equivalence.specs.Walking.{classes, oneAt, twoAt, Good, Fresh, CanOffer, Offered, Runs, CanTurn, Saw, Turned, Follows, Going}
+use Rattle.equivalence.specs.Walking.{Pairs, classes, oneAt, twoAt, Good, Fresh, CanOffer, Offered, Runs, CanTurn, Saw, Turned, Follows, Going}
 use Rattle.equivalence.proofs.Triggers.{trigger-turn, trigger-chain, first-target, not-true, not-false}
 use Rattle.equivalence.proofs.Exact.{reached-in, exact, exact-false}
 use Rattle.equivalence.proofs.Rows.{Sorted, leaders-ascend, leaders-first, leaders-led}
@@ -76,7 +75,7 @@ module _ (a b starts-a starts-b : List ℕ) (n1 head : ℕ) (w : Pairs) (g : Goi
   inside i h = reached-in (read a) (read b) (well-a .states) (well-b .states) (g .reached i h)
 
   pub walk-made : w .made ≤ 512
-  walk-made = omega (arith, g .good .joins, g .good .few)
+  walk-made = omega (arith, g .good .spanned .counted, g .good .few)
 
   -- all pairs had their turn
   pub walk-ended : w .made ≤ head → true ≡ equivalent (read a) (read b)

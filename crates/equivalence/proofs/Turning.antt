@@ -6,10 +6,9 @@ use mathlib.Core.Path.{_≡_, refl}
 use Rattle.lists.specs.Lists.{_∈_, Ascending, more}
 use Rattle.automata.specs.Automaton.{Transition}
 use Rattle.automata.proofs.Ordered.{lex-trans, lex-irreflexive}
-use Rattle.equivalence.specs.declared.Pairs.{Pairs}
 use Rattle.equivalence.specs.Triggers.{SameTrigger, Within}
 use Rattle.equivalence.specs.Rows.{Lower}
-use Rattle.equivalence.specs.Walking.{classes, Grown}
+use Rattle.equivalence.specs.Walking.{Pairs, classes, Grown}
 use Rattle.equivalence.proofs.Triggers.{trigger-turn, trigger-chain}
 use Rattle.equivalence.proofs.Rows.{lower-apart, lower-right}
 

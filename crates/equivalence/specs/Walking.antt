@@ -10,12 +10,24 @@ use Rattle.automata.specs.Automaton.{Transition, leaving}
 use Rattle.sheets.specs.Accepted.{Accepted}
 use Rattle.sheets.specs.Runs.{Indexed}
 use Rattle.sheets.specs.Sheet.{stateCount, read}
-use Rattle.dsu.specs.Classes.{Classes}
-use Rattle.dsu.specs.Laws.{Valid, classOf, Same}
-use Rattle.equivalence.specs.declared.Pairs.{Pairs}
+use Rattle.dsu.specs.declared.DSU.{DSU}
+use Rattle.dsu.specs.Classes.{Spanned}
+use Rattle.dsu.specs.Laws.{Valid, classOf}
+use Rattle.dsu.specs.Sets.{setsOf}
 use Rattle.equivalence.specs.Triggers.{SameTrigger, First, Within}
 use Rattle.equivalence.specs.Equivalent.{Reached, Alike}
 use Rattle.equivalence.specs.Rows.{leaders, Lower}
+
+-- the pairs met so far, and the sets that they are joined in
+pub record Pairs : Type 0 where
+  pub sets : DSU
+  pub one : List ℕ
+  pub two : List ℕ
+  pub made : ℕ
+
+-- the same of the arrays
+abbrev pub pairsOf : List ℕ → List ℕ → List ℕ → List ℕ → ℕ → ℕ → Pairs
+pairsOf repr size one two n made = record { sets = setsOf repr size n; one = one; two = two; made = made }
 
 -- a state's class
 abbrev pub classes : Pairs → ℕ → ℕ
@@ -28,23 +40,13 @@ oneAt w i = getD (w .one) i 0
 abbrev pub twoAt : Pairs → ℕ → ℕ
 twoAt w i = getD (w .two) i 0
 
--- the equivalence that the pairs generate
-pub data Generated (n1 : ℕ) (w : Pairs) : ℕ → ℕ → Type 0 where
-  pair : (i : ℕ) → i < w .made → Generated n1 w (oneAt w i) (n1 + twoAt w i)
-  same : {x : ℕ} → Generated n1 w x x
-  turn : {x y : ℕ} → Generated n1 w x y → Generated n1 w y x
-  chain : {x y z : ℕ} → Generated n1 w x y → Generated n1 w y z → Generated n1 w x z
-
 -- valid sets whose classes are those that the pairs generate, where each pair took one class away
 pub record Good (n1 : ℕ) (w : Pairs) : Type 0 where
   pub valid : Valid (w .sets)
   pub few : w .sets .n ≤ 512
   pub long-one : length (w .one) ≡ 512
   pub long-two : length (w .two) ≡ 512
-  pub only : (x y : ℕ) → x < w .sets .n → y < w .sets .n → classes w x ≡ classes w y → Generated n1 w x y
-  pub number : ℕ
-  pub counted : Classes (Same (w .sets)) (w .sets .n) number
-  pub joins : w .made + number ≡ w .sets .n
+  pub spanned : Spanned (w .sets .n) (classes w) (oneAt w) (λ i. n1 + twoAt w i) (w .made)
 
 -- r has the pairs of w, and joins what w joins
 pub record Grown (w r : Pairs) : Type 0 where

@@ -8,38 +8,18 @@ ghost use Rattle.automata.specs.Records.{recordAt, readRecords};
 ghost use Rattle.refusal.specs.Decision.{decisionOf};
 ghost use Rattle.sheets.specs.Accepted.{Accepted};
 ghost use Rattle.sheets.specs.Sheet.{stateCount, read};
-ghost use Rattle.dsu.specs.Laws.{rootOf};
 ghost use Rattle.equivalence.specs.Triggers.{sameTrigger};
 ghost use Rattle.equivalence.specs.Equivalent.{equivalent, equivalentAnswer};
 ghost use Rattle.equivalence.specs.Rows.{RowEnd};
-ghost use Rattle.equivalence.specs.Walking.{Fresh, CanOffer, Offered, CanTurn, Turned, Going};
+ghost use Rattle.equivalence.specs.Walking.{pairsOf, CanOffer, Offered, CanTurn, Turned, Going};
 use dsu::DSU;
-use dsu::Found;
 use refusal::Decision;
 use sheets::Checked;
 
-// The pairs met so far, and the sets that they are joined in. Pair i is made of one[i] and two[i].
-pub struct Pairs {
-    pub sets: DSU,
-    pub one: [u32; 512],
-    pub two: [u32; 512],
-    pub made: usize,
-}
-
-// The pairs after a turn, and whether the two states have the same triggers.
+// How many pairs there are after a turn, and whether the two states have the same triggers.
 pub struct Compared {
-    pub pairs: Pairs,
+    pub made: usize,
     pub alike: bool,
-}
-
-// The representative in an answer; 512, which is no element, in a refusal.
-fn root(f: Found) -> u32
-    ensures { λ r. ⌜ r ≡ rootOf f ⌝ }
-{
-    match f {
-        Found::Root(a) => a,
-        Found::Refused(_) => 512,
-    }
 }
 
 // A state's accept word.
@@ -79,76 +59,61 @@ fn next_trigger(run: &[u32], at: usize) -> usize
     i
 }
 
-// No pairs, and each of n states alone.
-fn no_pairs(n: usize) -> Pairs
-    requires { ⌜ n ≤ 512 ⌝ }
-    ensures { λ r. ⌜ Fresh n r ⌝ }
+// The pair p, q: joined, and put behind the others, where it was not joined before. How many pairs there are then. Pair i is made of
+// one[i] and two[i]; repr and size are the join sets of the n states of both.
+fn offer(
+    repr: &mut [u32; 512],
+    size: &mut [u32; 512],
+    one: &mut [u32; 512],
+    two: &mut [u32; 512],
+    n: usize,
+    made: usize,
+    n1: usize,
+    p: u32,
+    q: u32,
+) -> usize
+    requires { ⌜ CanOffer n1 p q (pairsOf (now repr) (now size) (now one) (now two) n made) ⌝ }
+    ensures { λ r. ⌜ Offered n1 p q (pairsOf (now (repr .entry)) (now (size .entry)) (now (one .entry)) (now (two .entry)) n made) (pairsOf (now (repr .exit)) (now (size .exit)) (now (one .exit)) (now (two .exit)) n r) ⌝ }
 {
-    let fresh = DSU::new(n);
-    let sets = fresh.sets;
-    let one = [0u32; 512];
-    let two = [0u32; 512];
-    Pairs {
-        sets,
-        one,
-        two,
-        made: 0,
+    if dsu::join_in(repr, size, n, p as usize, n1 + q as usize) {
+        one[made] = p;
+        two[made] = q;
+        return made + 1;
     }
-}
-
-// The pair p, q: joined, and put behind the others, where it was not joined before.
-fn offer(mut w: Pairs, n1: usize, p: u32, q: u32) -> Pairs
-    requires { ⌜ CanOffer n1 p q w ⌝ }
-    ensures { λ r. ⌜ Offered n1 p q w r ⌝ }
-{
-    let s = w.sets;
-    let f = s.find(p as usize);
-    let s = f.sets;
-    let g = s.find(n1 + q as usize);
-    let s = g.sets;
-    let found = f.found;
-    let other = g.found;
-    if root(found) == root(other) {
-        w.sets = s;
-        return w;
-    }
-    let u = s.union(p as usize, n1 + q as usize);
-    let s = u.sets;
-    w.sets = s;
-    let m = w.made;
-    w.one[m] = p;
-    w.two[m] = q;
-    w.made = m + 1;
-    w
+    made
 }
 
 // The records ra and rb of two states, in one pass: the targets of the first records of equal triggers are offered, up to a trigger
 // that one of the states lacks.
-fn turn(ra: &[u32], rb: &[u32], n1: usize, mut w: Pairs) -> Compared
-    requires { ⌜ CanTurn n1 (readRecords (now ra)) (readRecords (now rb)) w ⌝ }
-    ensures { λ r. ⌜ Turned n1 (readRecords (now (ra .entry))) (readRecords (now (rb .entry))) w (r .pairs) (r .alike) ⌝ }
+fn turn(
+    ra: &[u32],
+    rb: &[u32],
+    repr: &mut [u32; 512],
+    size: &mut [u32; 512],
+    one: &mut [u32; 512],
+    two: &mut [u32; 512],
+    n: usize,
+    mut made: usize,
+    n1: usize,
+) -> Compared
+    requires { ⌜ CanTurn n1 (readRecords (now ra)) (readRecords (now rb)) (pairsOf (now repr) (now size) (now one) (now two) n made) ⌝ }
+    ensures { λ r. ⌜ Turned n1 (readRecords (now (ra .entry))) (readRecords (now (rb .entry))) (pairsOf (now (repr .entry)) (now (size .entry)) (now (one .entry)) (now (two .entry)) n made) (pairsOf (now (repr .exit)) (now (size .exit)) (now (one .exit)) (now (two .exit)) n (r .made)) (r .alike) ⌝ }
 {
     let mut j: usize = 0;
     let mut k: usize = 0;
     while 5 <= ra.len() - j {
         if rb.len() - k < 5 {
-            return Compared {
-                pairs: w,
-                alike: false,
-            };
+            return Compared { made, alike: false };
         }
         if !same_trigger(&ra[j..j + 5], &rb[k..k + 5]) {
-            return Compared {
-                pairs: w,
-                alike: false,
-            };
+            return Compared { made, alike: false };
         }
-        w = offer(w, n1, ra[j + 4], rb[k + 4]);
+        made = offer(repr, size, one, two, n, made, n1, ra[j + 4], rb[k + 4]);
         j = next_trigger(ra, j);
         k = next_trigger(rb, k);
     }
     Compared {
-        pairs: w,
+        made,
         alike: rb.len() - k < 5,
     }
 }
@@ -160,26 +125,28 @@ fn walk_pairs(
     b: &[u32],
     starts_a: &[u32],
     starts_b: &[u32],
+    repr: &mut [u32; 512],
+    size: &mut [u32; 512],
+    one: &mut [u32; 512],
+    two: &mut [u32; 512],
+    n: usize,
+    mut made: usize,
     n1: usize,
-    mut w: Pairs,
 ) -> bool
-    requires { ⌜ Going (now a) (now b) (now «starts_a») (now «starts_b») n1 0 w ⌝ }
+    requires { ⌜ Going (now a) (now b) (now «starts_a») (now «starts_b») n1 0 (pairsOf (now repr) (now size) (now one) (now two) n made) ⌝ }
     ensures { λ r. ⌜ r ≡ equivalent (read (now (a .entry))) (read (now (b .entry))) ⌝ }
 {
     let mut head: usize = 0;
-    while head < w.made {
-        let p = w.one[head];
-        let q = w.two[head];
+    while head < made {
+        let p = one[head];
+        let q = two[head];
         if accept_word(a, p) != accept_word(b, q) {
             return false;
         }
-        let t = turn(
-            sheets::run(a, starts_a, p),
-            sheets::run(b, starts_b, q),
-            n1,
-            w,
-        );
-        w = t.pairs;
+        let ra = sheets::run(a, starts_a, p);
+        let rb = sheets::run(b, starts_b, q);
+        let t = turn(ra, rb, repr, size, one, two, n, made, n1);
+        made = t.made;
         if !t.alike {
             return false;
         }
@@ -199,8 +166,37 @@ fn walk(a: &[u32], b: &[u32]) -> bool
     sheets::run_starts(b, &mut starts_b);
     let n1 = a[2] as usize;
     let n2 = b[2] as usize;
-    let w = offer(no_pairs(n1 + n2), n1, a[1], b[1]);
-    walk_pairs(a, b, &starts_a, &starts_b, n1, w)
+    let fresh = DSU::new(n1 + n2);
+    let sets = fresh.sets;
+    let n = sets.n;
+    let mut repr = sets.repr;
+    let mut size = sets.size;
+    let mut one = [0u32; 512];
+    let mut two = [0u32; 512];
+    let made = offer(
+        &mut repr,
+        &mut size,
+        &mut one,
+        &mut two,
+        n,
+        0,
+        n1,
+        a[1],
+        b[1],
+    );
+    walk_pairs(
+        a,
+        b,
+        &starts_a,
+        &starts_b,
+        &mut repr,
+        &mut size,
+        &mut one,
+        &mut two,
+        n,
+        made,
+        n1,
+    )
 }
 
 // Whether no pair of states that equal triggers reach differs in acceptance or in its triggers.
