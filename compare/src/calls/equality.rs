@@ -1,7 +1,8 @@
 //! Comparison of exact equality.
 //!
 //! The original has no such call. The verdict is compared with a plain search on its
-//! determinizations, and a difference word with what its closures and steps accept.
+//! determinizations, with its `is_equivalent` and its crossed products on them where they are small,
+//! and a difference word with what its closures and steps accept.
 
 use super::{Plan, Tally};
 use crate::expect::{Outcome, Verdict};
@@ -57,6 +58,30 @@ fn difference_fault(a: &[u32], b: &[u32], word: &[u32]) -> Option<String> {
     (first == second).then(|| format!("difference word {word:?} accepted by both: {first}"))
 }
 
+/// The most pairs of states for which the original is asked too: its products have no limit.
+const MOST_PAIRS: usize = 400;
+
+/// Where the original's own comparisons of the determinizations contradict the verdict: its
+/// `is_equivalent` says yes and the verdict is different, or the emptiness of the crossed products
+/// is not the verdict.
+fn original_fault(expected: &Outcome<Verdict>, a: &[u32], b: &[u32]) -> Option<String> {
+    let verdict = expected.as_ref().ok()?;
+    let (d, e) = (oracle::determinize(&Sheet::read(a)), oracle::determinize(&Sheet::read(b)));
+    if oracle::sheet(&d).states() * oracle::sheet(&e).states() > MOST_PAIRS {
+        return None;
+    }
+    let same = matches!(verdict, Verdict::Same { .. });
+    if oracle::is_equivalent(d.clone(), e.clone()) && !same {
+        return Some("the original's is_equivalent says yes".to_owned());
+    }
+    let is_empty = |d: &oracle::Automaton, e: &oracle::Automaton| {
+        let product = oracle::intersection(d.clone(), oracle::complement(e.clone()));
+        !oracle::has_reachable_accepting_state(&product.expect("there are no epsilons"))
+    };
+    let empty = is_empty(&d, &e) && is_empty(&e, &d);
+    (empty != same).then(|| format!("both crossed products empty: {empty}"))
+}
+
 pub fn compare(call: port::Equality, plan: &Plan, tally: &mut Tally) {
     let mut check = |rng: &mut Rng, sort, a: Vec<u32>, b: Vec<u32>| {
         let mut lent = Lending {
@@ -78,7 +103,8 @@ pub fn compare(call: port::Equality, plan: &Plan, tally: &mut Tally) {
                 lent.number.as_mut_ptr(),
             )
         };
-        let fault = lent.fault(result, &expected, &a, &b);
+        let fault =
+            lent.fault(result, &expected, &a, &b).or_else(|| original_fault(&expected, &a, &b));
         let input: [(&str, &dyn super::Shown); 3] =
             [("a", &a), ("b", &b), ("words lent", &lent.word.len())];
         tally.note(sort, &expected, fault, &input);
