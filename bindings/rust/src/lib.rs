@@ -104,6 +104,24 @@ fn operate(call: Operation, a: &Automaton) -> Result<Automaton, Refusal> {
     out.automaton(code)
 }
 
+type Question = unsafe extern "C" fn(*const u32, usize, *mut u32) -> u32;
+type QuestionOfTwo = unsafe extern "C" fn(*const u32, usize, *const u32, usize, *mut u32) -> u32;
+
+/// A question on one automaton, by its sheet.
+fn ask(call: Question, a: &Automaton) -> Result<bool, Refusal> {
+    let mut answer = 0;
+    let code = unsafe { call(a.sheet.as_ptr(), a.sheet.len(), &mut answer) };
+    checked(code, answer != 0)
+}
+
+/// A question on an automaton's sheet and other words: those of a second sheet, or a word.
+fn ask_with(call: QuestionOfTwo, a: &Automaton, words: &[u32]) -> Result<bool, Refusal> {
+    let mut answer = 0;
+    let code =
+        unsafe { call(a.sheet.as_ptr(), a.sheet.len(), words.as_ptr(), words.len(), &mut answer) };
+    checked(code, answer != 0)
+}
+
 impl Automaton {
     /// Whether the text is accepted, as the word of its characters.
     pub fn accepts(&self, text: &str) -> Result<bool, Refusal> {
@@ -127,26 +145,12 @@ impl Automaton {
 
     /// Whether the word is accepted: a ring series, oldest ring first.
     pub fn accepts_words(&self, word: &[u32]) -> Result<bool, Refusal> {
-        let mut answer = 0;
-        let code = unsafe {
-            foreign::ringmatch_accepts_words(
-                self.sheet.as_ptr(),
-                self.sheet.len(),
-                word.as_ptr(),
-                word.len(),
-                &mut answer,
-            )
-        };
-        checked(code, answer != 0)
+        ask_with(foreign::ringmatch_accepts_words, self, word)
     }
 
     /// Whether it has an epsilon, an overlap or a hole.
     pub fn is_nfa(&self) -> Result<bool, Refusal> {
-        let mut answer = 0;
-        let code = unsafe {
-            foreign::ringmatch_is_nfa(self.sheet.as_ptr(), self.sheet.len(), &mut answer)
-        };
-        checked(code, answer != 0)
+        ask(foreign::ringmatch_is_nfa, self)
     }
 
     /// The automaton of the same words without epsilons.
@@ -206,31 +210,13 @@ pub fn intersection(a: &Automaton, b: &Automaton) -> Result<Automaton, Refusal> 
 
 /// Whether some word is accepted.
 pub fn has_reachable_accepting_state(a: &Automaton) -> Result<bool, Refusal> {
-    let mut answer = 0;
-    let code = unsafe {
-        foreign::ringmatch_has_reachable_accepting_state(
-            a.sheet.as_ptr(),
-            a.sheet.len(),
-            &mut answer,
-        )
-    };
-    checked(code, answer != 0)
+    ask(foreign::ringmatch_has_reachable_accepting_state, a)
 }
 
 /// The older comparison by exact ranges. Without epsilons or overlaps true implies equal words; false implies nothing. For whether two
 /// automata accept the same words see [`equality`].
 pub fn is_equivalent(a: &Automaton, b: &Automaton) -> Result<bool, Refusal> {
-    let mut answer = 0;
-    let code = unsafe {
-        foreign::ringmatch_is_equivalent(
-            a.sheet.as_ptr(),
-            a.sheet.len(),
-            b.sheet.as_ptr(),
-            b.sheet.len(),
-            &mut answer,
-        )
-    };
-    checked(code, answer != 0)
+    ask_with(foreign::ringmatch_is_equivalent, a, &b.sheet)
 }
 
 /// Whether the states, accepting states and start of `p` are those of `q` by their labels, and each transition of `p` is covered by one of `q`.
