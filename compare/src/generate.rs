@@ -4,6 +4,7 @@ pub mod labels;
 pub mod pairs;
 pub mod patterns;
 pub mod sheets;
+pub mod texts;
 pub mod tiny;
 pub mod words;
 

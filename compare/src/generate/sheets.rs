@@ -187,6 +187,21 @@ pub fn fan(states: usize, points: usize) -> Sheet {
     Sheet { start: 0, accept: vec![1; states], records }
 }
 
+/// Epsilons from the first state to the others; each state has `points` records, of symbols below those
+/// of the state before it, so that the first state's come in descending order.
+pub fn descent(states: usize, points: usize) -> Sheet {
+    let epsilons = (1..states as u32).map(|to| [0, EPSILON, 0, 0, to]);
+    let point = |i: usize| {
+        let (from, symbol) =
+            ((i / points) as u32, ((states - i / points) * points + i % points) as u32);
+        [from, RANGE, symbol, symbol, 0]
+    };
+    let mut sheet = Sheet { start: 0, accept: vec![1; states], records: epsilons.collect() };
+    sheet.records.extend((0..states * points).map(point));
+    sheet.sort();
+    sheet
+}
+
 /// A ring of epsilons, so that every state is in each closure; every state reads one symbol.
 pub fn epsilon_ring(states: usize) -> Sheet {
     let next = |state: u32| (state + 1) % states as u32;

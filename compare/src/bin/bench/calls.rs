@@ -1,0 +1,294 @@
+//! One row of the table for each call, on an input that is given.
+
+use std::hint::black_box;
+
+use compare::oracle::{self, Automaton};
+use compare::port;
+use compare::sheet::{DIFFERENCE_WORDS, OUT_BYTES, OUT_WORDS, Sheet, plain_labels, write_labels};
+
+use crate::row;
+
+/// Memory for an output.
+struct Output {
+    sheet: Vec<u32>,
+    labels: Vec<u8>,
+    words: u64,
+    bytes: u64,
+}
+
+impl Output {
+    fn new() -> Output {
+        Output { sheet: vec![0; OUT_WORDS], labels: vec![0; OUT_BYTES], words: 0, bytes: 0 }
+    }
+}
+
+/// The word's symbols are characters.
+pub fn accepts_text(case: &str, sheet: &Sheet, word: &[u32]) {
+    let a = oracle::automaton(sheet);
+    let sheet = sheet.words();
+    let text: String = word.iter().map(|&s| char::from_u32(s).expect("a character")).collect();
+    let mut answer = 0;
+    row(
+        "accepts_text",
+        case,
+        || a.accepts(black_box(&text)),
+        port::accepts_text().map(|call| {
+            let (sheet, text, answer) = (&sheet, &text, &mut answer);
+            move || unsafe { call(sheet.as_ptr(), sheet.len(), text.as_ptr(), text.len(), answer) }
+        }),
+    );
+}
+
+pub fn accepts_words(case: &str, sheet: &Sheet, word: &[u32]) {
+    let a = oracle::automaton(sheet);
+    let sheet = sheet.words();
+    let mut answer = 0;
+    row(
+        "accepts_words",
+        case,
+        || oracle::accepts_word(&a, black_box(word)),
+        port::accepts_words().map(|call| {
+            let (sheet, answer) = (&sheet, &mut answer);
+            move || unsafe { call(sheet.as_ptr(), sheet.len(), word.as_ptr(), word.len(), answer) }
+        }),
+    );
+}
+
+pub fn determinize(case: &str, sheet: &Sheet) {
+    let a = oracle::automaton(sheet);
+    let (sheet, mut out) = (sheet.words(), Output::new());
+    row(
+        "determinize",
+        case,
+        || Automaton::determinize(black_box(&a)),
+        port::determinize().map(|call| {
+            let (sheet, out) = (&sheet, &mut out);
+            move || unsafe {
+                call(
+                    sheet.as_ptr(),
+                    sheet.len(),
+                    out.sheet.as_mut_ptr(),
+                    OUT_WORDS,
+                    out.labels.as_mut_ptr(),
+                    OUT_BYTES,
+                    &mut out.words,
+                    &mut out.bytes,
+                )
+            }
+        }),
+    );
+}
+
+pub fn intersection(case: &str, a: &Sheet, b: &Sheet) {
+    let (first, second) = (oracle::automaton(a), oracle::automaton(b));
+    let (a, b, mut out) = (a.words(), b.words(), Output::new());
+    row(
+        "intersection",
+        case,
+        || oracle::intersection(first.clone(), second.clone()),
+        port::intersection().map(|call| {
+            let (a, b, out) = (&a, &b, &mut out);
+            move || unsafe {
+                call(
+                    a.as_ptr(),
+                    a.len(),
+                    b.as_ptr(),
+                    b.len(),
+                    out.sheet.as_mut_ptr(),
+                    OUT_WORDS,
+                    out.labels.as_mut_ptr(),
+                    OUT_BYTES,
+                    &mut out.words,
+                    &mut out.bytes,
+                )
+            }
+        }),
+    );
+}
+
+pub fn totalize(case: &str, sheet: &Sheet) {
+    labelled("totalize", oracle::totalize, port::totalize(), case, sheet);
+}
+
+pub fn complement(case: &str, sheet: &Sheet) {
+    labelled("complement", oracle::complement, port::complement(), case, sheet);
+}
+
+pub fn epsilon_eliminate(case: &str, sheet: &Sheet) {
+    let rust = |a: Automaton| a.epsilon_eliminate();
+    labelled("epsilon_eliminate", rust, port::epsilon_eliminate(), case, sheet);
+}
+
+fn labelled(
+    call: &str,
+    rust: impl Fn(Automaton) -> Automaton,
+    port: Option<port::Operation>,
+    case: &str,
+    sheet: &Sheet,
+) {
+    let labels = write_labels(&plain_labels(sheet.states()));
+    let a = oracle::automaton(sheet);
+    let (sheet, mut out) = (sheet.words(), Output::new());
+    row(
+        call,
+        case,
+        || rust(a.clone()),
+        port.map(|call| {
+            let (sheet, labels, out) = (&sheet, &labels, &mut out);
+            move || unsafe {
+                call(
+                    sheet.as_ptr(),
+                    sheet.len(),
+                    labels.as_ptr(),
+                    labels.len(),
+                    out.sheet.as_mut_ptr(),
+                    OUT_WORDS,
+                    out.labels.as_mut_ptr(),
+                    OUT_BYTES,
+                    &mut out.words,
+                    &mut out.bytes,
+                )
+            }
+        }),
+    );
+}
+
+#[cfg(parser)]
+pub fn parse_automaton(case: &str, text: &str) {
+    let (mut out, mut read) = (Output::new(), 0);
+    row(
+        "parse_automaton",
+        case,
+        || oracle::parse_automaton(black_box(text)),
+        port::parse_automaton().map(|call| {
+            let (out, read) = (&mut out, &mut read);
+            move || unsafe {
+                call(
+                    text.as_ptr(),
+                    text.len(),
+                    out.sheet.as_mut_ptr(),
+                    OUT_WORDS,
+                    out.labels.as_mut_ptr(),
+                    OUT_BYTES,
+                    read,
+                    &mut out.words,
+                    &mut out.bytes,
+                )
+            }
+        }),
+    );
+}
+
+#[cfg(not(parser))]
+pub fn parse_automaton(case: &str, _text: &str) {
+    println!("| `parse_automaton` | {case} | nom was not found |");
+}
+
+pub fn is_nfa(case: &str, sheet: &Sheet) {
+    question("is_nfa", Automaton::is_nfa, port::is_nfa(), case, sheet);
+}
+
+pub fn has_reachable_accepting_state(case: &str, sheet: &Sheet) {
+    question(
+        "has_reachable_accepting_state",
+        oracle::has_reachable_accepting_state,
+        port::has_reachable_accepting_state(),
+        case,
+        sheet,
+    );
+}
+
+fn question(
+    call: &str,
+    rust: fn(&Automaton) -> bool,
+    port: Option<port::Question>,
+    case: &str,
+    sheet: &Sheet,
+) {
+    let a = oracle::automaton(sheet);
+    let sheet = sheet.words();
+    let mut answer = 0;
+    row(
+        call,
+        case,
+        || rust(&a),
+        port.map(|call| {
+            let (sheet, answer) = (&sheet, &mut answer);
+            move || unsafe { call(sheet.as_ptr(), sheet.len(), answer) }
+        }),
+    );
+}
+
+/// An automaton with itself.
+pub fn is_equivalent(case: &str, sheet: &Sheet) {
+    let a = oracle::automaton(sheet);
+    let sheet = sheet.words();
+    let mut answer = 0;
+    row(
+        "is_equivalent",
+        case,
+        || oracle::is_equivalent(a.clone(), a.clone()),
+        port::is_equivalent().map(|call| {
+            let (s, answer) = (&sheet, &mut answer);
+            move || unsafe { call(s.as_ptr(), s.len(), s.as_ptr(), s.len(), answer) }
+        }),
+    );
+}
+
+/// An automaton with itself.
+pub fn is_subautomaton(case: &str, sheet: &Sheet) {
+    let a = oracle::automaton(sheet);
+    let labels = write_labels(&plain_labels(sheet.states()));
+    let sheet = sheet.words();
+    let mut answer = 0;
+    row(
+        "is_subautomaton",
+        case,
+        || oracle::is_subautomaton(a.clone(), a.clone()),
+        port::is_subautomaton().map(|call| {
+            let (s, l, answer) = (&sheet, &labels, &mut answer);
+            move || unsafe {
+                let (s, sn, l, ln) = (s.as_ptr(), s.len(), l.as_ptr(), l.len());
+                call(s, sn, l, ln, s, sn, l, ln, answer)
+            }
+        }),
+    );
+}
+
+/// Whether two automata are equal, as the original can tell: by the products of each determinization
+/// with the other's complement.
+fn equal(a: &Automaton, b: &Automaton) -> bool {
+    let (d, e) = (Automaton::determinize(a), Automaton::determinize(b));
+    let within = |d: &Automaton, e: &Automaton| {
+        let product = oracle::intersection(d.clone(), oracle::complement(e.clone()));
+        !oracle::has_reachable_accepting_state(&product.expect("there are no epsilons"))
+    };
+    within(&d, &e) && within(&e, &d)
+}
+
+pub fn equality(case: &str, a: &Sheet, b: &Sheet) {
+    let (first, second) = (oracle::automaton(a), oracle::automaton(b));
+    let (a, b) = (a.words(), b.words());
+    let (mut word, mut same, mut number) = (vec![0; DIFFERENCE_WORDS], 0, 0);
+    row(
+        "equality",
+        case,
+        || equal(&first, &second),
+        port::equality().map(|call| {
+            let (a, b, word) = (&a, &b, &mut word);
+            let (same, number) = (&mut same, &mut number);
+            move || unsafe {
+                call(
+                    a.as_ptr(),
+                    a.len(),
+                    b.as_ptr(),
+                    b.len(),
+                    word.as_mut_ptr(),
+                    DIFFERENCE_WORDS,
+                    same,
+                    number,
+                )
+            }
+        }),
+    );
+}
