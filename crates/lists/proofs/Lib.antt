@@ -4,3 +4,5 @@ pub mod Lists
 pub mod Parts
 pub mod Written
 pub mod Members
+pub mod Index
+pub mod Every

@@ -25,7 +25,9 @@ use Rattle.sheets.proofs.Runs.{starts-indexed}
 use Rattle.subautomaton.specs.Inclusion.{all, states, labelOf, isSame, hasState, covers, isCovered, isSubautomaton}
 use Rattle.subautomaton.specs.Tables.{Numbered, isHeld, isHeldIn, fits, fitsFrom, fitsIn, Small, Ready, Inputs, Tabled}
 use Rattle.subautomaton.specs.Answer.{patternOf}
-use Rattle.subautomaton.proofs.Loops.{no-true, no-false, states-in, states-out, all-ext}
+use Rattle.lists.proofs.Every.{all-ext}
+use Rattle.lists.proofs.Tests.{no-true, no-false}
+use Rattle.automata.proofs.States.{states-in, states-out}
 use Rattle.subautomaton.proofs.Numbering.{same-number}
 
 module _ (a al b bl starts ca cb : List ℕ) (t : Tabled a al b bl starts ca cb) where

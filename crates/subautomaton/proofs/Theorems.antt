@@ -14,7 +14,8 @@ use Rattle.labels.specs.Labels.{sameLabel}
 use Rattle.labels.proofs.Same.{same-equal, equal-same}
 use Rattle.output.specs.Output.{Pattern}
 use Rattle.subautomaton.specs.Inclusion.{all, states, labelOf, acceptOf, isSame, hasState, covers, isCovered, isSubautomaton, Covers, Sub}
-use Rattle.subautomaton.proofs.Loops.{states-in, states-out, all-out, all-in}
+use Rattle.lists.proofs.Every.{all-out, all-in}
+use Rattle.automata.proofs.States.{states-in, states-out}
 
 module _ (P Q : Pattern) where
   covers-out : (d e : Transition) → covers P Q d e ≡ true → Covers P Q d e

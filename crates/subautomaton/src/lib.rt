@@ -3,14 +3,15 @@
 ghost use mathlib.Core.Path.{_≡_};
 ghost use Prim.Native.Nat.{_≤_, _<_};
 ghost use lib.ListN.{length};
-ghost use Rattle.lists.specs.Lists.{any};
+ghost use Rattle.lists.specs.Lists.{any, all};
+ghost use Rattle.automata.specs.Automaton.{states};
 ghost use Rattle.automata.specs.Records.{recordAt, readRecords};
 ghost use Rattle.labels.specs.Labels.{sameLabel, labelsFault, readLabels};
 ghost use Rattle.refusal.specs.Decision.{decisionOf};
 ghost use Rattle.search.specs.Search.{index};
 ghost use Rattle.sheets.specs.Accepted.{Accepted};
 ghost use Rattle.sheets.specs.Sheet.{stateCount, read};
-ghost use Rattle.subautomaton.specs.Inclusion.{all, states, isSubautomaton};
+ghost use Rattle.subautomaton.specs.Inclusion.{isSubautomaton};
 ghost use Rattle.subautomaton.specs.Tables.{Numbered, isHeld, isHeldIn, fits, fitsFrom, fitsIn, Small, Ready, Inputs, Tabled};
 ghost use Rattle.subautomaton.specs.Answer.{patternOf, subautomatonAnswer};
 use refusal::Decision;

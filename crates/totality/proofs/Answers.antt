@@ -16,7 +16,7 @@ use Rattle.lists.specs.Written.{Written}
 use Rattle.lists.proofs.Tests.{test}
 use Rattle.lists.proofs.Parts.{part-all}
 use Rattle.lists.proofs.Written.{written-append, written-length}
-use Rattle.automata.specs.Automaton.{Automaton}
+use Rattle.automata.specs.Automaton.{Automaton, states}
 use Rattle.automata.specs.Records.{writeRecords}
 use Rattle.automata.proofs.Records.{length-read}
 use Rattle.labels.specs.Labels.{labelsFault, labelCount, readLabels, writeLabels}
@@ -52,7 +52,7 @@ use Rattle.totality.specs.Answers.{inputsFirst, inputsOf, passed, limite
 use Rattle.totality.specs.declared.Inputs as inputs
 use Rattle.totality.specs.declared.Inputs.the-variants as input
 use Rattle.totality.specs.Merging.{turned, headWords, Small, Ready}
-use Rattle.totality.specs.Totality.{states, isNfa, flipped, totalized, complemented, holesIn, transitionCount}
+use Rattle.totality.specs.Totality.{isNfa, flipped, totalized, complemented, holesIn, transitionCount}
 use Rattle.totality.proofs.Rows.{length-totalized}
 use Rattle.totality.proofs.States.{holes-bound}
 use Rattle.totality.proofs.Writing.{head-length}

@@ -2,8 +2,9 @@
 use Prim.Native.Nat.{_+_, _-_, _≤_}
 use mathlib.Core.Path.{_≡_}
 use lib.ListN.{length, drop}
+use Rattle.automata.specs.Automaton.{states}
 use Rattle.sheets.specs.Sheet.{stateCount, read}
-use Rattle.totality.specs.Totality.{states, holesIn}
+use Rattle.totality.specs.Totality.{holesIn}
 use Rattle.totality.proofs.States.{countLaws}
 use Rattle.totality.proofs.count_holes.Statement.{statement}
 use Rattle.totality.proofs.count_holes.Tie as tie

@@ -2,8 +2,9 @@
 use Prim.Native.Nat.{_-_, _≤_}
 use mathlib.Core.Path.{_≡_}
 use lib.ListN.{length, drop}
+use Rattle.automata.specs.Automaton.{states}
 use Rattle.sheets.specs.Sheet.{stateCount, read}
-use Rattle.totality.specs.Totality.{states, isNfaIn, isNfa}
+use Rattle.totality.specs.Totality.{isNfaIn, isNfa}
 use Rattle.totality.proofs.States.{sheetLaws}
 use Rattle.totality.proofs.is_nfa_sheet.Statement.{statement}
 use Rattle.totality.proofs.is_nfa_sheet.Tie as tie

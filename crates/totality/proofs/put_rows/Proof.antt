@@ -3,9 +3,10 @@ use Prim.Native.Nat.{_-_, _≤_}
 use mathlib.Core.Path.{_≡_}
 use borrow.Author.Needs.{needs}
 use lib.ListN.{length, drop}
+use Rattle.automata.specs.Automaton.{states}
 use Rattle.automata.specs.Records.{writeRecords}
 use Rattle.sheets.specs.Sheet.{stateCount, read}
-use Rattle.totality.specs.Totality.{states, filledIn}
+use Rattle.totality.specs.Totality.{filledIn}
 use Rattle.totality.proofs.Left.{Left}
 use Rattle.totality.proofs.Rows.{rowsLaws, rows-next}
 use Rattle.totality.proofs.put_rows.Statement.{statement}
