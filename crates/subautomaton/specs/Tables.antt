@@ -8,7 +8,7 @@ use lib.ListN.{length, getD}
 use Rattle.lists.specs.Lists.{_∈_, any}
 use Rattle.automata.specs.Automaton.{Transition, Automaton, states, leaving}
 use Rattle.labels.specs.Labels.{sameLabel, labelsFault, readLabels}
-use Rattle.search.specs.Search.{index}
+use Rattle.lists.specs.Index.{index}
 use Rattle.sheets.specs.Accepted.{Accepted}
 use Rattle.sheets.specs.Runs.{Indexed}
 use Rattle.sheets.specs.Sheet.{stateCount}

@@ -5,7 +5,9 @@ pub mod Runs
 pub mod States
 pub mod Rows
 pub mod Writing
+pub mod Passing
 pub mod Answers
+pub mod Made
 pub mod Totalized
 pub mod Words
 pub mod Deterministic

@@ -5,19 +5,18 @@ use mathlib.Core.List.{List, [], _∷_, flatMap, append-assoc}
 use mathlib.Core.Logic.{⊎-elim}
 use mathlib.Core.Path.{_≡_, refl, sym, _∙_, ap}
 use native.Mathlib.Nat.{suc-mul, mul-le-mul, suc-le-suc-iff}
-use native.Mathlib.Numerals.{add-one}
 use native.Mathlib.Omega.{arith}
 use mir.Syntax.{w64}
 use mir.Val.{Fits}
 use borrow.Author.Needs.{needs}
 use borrow.Author.Tests.{ltb-true, ltb-false}
 use lib.Dec.{ltb, eqb}
-use lib.ListN.{length, take, drop, drop-of-length-le, length-append}
-use lib.Seq.{drop-cons, take-at, length-take-le, sets, sets-eq, length-sets}
+use lib.ListN.{length, take, drop, length-append}
+use lib.Seq.{take-at, length-take-le, sets, sets-eq, length-sets}
 use Rattle.lists.specs.Written.{Written}
-use Rattle.lists.specs.Lists.{any, tabulate}
+use Rattle.lists.specs.Lists.{any}
 use Rattle.lists.proofs.Tests.{test}
-use Rattle.lists.proofs.Lists.{tabulate-at, length-tabulate, length-keep}
+use Rattle.lists.proofs.Lists.{length-keep}
 use Rattle.automata.specs.Automaton.{Transition, Automaton, leaving, rangesOf, states}
 use Rattle.automata.specs.Records.{readRecords, writeRecords}
 use Rattle.automata.proofs.States.{length-states, states-at, states-end}

@@ -1,16 +1,15 @@
 -- The totalized automaton: where its transitions come from, and that it is well-formed.
 use Prim.Native.Nat.{ℕ, zero, suc, _≤_, _<_}
 use mathlib.Core.Bool.{Bool, true, false, cond}
-use mathlib.Core.List.{List, [], _∷_, _++_, map, flatMap, List·Memᴰ·head, List·Memᴰ·tail, List·Memᴰ·not-nil, List·Memᴰ·cases-cons, List·Memᴰ·append-cases, List·Memᴰ·eq-of-singleton, Memᴰ·append-left, Memᴰ·append-right, Memᴰ·map, Memᴰ·of-map}
+use mathlib.Core.List.{List, [], _∷_, _++_, map, flatMap, List·Memᴰ·head, List·Memᴰ·tail, List·Memᴰ·not-nil, List·Memᴰ·append-cases, List·Memᴰ·eq-of-singleton, Memᴰ·append-left, Memᴰ·append-right, Memᴰ·map, Memᴰ·of-map}
 use mathlib.Core.Logic.{⊎-elim}
-use mathlib.Core.Path.{_≡_, refl, sym, _∙_, subst}
+use mathlib.Core.Path.{_≡_, refl, sym, _∙_}
 use native.Mathlib.Omega.{arith}
 use borrow.Author.Tests.{ltb-true, ltb-false}
 use lib.Dec.{ltb, eqb}
 use lib.ListN.{length, getD, length-append, length-map, List·getD-append}
-use Rattle.lists.specs.Lists.{_∈_, tabulate, Ascending, none, more}
+use Rattle.lists.specs.Lists.{_∈_, Ascending, none, more}
 use Rattle.lists.proofs.Tests.{test}
-use Rattle.lists.proofs.Lists.{drop-mem}
 use Rattle.automata.specs.Automaton.{Transition, Automaton, leaving, states}
 use Rattle.automata.specs.WellFormed.{here, Before, Sound, WellFormed}
 use Rattle.automata.proofs.Ordered.{inOrder-in, inOrder-out, inOrder-ascending}
