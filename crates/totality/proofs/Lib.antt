@@ -1,5 +1,4 @@
 -- The laws of totality and complement.
-pub mod Left
 pub mod Merging
 pub mod Runs
 pub mod States

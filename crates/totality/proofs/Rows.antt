@@ -30,7 +30,7 @@ use Rattle.sheets.specs.Sheet.{stateCount, read}
 use Rattle.sheets.proofs.Meaning.{read-well}
 use Rattle.totality.specs.Merging.{leading, Mergeable, Fillable, Ready}
 use Rattle.totality.specs.Totality.{holesOf, holeTo, filled, filledIn, totalized, holesIn}
-use Rattle.totality.proofs.Left.{Left, left-start, left-done, left-room, left-next}
+use Rattle.lists.proofs.Left.{Left, left-start, left-done, left-room, left-next}
 use Rattle.totality.proofs.Merging.{merge-hole, drop-records, less-holes}
 use Rattle.automata.proofs.States.{states-at, states-end}
 use Rattle.totality.proofs.States.{run-records, run-sorted, run-room, ready-run}
