@@ -1,3 +1,4 @@
--- The laws of records and of their order.
+-- The laws of states, of records and of their order.
+pub mod States
 pub mod Records
 pub mod Ordered

@@ -5,7 +5,7 @@ use mathlib.Core.List.{List, [], _∷_}
 use mathlib.Core.Path.{_≡_}
 use lib.Dec.{eqb, leb}
 use lib.ListN.{getD}
-use Rattle.lists.specs.Lists.{_∈_, keep}
+use Rattle.lists.specs.Lists.{_∈_, keep, tabulate}
 
 -- kind 0 is an epsilon, kind 1 a range of symbols from first to last
 pub record Transition : Type 0 where
@@ -21,6 +21,10 @@ pub record Automaton : Type 0 where
   pub start : ℕ
   pub accept : List ℕ
   pub transitions : List Transition
+
+-- the states of an automaton of that size
+unfoldable pub states : ℕ → List ℕ
+states n = tabulate n (λ q. q)
 
 -- a run reads the word from left to right: stay, follow an epsilon, or follow a range that holds the next symbol
 pub data Run (A : Automaton) : ℕ → List ℕ → ℕ → Type 0 where

@@ -68,12 +68,6 @@ length-one n h = ap length (digits-one n h)
 pub length-more : (n : ℕ) → 10 ≤ n → length (digits n) ≡ length (digits (n / 10)) + 1
 length-more n h = ap length (digits-more n h) ∙ simp length-append
 
-pub length-two : (n : ℕ) → 10 ≤ n → n < 100 → length (digits n) ≡ 2
-length-two n h g = length-more n h ∙ ap (λ k. k + 1) (length-one (n / 10) (omega arith))
-
-pub length-three : (n : ℕ) → 100 ≤ n → n < 1000 → length (digits n) ≡ 3
-length-three n h g = length-more n (omega arith) ∙ ap (λ k. k + 1) (length-two (n / 10) (omega arith) (omega arith))
-
 -- there is at least one digit, and a number below a power of 10 has at most as many as the power says
 pub length-some : (n : ℕ) → 1 ≤ length (digits n)
 length-some = by-digits (λ n. 1 ≤ length (digits n)) (λ n h. omega (arith, length-one n h)) (λ n h ih. omega (arith, length-more n h))

@@ -19,6 +19,7 @@ use Rattle.search.specs.Reached as graph
 use Rattle.search.proofs.Queue
 use Rattle.sets.specs.Sets.{Set, isEmpty}
 use Rattle.sets.proofs.Sets.{has-nil, empty-yes, empty-no}
+use Rattle.lists.proofs.Index.{same-decides}
 use Rattle.sets.proofs.Tables.{In}
 use Rattle.words.specs.Simulation.{step, simulate, startSet}
 use Rattle.words.proofs.Closures.{closure-complete}
@@ -26,7 +27,6 @@ use Rattle.words.proofs.Outgoing.{step-nil}
 use Rattle.words.proofs.Reading.{simulate-nothing}
 use Rattle.determinize.specs.Determinize.{targets, someOf, subsets, table}
 use Rattle.determinize.specs.Reached.{Reached, Good, MoreThan, AllReached}
-use Rattle.determinize.proofs.Tables.{same-decides}
 use Rattle.determinize.proofs.Targets.{targets-reached, targets-in}
 
 module _ (lo hi : ℕ) (A : Automaton) where

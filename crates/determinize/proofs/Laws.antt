@@ -12,7 +12,8 @@ use Rattle.search.specs.Search
 use Rattle.search.specs.Search.{Found, over, found}
 use Rattle.search.proofs.Queue
 use Rattle.search.proofs.Tables.{extends-length}
-use Rattle.sets.specs.Sets.{Set, same}
+use Rattle.lists.specs.Index.{same}
+use Rattle.sets.specs.Sets.{Set}
 use Rattle.words.specs.Simulation.{outgoing, step, startSet}
 use Rattle.ranges.specs.Cuts.{nextCut}
 use Rattle.determinize.specs.Determinize.{targets, someOf, subsets, table}

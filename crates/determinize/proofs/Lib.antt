@@ -12,10 +12,10 @@ pub mod Counts
 pub mod Laws
 pub mod Answers
 pub mod Theorems
-pub mod Left
 pub mod Notes
 pub mod Placing
 pub mod Visits
+pub mod Queued
 pub mod Sections
 pub mod Sheets
 pub mod Made

@@ -2,7 +2,7 @@
 use Prim.Native.Nat.{ℕ, suc, _+_, _-_, _≤_, _<_}
 use mathlib.Core.Bool.{true, false, cond}
 use mathlib.Core.List.{List, [], _∷_, _++_, map, append-nil, append-assoc, List·Memᴰ·head, List·Memᴰ·tail, List·Memᴰ·append-cases, List·Memᴰ·eq-of-singleton}
-use mathlib.Core.Logic.{_⊎_, inl, inr, ⊎-elim}
+use mathlib.Core.Logic.{inl, inr, ⊎-elim}
 use mathlib.Core.Path.{_≡_, refl, sym, _∙_, ap, ap₂}
 use native.Mathlib.Numerals.{add-one}
 use native.Mathlib.Omega.{arith}
@@ -15,32 +15,28 @@ use Rattle.lists.proofs.Lists.{map-ext, map-append}
 use Rattle.lists.proofs.Tests.{test}
 use Rattle.automata.specs.Automaton.{Automaton, InBounds}
 use Rattle.automata.specs.WellFormed.{mostStates}
-use Rattle.sets.specs.Sets.{Set, same, index}
-use Rattle.sets.proofs.Tables.{In, index-lt, same-self, at-index}
+use Rattle.lists.specs.Index.{index, same}
+use Rattle.lists.proofs.Index.{index-before, index-behind, index-lt, same-decides}
+use Rattle.sets.specs.Sets.{Set}
+use Rattle.sets.proofs.Tables.{In, at-index}
 use Rattle.words.specs.Simulation.{outgoing, step}
 use Rattle.ranges.specs.Cuts.{nextCut, cutAll}
 use Rattle.ranges.proofs.Cuts.{cut-step, cut-end}
 use Rattle.search.specs.Search.{found}
 use Rattle.ranges.proofs.Spans.{cut-stretch}
 use Rattle.words.proofs.Outgoing.{outgoing-nil, step-nil}
-use Rattle.search.proofs.Tables
 use Rattle.determinize.specs.Determinize.{table, states, transitionOf, transitionsOf, transitionsFrom}
 use Rattle.determinize.specs.Notes.{number, noteOf, notesOf, notesFrom, sinkNotes, settle}
 use Rattle.determinize.proofs.Finished.{table-few, table-closed}
-use Rattle.determinize.proofs.Tables.{index-same}
 use Rattle.determinize.proofs.Sink.{cut-nothing, sink-index}
 
 -- a set that a table has keeps its number while the table grows
-index-later : (R : Set) (T more : List Set) → R ∈ T → index R (T ++ more) ≡ index R T
-index-later R T more m =
-    sym (index-same R (T ++ more)) ∙ Tables.index-before same R T more (omega (arith, index-same R T, index-lt R m)) ∙ index-same R T
+index-later : (R : Set) (T more : List Set) → R ∈ T → index same R (T ++ more) ≡ index same R T
+index-later R T more m = index-before same R T more (index-lt same same-decides R m)
 
 -- a set behind a table that lacks it
-pub index-end : (R : Set) (T : List Set) → length T ≤ index R T → index R (T ++ R ∷ []) ≡ length T
-index-end R T h =
-    sym (index-same R (T ++ R ∷ []))
-    ∙ Tables.index-behind same R R T (omega (arith, index-same R T))
-    ∙ ap (λ b. cond b (length T) (suc (length T))) (same-self R)
+pub index-end : (R : Set) (T : List Set) → length T ≤ index same R T → index same R (T ++ R ∷ []) ≡ length T
+index-end R T h = index-behind same R R T h ∙ ap (λ b. cond b (length T) (suc (length T))) (same-decides .same-self R)
 
 pub number-later : (R : Set) (T more : List Set) → In T R → number R (T ++ more) ≡ number R T
 unfolding number
@@ -98,14 +94,14 @@ module _ (lo hi : ℕ) (A : Automaton) (T : List Set) where
 
 -- in a finished table the notes stand for the transitions
 module _ (lo hi : ℕ) (A : Automaton) (ok : InBounds A) (T : List Set) (e : table lo hi A ≡ found T) where
-  settled : (R : Set) → In T R → cond (eqb (number R T) mostStates) (length T) (number R T) ≡ index R T
+  settled : (R : Set) → In T R → cond (eqb (number R T) mostStates) (length T) (number R T) ≡ index same R T
   unfolding number
   settled [] m = sym (sink-index lo hi A ok T e)
   settled (q ∷ R) (inl z) = let y : _≡_ {A = ℕ} 0 1 = cc in absurd (omega arith)
   settled (q ∷ R) (inr m) =
-      let l = index-lt (q ∷ R) m in
+      let l = index-lt same same-decides (q ∷ R) m in
       let k = table-few lo hi A ok T e in
-      rw (ne-eqb (index (q ∷ R) T) mostStates (λ z. omega arith))
+      rw (ne-eqb (index same (q ∷ R) T) mostStates (λ z. omega arith))
 
   settle-of : (j : ℕ) (S : Set) → ((a : ℕ) → lo ≤ a → a ≤ hi → In T (step A S a)) → map (settle (length T)) (notesOf lo hi A T j S) ≡ transitionsOf lo hi A T j S
   unfolding notesOf noteOf transitionsOf transitionOf settle
@@ -130,4 +126,4 @@ module _ (lo hi : ℕ) (A : Automaton) (ok : InBounds A) (T : List Set) (e : tab
       settle-from 0 (T ++ [] ∷ [])
       (λ S m a l u.
       let i : In T S = ⊎-elim (λ k. inr k) (λ k. inl (List·Memᴰ·eq-of-singleton k)) (List·Memᴰ·append-cases T m) in
-      rw (at-index T S i) at (table-closed lo hi A ok T e (index S T) a l u))
+      rw (at-index T S i) at (table-closed lo hi A ok T e (index same S T) a l u))

@@ -14,7 +14,8 @@ use Rattle.lists.specs.Written.{Written}
 use Rattle.lists.proofs.Written.{written-none}
 use Rattle.automata.specs.Automaton.{Transition}
 use Rattle.automata.specs.Records.{writeRecords}
-use Rattle.sets.specs.Sets.{Set, isEmpty, index}
+use Rattle.lists.specs.Index.{index, same}
+use Rattle.sets.specs.Sets.{Set, isEmpty}
 use Rattle.sets.specs.BitSet.{setAt, entries}
 use Rattle.sets.specs.Words.{putAt}
 use Rattle.sets.proofs.Sets.{empty-yes, empty-no}
@@ -58,12 +59,12 @@ module _ (t set : List ℕ) (n : ℕ) (few : n < 256) where
       let z : setAt set 0 ≡ [] = empty-yes (setAt set 0) (sym e ∙ h) in
       record { added = sym (ap (λ R. add R (entries t n)) z ∙ add-empty (entries t n)); named = sym (ap (λ R. number R (entries t n)) z ∙ (unfold number in refl)); few = omega arith }
 
-  number-some : (R : Set) (T : List Set) → (R ≡ [] → ⊥) → index R T ≡ number R T
+  number-some : (R : Set) (T : List Set) → (R ≡ [] → ⊥) → index same R T ≡ number R T
   unfolding number
   number-some [] T h = absurd (h refl)
   number-some (q ∷ R) T h = refl
 
-  module _ (b : Bool) (e : b ≡ isEmpty (setAt set 0)) (h : b ≡ false) (j : ℕ) (i : j ≡ index (setAt set 0) (entries t n)) where
+  module _ (b : Bool) (e : b ≡ isEmpty (setAt set 0)) (h : b ≡ false) (j : ℕ) (i : j ≡ index same (setAt set 0) (entries t n)) where
     some : setAt set 0 ≡ [] → ⊥
     some = empty-no (setAt set 0) (sym e ∙ h)
 
@@ -80,10 +81,10 @@ module _ (t set : List ℕ) (n : ℕ) (few : n < 256) where
         let R = setAt set 0 in
         let T = entries t n in
         let a : entries u (n + 1) ≡ T ++ R ∷ [] = ap (λ x. entries x (n + 1)) f ∙ entries-put t n set (omega arith) in
-        let far : length T ≤ index R T = omega (arith, length-entries t n) in
+        let far : length T ≤ index same R T = omega (arith, length-entries t n) in
         record {
           added = a ∙ sym (add-new R T some far);
-          named = sym (sym (number-some R (entries u (n + 1)) some) ∙ ap (index R) a ∙ index-end R T far ∙ length-entries t n);
+          named = sym (sym (number-some R (entries u (n + 1)) some) ∙ ap (index same R) a ∙ index-end R T far ∙ length-entries t n);
           few = omega arith;
         }
 

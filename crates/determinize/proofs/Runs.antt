@@ -12,7 +12,9 @@ use Rattle.lists.specs.Lists.{_∈_, Distinct}
 use Rattle.lists.proofs.Lists.{keep-out}
 use Rattle.lists.proofs.Tests.{test, and-parts}
 use Rattle.automata.specs.Automaton.{Transition, Automaton, Run, stay, skip, read, Accepts, Word, none, more, InBounds, holds, carries}
-use Rattle.sets.specs.Sets.{Set, has, same, index}
+use Rattle.lists.specs.Index.{index, same}
+use Rattle.lists.proofs.Index.{index-le, index-place, same-decides}
+use Rattle.sets.specs.Sets.{Set, has}
 use Rattle.sets.proofs.Tables.{at-index}
 use Rattle.words.specs.Simulation.{closure, outgoing, step, simulate, startSet, kindOf, kind}
 use Rattle.words.proofs.Closures.{join, closure-sound, closure-complete}
@@ -21,11 +23,8 @@ use Rattle.words.proofs.Kind.{kindOf-some, kindOf-least}
 use Rattle.search.specs.Search.{found}
 use Rattle.lists.proofs.Members.{at-in}
 use Rattle.ranges.proofs.Spans.{cut-stretch, cut-alike}
-use Rattle.search.specs.Search
-use Rattle.search.proofs.Tables.{index-place}
 use Rattle.determinize.specs.Determinize.{table, states, transitionOf, built}
 use Rattle.determinize.proofs.Steps.{step-alike}
-use Rattle.determinize.proofs.Tables.{index-le, same-decides}
 use Rattle.determinize.proofs.Finished.{table-start, table-closed, table-all}
 use Rattle.determinize.proofs.Result.{states-at, length-states, origin, accept-built, one-built}
 
@@ -36,7 +35,7 @@ zero-both a (suc b) h f = absurd (let g = f (omega arith) in omega arith)
 -- distinct sets stand at different places
 distinct-at : (T : List Set) → Distinct T → (i j : ℕ) → i < length T → j < length T → getD T i [] ≡ getD T j [] → i ≡ j
 distinct-at T d i j a b e =
-    sym (index-place same same-decides [] d i a) ∙ ap (λ S. Search.index same S T) e ∙ index-place same same-decides [] d j b
+    sym (index-place same same-decides [] d i a) ∙ ap (λ S. index same S T) e ∙ index-place same same-decides [] d j b
 
 module _ (lo hi : ℕ) (A : Automaton) (ok : InBounds A) (T : List Set) (e : table lo hi A ≡ found T) where
   abbrev D : Automaton
@@ -63,8 +62,8 @@ module _ (lo hi : ℕ) (A : Automaton) (ok : InBounds A) (T : List Set) (e : tab
       let p : getD (states T) (r .place) [] ≡ S = states-at T (r .place) ∙ ap (λ k. getD T k []) (sym f) in
       let i = rw p at (r .in) in
       let v = cut-stretch lo hi (outgoing A S) s i in
-      let t : d .to ≡ index (step A S (s .low)) T = ap (λ x. x .to) (r .is) ∙ ap (λ R. index (step A R (s .low)) T) p in
-      let z = index-le (step A S (s .low)) T in
+      let t : d .to ≡ index same (step A S (s .low)) T = ap (λ x. x .to) (r .is) ∙ ap (λ R. index same (step A R (s .low)) T) p in
+      let z = index-le same (step A S (s .low)) T in
       let a : d .first ≡ s .low = ap (λ x. x .first) (r .is) in
       let b : d .last ≡ s .high = ap (λ x. x .last) (r .is) in
       record {

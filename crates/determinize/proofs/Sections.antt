@@ -24,8 +24,8 @@ use Rattle.sheets.specs.Sheet.{write}
 use Rattle.words.specs.Simulation.{kindOf}
 use Rattle.determinize.specs.Notes.{settle}
 use Rattle.determinize.specs.Sheets.{automatonOf}
-use Rattle.determinize.proofs.Left.{Left, left-all, left-more, left-none}
-use Rattle.determinize.proofs.Visits.{row-at, row-canon}
+use Rattle.lists.proofs.Left.{Left, left-start, left-done, left-next}
+use Rattle.determinize.proofs.Queued.{row-at, row-canon}
 
 -- the record that a note stands for
 module _ (l m note : List ℕ) (at sink r : ℕ) where
@@ -48,7 +48,7 @@ module _ (notes : List ℕ) (sink : ℕ) (l : List ℕ) (at : ℕ) where
     pub left : Left l at (writeRecords (map (settle sink) (readRecords notes))) m end (writeRecords (map (settle sink) (readRecords (drop i notes))))
 
   pub notes-begin : NotesLeft l at 0
-  notes-begin = record { left = left-all l _ at }
+  notes-begin = record { left = left-start l at _ }
 
   module _ (m : List ℕ) (end i : ℕ) (p : NotesLeft m end i) where
     pub notes-next : 5 ≤ length notes - i → (n : List ℕ) (k : ℕ) → Written m end (writeRecords (settle sink (recordAt (take (i + 5 - i) (drop i notes)) 0) ∷ [])) n k → NotesLeft n k (i + 5)
@@ -57,15 +57,14 @@ module _ (notes : List ℕ) (sink : ℕ) (l : List ℕ) (at : ℕ) where
         let e : writeRecords (map (settle sink) (readRecords (drop i notes))) ≡ writeRecords (settle sink (recordAt notes i) ∷ []) ++ writeRecords (map (settle sink) (readRecords (drop (i + 5) notes))) =
         ap (λ es. writeRecords (map (settle sink) es)) (records-at notes i h) in
         record {
-          left = left-more (writeRecords (settle sink (recordAt notes i) ∷ [])) (writeRecords (map (settle sink) (readRecords (drop (i + 5) notes)))) (rw e at (p .left)) n k
+          left = left-next _ _ _ _ _ _ (p .left) _ _ e n k
               (subst (λ x. Written m end (writeRecords (settle sink x ∷ [])) n k) (part-record notes i) w);
         }
 
     pub notes-ended : length notes - i < 5 → Written l at (writeRecords (map (settle sink) (readRecords notes))) m end
     unfolding writeRecords
     notes-ended h =
-        left-none
-        (subst (λ es. Left l at (writeRecords (map (settle sink) (readRecords notes))) m end (writeRecords (map (settle sink) es))) (records-end notes i h) (p .left))
+        left-done _ _ _ _ _ _ (p .left) (ap (λ es. writeRecords (map (settle sink) es)) (records-end notes i h))
 
 pub notes-part : (t : List ℕ) (i : ℕ) → 5 ≤ length t - i → length (take (i + 5 - i) (drop i t)) ≡ 5
 notes-part t i h = rw (add-sub-cancel-left, length-take-le 5 (drop i t) (rw (length-drop i t) h))

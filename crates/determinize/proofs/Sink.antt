@@ -13,8 +13,9 @@ use Rattle.lists.specs.Lists.{_∈_, any}
 use Rattle.lists.proofs.Lists.{keep-out}
 use Rattle.lists.proofs.Tests.{test}
 use Rattle.automata.specs.Automaton.{Automaton, Run, InBounds, holds, leaving}
-use Rattle.sets.specs.Sets.{Set, index}
-use Rattle.sets.proofs.Tables.{index-in, index-lt}
+use Rattle.lists.specs.Index.{index, same}
+use Rattle.lists.proofs.Index.{index-le, index-in, index-lt, same-decides}
+use Rattle.sets.specs.Sets.{Set}
 use Rattle.words.specs.Simulation.{outgoing, step, simulate, startSet, kindOf}
 use Rattle.words.proofs.Closures.{run-bound}
 use Rattle.ranges.specs.Span.{Span}
@@ -29,7 +30,6 @@ use Rattle.determinize.specs.Partition.{Part, partOf, partition}
 use Rattle.determinize.specs.Determinize.{table, transitionOf, transitionsOf, built}
 use Rattle.determinize.proofs.Parts.{part-out}
 use Rattle.determinize.proofs.Steps.{step-free, step-held}
-use Rattle.determinize.proofs.Tables.{index-le}
 use Rattle.determinize.proofs.Finished.{table-closed, table-all}
 use Rattle.determinize.proofs.Runs.{built-bounds, run-end}
 use Rattle.determinize.proofs.Result.{leaving-built, accept-built}
@@ -43,13 +43,13 @@ cut-nothing lo hi h =
 
 module _ (lo hi : ℕ) (A : Automaton) (ok : InBounds A) (T : List Set) (e : table lo hi A ≡ found T) where
   -- the empty set is not in the table
-  pub sink-index : index [] T ≡ length T
+  pub sink-index : index same [] T ≡ length T
   sink-index =
-      ⊎-elim (λ (q : index [] T ≡ length T). q) (λ (l : index [] T < length T). absurd (table-all lo hi A ok T e .good .nonempty [] (index-in [] T l) refl))
-      (eq-or-lt-of-le (index-le [] T))
+      ⊎-elim (λ (q : index same [] T ≡ length T). q) (λ (l : index same [] T < length T). absurd (table-all lo hi A ok T e .good .nonempty [] (index-in same same-decides [] T l) refl))
+      (eq-or-lt-of-le (index-le same [] T))
 
   -- a symbol leads to the sink exactly if no range of the set holds it
-  pub holes-sink : (j x : ℕ) → lo ≤ x → x ≤ hi → (index (step A (getD T j []) x) T ≡ length T) ↔ (any (holds x) (outgoing A (getD T j [])) ≡ false)
+  pub holes-sink : (j x : ℕ) → lo ≤ x → x ≤ hi → (index same (step A (getD T j []) x) T ≡ length T) ↔ (any (holds x) (outgoing A (getD T j [])) ≡ false)
   holes-sink j x l u =
       let S = getD T j [] in
       let R = step A S x in (
@@ -57,7 +57,7 @@ module _ (lo hi : ℕ) (A : Automaton) (ok : InBounds A) (T : List Set) (e : tab
             ⊎-elim
             (λ (t : any (holds x) (outgoing A S) ≡ true).
             absurd
-            (⊎-elim (λ (z : R ≡ []). step-held A ok S x t z) (λ (m : R ∈ T). let k = index-lt R m in omega arith)
+            (⊎-elim (λ (z : R ≡ []). step-held A ok S x t z) (λ (m : R ∈ T). let k = index-lt same same-decides R m in omega arith)
             (table-closed lo hi A ok T e j x l u)))
             (λ t. t)
             (test (any (holds x) (outgoing A S))),
@@ -89,9 +89,9 @@ module _ (lo hi : ℕ) (A : Automaton) (ok : InBounds A) (T : List Set) (e : tab
         let x = part-out (A .size) lo hi (outgoing A S) p (subst (λ R. p ∈ partition (A .size) lo hi (outgoing A R)) (sym here) m) in
         let s = x .span in
         let v = cut-stretch lo hi (outgoing A S) s (x .in) in
-        let k = index (step A S (s .low)) T in
+        let k = index same (step A S (s .low)) T in
         let l : k < length T =
-        ⊎-elim (λ (z : step A S (s .low) ≡ []). absurd (step-held A ok S (s .low) (x .held) z)) (λ i. index-lt (step A S (s .low)) i)
+        ⊎-elim (λ (z : step A S (s .low) ≡ []). absurd (step-held A ok S (s .low) (x .held) z)) (λ i. index-lt same same-decides (step A S (s .low)) i)
         (table-closed lo hi A ok T e j (s .low) (v .above) (omega (arith, v .full, v .below))) in (
           k,
           l,
@@ -114,7 +114,7 @@ module _ (lo hi : ℕ) (A : Automaton) (ok : InBounds A) (T : List Set) (e : tab
       leaving-built lo hi A T n (unfold built in omega arith)
       ∙ ap (transitionsOf lo hi A T n) (List·getD-eq-default T [] (omega arith))
       ∙ ap (map (transitionOf A T n [])) (ap (cutAll lo hi) (outgoing-nil A) ∙ cut-nothing lo hi h)
-      ∙ ap (λ k. record { from = n; kind = 1; first = lo; last = hi; to = k } ∷ []) (ap (λ R. index R T) (step-nil A lo) ∙ sink-index)
+      ∙ ap (λ k. record { from = n; kind = 1; first = lo; last = hi; to = k } ∷ []) (ap (λ R. index same R T) (step-nil A lo) ∙ sink-index)
 
   pub sink-rejects : getD (D .accept) (length T) 0 ≡ 0
   unfolding kindOf

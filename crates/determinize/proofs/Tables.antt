@@ -1,38 +1,20 @@
 -- Tables of sets grow at their end: adding a set, and meeting sets one after the other.
-use Prim.Native.Nat.{suc, _≤_, _<_}
-use mathlib.Core.Bool.{Bool, true, false, cond}
+use Prim.Native.Nat.{_≤_, _<_}
 use mathlib.Core.List.{List, [], _∷_, _++_, List·Memᴰ·head}
 use mathlib.Core.Logic.{_⊎_, inl, inr, ⊎-elim}
 use mathlib.Core.Path.{_≡_, refl, _∙_, ap}
-use native.Mathlib.Omega.{arith}
 use lib.ListN.{length}
 use Rattle.lists.specs.Lists.{_∈_, keep}
 use Rattle.lists.proofs.Lists.{keep-append, keep-out}
 use Rattle.search.specs.Search
-use Rattle.search.specs.Reached.{Decides}
 use Rattle.search.proofs.Tables
 use Rattle.search.proofs.Tables.{Extends}
-use Rattle.sets.specs.Sets.{Set, isEmpty, same, index}
-use Rattle.sets.proofs.Tables.{In, same-eq, same-self}
+use Rattle.lists.specs.Index.{index, same}
+use Rattle.lists.proofs.Index.{same-decides}
+use Rattle.sets.specs.Sets.{Set, isEmpty}
+use Rattle.sets.proofs.Tables.{In}
 use Rattle.determinize.specs.Determinize.{someOf}
 use Rattle.determinize.specs.Notes.{add, meet}
-
-pub same-decides : Decides same
-same-decides = record { same-eq = same-eq; same-self = same-self }
-
-pub index-same : (S : Set) (T : List Set) → Search.index same S T ≡ index S T
-unfolding Search.index index
-index-same S [] = refl
-index-same S (R ∷ T) = ap (λ i. cond (same S R) 0 (suc i)) (index-same S T)
-
-pub index-le : (S : Set) (T : List Set) → index S T ≤ length T
-unfolding index
-index-le S [] = omega arith
-index-le S (R ∷ T) = go (same S R) (index-le S T)
-  where
-    go : (b : Bool) → index S T ≤ length T → cond b 0 (suc (index S T)) ≤ suc (length T)
-    go true h = omega arith
-    go false h = omega arith
 
 -- meeting sets
 pub meet-nil : (T : List Set) → meet [] T ≡ T
@@ -62,11 +44,11 @@ unfolding add meet someOf keep isEmpty Search.meet
 add-some [] T n = absurd (n refl)
 add-some (q ∷ S) T n = refl
 
-pub add-known : (S : Set) (T : List Set) → (S ≡ [] → ⊥) → index S T < length T → add S T ≡ T
-add-known S T n h = add-some S T n ∙ Tables.add-known same S T (omega (arith, index-same S T))
+pub add-known : (S : Set) (T : List Set) → (S ≡ [] → ⊥) → index same S T < length T → add S T ≡ T
+add-known S T n h = add-some S T n ∙ Tables.add-known same S T h
 
-pub add-new : (S : Set) (T : List Set) → (S ≡ [] → ⊥) → length T ≤ index S T → add S T ≡ T ++ S ∷ []
-add-new S T n h = add-some S T n ∙ Tables.add-new same S T (omega (arith, index-same S T))
+pub add-new : (S : Set) (T : List Set) → (S ≡ [] → ⊥) → length T ≤ index same S T → add S T ≡ T ++ S ∷ []
+add-new S T n h = add-some S T n ∙ Tables.add-new same S T h
 
 pub add-extends : (S : Set) (T : List Set) → Extends T (add S T)
 unfolding add

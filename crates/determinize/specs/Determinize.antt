@@ -10,7 +10,8 @@ use Rattle.automata.specs.Automaton.{Transition, Automaton}
 use Rattle.automata.specs.WellFormed.{mostStates, mostTransitions}
 use Rattle.search.specs.Search
 use Rattle.search.specs.Search.{Graph, Found, over, found}
-use Rattle.sets.specs.Sets.{Set, isEmpty, same, index}
+use Rattle.lists.specs.Index.{index, same}
+use Rattle.sets.specs.Sets.{Set, isEmpty}
 use Rattle.words.specs.Simulation.{outgoing, step, startSet, kindOf}
 use Rattle.ranges.specs.Span.{Span}
 use Rattle.ranges.specs.Cuts.{cutAll}
@@ -40,7 +41,7 @@ states T = T ++ [] ∷ []
 
 -- state j, which is the set S, has a transition for each span between cuts. No range leaves the sink, so that it has one for all symbols.
 unfoldable pub transitionOf : Automaton → List Set → ℕ → Set → Span → Transition
-transitionOf A T j S s = record { from = j; kind = 1; first = s .low; last = s .high; to = index (step A S (s .low)) T }
+transitionOf A T j S s = record { from = j; kind = 1; first = s .low; last = s .high; to = index same (step A S (s .low)) T }
 
 unfoldable pub transitionsOf : ℕ → ℕ → Automaton → List Set → ℕ → Set → List Transition
 transitionsOf lo hi A T j S = map (transitionOf A T j S) (cutAll lo hi (outgoing A S))

@@ -13,7 +13,8 @@ use Rattle.automata.specs.Records.{writeRecords}
 use Rattle.automata.specs.WellFormed.{mostStates}
 use Rattle.search.specs.Search
 use Rattle.search.specs.Search.{over, found}
-use Rattle.sets.specs.Sets.{Set, Canon, same, index}
+use Rattle.lists.specs.Index.{index, same}
+use Rattle.sets.specs.Sets.{Set, Canon}
 use Rattle.sets.specs.BitSet.{entries}
 use Rattle.words.specs.Simulation.{outgoing, step}
 use Rattle.ranges.specs.Span.{Span}
@@ -32,7 +33,7 @@ add R T = meet (R ∷ []) T
 -- the number by which notes name a set: its place in the table, or 256 for the empty set
 unfoldable pub number : Set → List Set → ℕ
 number [] T = mostStates
-number (q ∷ S) T = index (q ∷ S) T
+number (q ∷ S) T = index same (q ∷ S) T
 
 -- the transition of a span of state j, which is the set S, as it is noted
 unfoldable pub noteOf : Automaton → List Set → ℕ → Set → Span → Transition

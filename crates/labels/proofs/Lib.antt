@@ -3,6 +3,7 @@ pub mod Labels
 pub mod Checking
 pub mod Places
 pub mod Same
+pub mod Finding
 pub mod Putting
 pub mod Listing
 pub mod Whole

@@ -10,7 +10,7 @@ use Rattle.lists.specs.Written.{Written}
 use Rattle.decimal.proofs.Decimal.{length-word}
 use Rattle.lists.proofs.Written.{written-none, written-append, written-length}
 use Rattle.labels.specs.Labels.{entry, writeEntries, countBytes, writeLabels, Label, AllLabels, none, more}
-use Rattle.labels.specs.Forms.{numberedLabel, pairLabel, sinkLabel}
+use Rattle.labels.specs.Forms.{numberedLabel, pairLabel}
 use Rattle.labels.proofs.Labels.{size-entries}
 
 -- labels behind others
@@ -58,9 +58,6 @@ labels-tabulate zero g h = none
 labels-tabulate (suc n) g h = more (h 0 (omega arith)) (labels-tabulate n (λ k. g (suc k)) (λ k l. h (suc k) (omega arith)))
 
 -- what operations make are labels
-pub label-sink : Label sinkLabel
-label-sink = record { some = omega arith; short = omega arith }
-
 pub label-numbered : (k : ℕ) → k < 2 ^ 32 → Label (numberedLabel k)
 label-numbered k h = record { some = omega arith; short = omega (arith, length-word k h) }
 

@@ -3,7 +3,7 @@ use Prim.Native.Nat.{ℕ, zero, suc, _+_, _-_, _≤_, _<_}
 use mathlib.Core.Bool.{Bool, true, false, false≢true}
 use mathlib.Core.List.{List, [], _∷_}
 use mathlib.Core.Path.{_≡_, refl, sym, _∙_, ap}
-use native.Mathlib.Nat.{add-zero, add-sub-cancel-left, le-antisymm}
+use native.Mathlib.Nat.{add-zero, add-sub-cancel-left}
 use native.Mathlib.Numerals.{add-one}
 use native.Mathlib.Omega.{arith}
 use lib.Dec.{ltb}
@@ -13,10 +13,7 @@ use borrow.Author.Needs.{needs}
 use borrow.Author.Tests.{ltb-true, ltb-false}
 use Rattle.lists.proofs.Parts.{drop-at}
 use Rattle.labels.specs.Labels.{labelCount, readEntries, readLabels, entriesOk, LabelList, labelPlace, labelsFault}
-use Rattle.labels.specs.Checked.{checkedNumber}
-use Rattle.labels.specs.declared.Checked.{Checked}
-use Rattle.labels.specs.declared.Checked.the-variants.{Accepted}
-use Rattle.labels.proofs.Labels.{first, sound, count-read, label-list}
+use Rattle.labels.proofs.Labels.{first, sound, count-read}
 
 -- what is known at a place where one label and then k more stand
 record Here (b : List ℕ) (p k : ℕ) : Type 0 where
@@ -88,60 +85,23 @@ pub place-next : (b : List ℕ) (i : ℕ) → labelPlace b (i + 1) ≡ labelPlac
 unfolding labelPlace
 place-next b i = rw (add-one i)
 
-none-left : (t : List ℕ) → entriesOk 0 t ≡ true → length t ≡ 0
-unfolding entriesOk
-none-left [] h = refl
-none-left (x ∷ t) h = absurd (false≢true h)
-
--- behind the last label the list ends
-pub place-end : (n : ℕ) (b : List ℕ) → labelsFault n b ≡ 0 → labelPlace b n ≡ length b
-place-end n b h =
-    let f = from b (label-list n b h) n 0 (omega (arith, count-read n b h)) in
-    omega (arith, f .within, none-left (drop (labelPlace b n) b) (f .ok), length-drop (labelPlace b n) b)
-
 -- the code that takes a label out of the list, whose length l was read
 pub part-label : (b : List ℕ) (at l : ℕ) → l ≡ getD b at 0 → take (at + 1 + l - (at + 1)) (drop (at + 1) b) ≡ take (getD b at 0) (drop (at + 1) b)
 part-label b at l e = rw (add-sub-cancel-left, e)
 
--- and the loop that seeks label i
-module _ (b : List ℕ) (i at j : ℕ) (e : at ≡ labelPlace b j) where
-  pub seek-inside : LabelList b → j < i → i < labelCount b → at < length b
-  seek-inside a h g = rw e (place-inside b j a (omega arith))
-
-  pub seek-next : (r : ℕ) → r ≡ at + 1 + getD b at 0 → r ≡ labelPlace b (j + 1)
-  seek-next r d = d ∙ rw e (sym (place-next b j))
-
-  pub seek-found : i ≤ j → j ≤ i → at ≡ labelPlace b i
-  seek-found h g = e ∙ rw (le-antisymm g h)
-
--- and what was found
+-- what stands at a place that was found
 pub found-whole : (b : List ℕ) (i at : ℕ) → at ≡ labelPlace b i → LabelList b → i < labelCount b → at + 1 + getD b at 0 ≤ length b
 found-whole b i at e a h = rw e (place-whole b i a h)
 
 pub found-label : (b l : List ℕ) (i at : ℕ) → at ≡ labelPlace b i → LabelList b → i < labelCount b → l ≡ take (getD b at 0) (drop (at + 1) b) → l ≡ getD (readLabels b) i []
 found-label b l i at e a h d = d ∙ rw e (place-label b i a h)
 
-pub ruleset placeLaws = (place-first, part-label, seek-inside, seek-next, seek-found, found-whole, found-label, needs)
+pub ruleset placeLaws = (part-label, needs)
 
--- for callers: what `label`, `label_at` and `copy_all` require, from the fault of b as the labels of n states or the check's answer r
+-- for callers: what is known of the count, from the fault of b as the labels of n states
 module _ (n : ℕ) (b : List ℕ) where
   pub within-count : (i : ℕ) → labelsFault n b ≡ 0 → i < n → i < labelCount b
   within-count i h g = rw (count-read n b h) g
 
   pub few-count : labelsFault n b ≡ 0 → n ≤ 256 → labelCount b ≤ 256
   few-count h g = rw (count-read n b h) g
-
-  module _ (r : Checked) (e : checkedNumber r ≡ labelsFault n b) (p : r ≡ Accepted) where
-    pub accepted-none : labelsFault n b ≡ 0
-    accepted-none = sym e ∙ ap checkedNumber p
-
-    pub accepted-list : LabelList b
-    accepted-list = label-list n b accepted-none
-
-    pub accepted-within : (i : ℕ) → i < n → i < labelCount b
-    accepted-within i g = within-count i accepted-none g
-
-    pub accepted-few : n ≤ 256 → labelCount b ≤ 256
-    accepted-few g = few-count accepted-none g
-
-pub ruleset acceptedLaws = (label-list, within-count, few-count, accepted-none, accepted-list, accepted-within, accepted-few, needs)

@@ -1,33 +1,16 @@
--- Laws of the test whether two labels are the same: it says that they are equal, and what its loop asks.
+-- The loop that tests whether two labels are the same.
 use Prim.Native.Nat.{ℕ, _+_, _≤_, _<_}
-use mathlib.Core.Bool.{Bool, true, false, _&&_, false≢true}
-use mathlib.Core.List.{List, [], _∷_}
+use mathlib.Core.Bool.{Bool, true, false, _&&_}
+use mathlib.Core.List.{List}
 use mathlib.Core.Path.{_≡_, refl, sym, _∙_, ap, ap₂}
 use native.Mathlib.Omega.{arith}
 use lib.Dec.{eqb}
 use lib.ListN.{length, getD, drop, drop-of-length-le}
 use borrow.Author.Needs.{needs}
-use borrow.Author.Tests.{eqb-true, eq-eqb, ne-eqb}
+use borrow.Author.Tests.{eq-eqb, ne-eqb}
 use Rattle.lists.proofs.Parts.{drop-at}
-use Rattle.lists.proofs.Tests.{and-parts}
+pub use Rattle.lists.proofs.Index.{same-equal, equal-same}
 use Rattle.labels.specs.Labels.{sameLabel}
-
--- labels that pass the test are equal
-pub same-equal : (a b : List ℕ) → sameLabel a b ≡ true → a ≡ b
-unfolding sameLabel
-same-equal [] [] h = refl
-same-equal [] (y ∷ b) h = absurd (false≢true h)
-same-equal (x ∷ a) [] h = absurd (false≢true h)
-same-equal (x ∷ a) (y ∷ b) h = let p = and-parts (eqb x y) (sameLabel a b) h in ap₂ _∷_ (eqb-true x y (p .0)) (same-equal a b (p .1))
-
--- and equal labels pass it
-same-self : (a : List ℕ) → sameLabel a a ≡ true
-unfolding sameLabel
-same-self [] = refl
-same-self (x ∷ a) = rw (eq-eqb x x refl) (same-self a)
-
-pub equal-same : (a b : List ℕ) → a ≡ b → sameLabel a b ≡ true
-equal-same a b e = ap (sameLabel a) (sym e) ∙ same-self a
 
 -- labels of different lengths
 pub same-lengths : (a b : List ℕ) → (length a ≡ length b → ⊥) → false ≡ sameLabel a b

@@ -5,6 +5,7 @@ use mathlib.Core.List.{List, [], _∷_, _++_}
 use mathlib.Core.Path.{_≡_}
 use lib.Dec.{leb, eqb}
 use lib.ListN.{length, getD, take, drop}
+unfoldable pub use Rattle.lists.specs.Index.{same as sameLabel}
 
 -- a label after its length
 abbrev pub entry : List ℕ → List ℕ
@@ -69,10 +70,3 @@ pub record Label (l : List ℕ) : Type 0 where
 pub data AllLabels : List (List ℕ) → Type 0 where
   none : AllLabels []
   more : {l : List ℕ} {ls : List (List ℕ)} → Label l → AllLabels ls → AllLabels (l ∷ ls)
-
--- two labels are the same, byte by byte
-unfoldable pub sameLabel : List ℕ → List ℕ → Bool
-sameLabel [] [] = true
-sameLabel [] (y ∷ m) = false
-sameLabel (x ∷ l) [] = false
-sameLabel (x ∷ l) (y ∷ m) = eqb x y && sameLabel l m

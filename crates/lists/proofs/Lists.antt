@@ -1,6 +1,6 @@
 -- Laws of `any`, `keep`, `tabulate` and `map`: what membership says.
 use Prim.Native.Nat.{ℕ, zero, suc, _+_, _≤_, _<_}
-use mathlib.Core.Bool.{Bool, true, false, cond, not, _&&_, _||_, false≢true}
+use mathlib.Core.Bool.{Bool, true, false, cond, not, _&&_, false≢true}
 use mathlib.Core.List.{List, [], _∷_, _++_, map, List·Memᴰ·head, List·Memᴰ·tail, nil≢cons}
 use mathlib.Core.Logic.{⊎-elim}
 use mathlib.Core.Path.{_≡_, refl, sym, _∙_, ap, ap₂}
@@ -25,15 +25,6 @@ pub any-ext : {A : Type 0} (f g : A → Bool) (l : List A) → ((x : A) → x �
 unfolding any
 any-ext f g [] h = refl
 any-ext f g (x ∷ l) h = rw (h x (List·Memᴰ·head refl), any-ext f g l (λ y m. h y (List·Memᴰ·tail m)))
-
-pub any-append : {A : Type 0} (f : A → Bool) (l m : List A) → any f (l ++ m) ≡ (any f l || any f m)
-unfolding any
-any-append f [] m = refl
-any-append f (x ∷ l) m = go (f x) (any-append f l m)
-  where
-    go : (b : Bool) → any f (l ++ m) ≡ (any f l || any f m) → (b || any f (l ++ m)) ≡ ((b || any f l) || any f m)
-    go true e = refl
-    go false e = e
 
 pub keep-in : {A : Type 0} (f : A → Bool) {x : A} {l : List A} → x ∈ l → f x ≡ true → x ∈ keep f l
 unfolding keep

@@ -1,3 +1,4 @@
 -- The definitions on lists that the other crates share.
 pub mod Lists
+pub mod Index
 pub mod Written

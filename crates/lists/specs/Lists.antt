@@ -1,6 +1,6 @@
 -- Membership, tests of all elements, and order in lists.
 use Prim.Native.Nat.{ℕ, zero, suc}
-use mathlib.Core.Bool.{Bool, false, cond, _||_}
+use mathlib.Core.Bool.{Bool, true, false, cond, _&&_, _||_}
 use mathlib.Core.List.{List, [], _∷_, List·Memᴰ}
 
 abbrev pub _∈_ : {A : Type 0} → A → List A → Type 0
@@ -11,6 +11,11 @@ infix 40 _∈_
 unfoldable pub any : {A : Type 0} → (A → Bool) → List A → Bool
 any f [] = false
 any f (x ∷ l) = f x || any f l
+
+-- every element passes the test
+unfoldable pub all : {A : Type 0} → (A → Bool) → List A → Bool
+all f [] = true
+all f (x ∷ l) = f x && all f l
 
 -- the elements that pass, in order
 unfoldable pub keep : {A : Type 0} → (A → Bool) → List A → List A

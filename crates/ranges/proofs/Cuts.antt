@@ -1,7 +1,7 @@
--- Spans between cuts: every symbol from lo to hi lies in exactly one, and no range tells two symbols of a span apart.
+-- Cuts, and the spans between them: up to the next cut no range tells symbols apart, and every symbol from lo to hi lies in exactly one span.
 use Prim.Native.Nat.{ℕ, zero, suc, _-_, _≤_, _<_}
 use mathlib.Core.Bool.{Bool, true, false, cond}
-use mathlib.Core.List.{List, [], _∷_, _++_, List·Memᴰ·head, List·Memᴰ·tail, List·Memᴰ·cases-cons}
+use mathlib.Core.List.{List, [], _∷_, _++_, List·Memᴰ·head, List·Memᴰ·tail}
 use mathlib.Core.Logic.{_⊎_, inl, inr, ⊎-elim}
 use mathlib.Core.Path.{_≡_, refl, sym, _∙_}
 use native.Mathlib.Omega.{arith}
@@ -121,41 +121,7 @@ next-alike a top es x l u e m =
     (⊎-elim (λ (h : suc (e .last) ≤ a). inr (omega arith)) (λ (h : nextCut a top es ≤ suc (e .last)). inl (omega arith)) (c .1)) in
     rw (f, g)
 
--- a span from a on, below top, that no range cuts
-pub record Uncut (top : ℕ) (es : List Transition) (a : ℕ) (s : Span) : Type 0 where
-  pub above : a ≤ s .low
-  pub below : s .high < top
-  pub alike : (x : ℕ) → s .low ≤ x → x ≤ s .high → (e : Transition) → e ∈ es → holds x e ≡ holds (s .low) e
-  pub full : s .low ≤ s .high
-
 module _ (top : ℕ) (es : List Transition) where
-  pub spans-uncut : (n a : ℕ) (s : Span) → s ∈ spans n a top es → Uncut top es a s
-  unfolding spans
-  spans-uncut zero a s m = elim m [ ]
-  spans-uncut (suc n) a s m = go (ltb a top) refl m (spans-uncut n b s)
-    where
-      b : ℕ
-      b = nextCut a top es
-
-      sp : Span
-      sp = record { low = a; high = b - 1 }
-
-      first : a < top → Uncut top es a sp
-      first h =
-          let l : a < b = next-gt a top es h in
-          let u : b ≤ top = next-le a top es in
-          record { above = omega arith; below = omega arith; alike = λ x y z. next-alike a top es x y (omega arith); full = omega arith }
-
-      later : a < top → Uncut top es b s → Uncut top es a s
-      later h r =
-          let l : a < b = next-gt a top es h in
-          record { above = omega (arith, r .above); below = r .below; alike = r .alike; full = r .full }
-
-      go : (t : Bool) → ltb a top ≡ t → s ∈ cond t (sp ∷ spans n b top es) [] → (s ∈ spans n b top es → Uncut top es b s) → Uncut top es a s
-      go true e m ih =
-          ⊎-elim (λ (q : s ≡ sp). rw q (first (ltb-true a top e))) (λ m. later (ltb-true a top e) (ih m)) (List·Memᴰ·cases-cons m)
-      go false e m ih = elim m [ ]
-
   none-below : (n a x : ℕ) → x < a → keep (inside x) (spans n a top es) ≡ []
   unfolding spans keep inside
   none-below zero a x h = refl
@@ -197,10 +163,6 @@ module _ (top : ℕ) (es : List Transition) where
       (test (ltb a top))
 
 module _ (hi : ℕ) (es : List Transition) where
-  pub cut-spans : (lo : ℕ) (s : Span) → s ∈ cutAll lo hi es → Uncut (suc hi) es lo s
-  unfolding cutAll
-  cut-spans lo s m = spans-uncut (suc hi) es (suc hi - lo) lo s m
-
   -- exactly one span holds x
   pub cut-one : (lo x : ℕ) → lo ≤ x → x ≤ hi → (s : Span) × (keep (inside x) (cutAll lo hi es) ≡ s ∷ [])
   unfolding cutAll

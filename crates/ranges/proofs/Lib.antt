@@ -1,6 +1,9 @@
 -- The laws of ranges, cuts and holes.
 pub mod Cuts
 pub mod Spans
+pub mod Separate
+pub mod Held
+pub mod Scanned
 pub mod Missing
 pub mod Overlap
 pub mod Sorting

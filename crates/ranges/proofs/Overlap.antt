@@ -16,7 +16,9 @@ use Rattle.automata.specs.Automaton.{Transition, holds}
 use Rattle.lists.proofs.Members.{ascending-first}
 use Rattle.ranges.specs.Span.{Span, Inside, InsideAny, intersectRanges, startsBelow, overlapping, Shared}
 use Rattle.ranges.specs.Missing.{missing, Holes, Sorted}
-use Rattle.ranges.proofs.Missing.{held, holds-ends, rest-sorted, any-none, missing-holes}
+use Rattle.lists.proofs.Every.{any-none}
+use Rattle.ranges.proofs.Missing.{missing-holes}
+use Rattle.ranges.proofs.Held.{held, holds-ends, rest-sorted}
 
 -- a symbol lies in both ranges exactly when it lies in what they share
 pub intersect-exact : (s t : Span) (x : ℕ) → (Inside x s × Inside x t) ↔ InsideAny x (intersectRanges s t)

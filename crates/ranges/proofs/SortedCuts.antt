@@ -15,7 +15,7 @@ use Rattle.automata.specs.Records.{recordAt}
 use Rattle.lists.proofs.Members.{ascending-first}
 use Rattle.ranges.specs.Cuts.{nearer, nextCut}
 use Rattle.ranges.specs.Missing.{Sorted}
-use Rattle.ranges.proofs.Missing.{rest-sorted}
+use Rattle.ranges.proofs.Held.{rest-sorted}
 use Rattle.ranges.proofs.Runs.{rangesIn, ranges-end, ranges-at, ranges-skip}
 
 module _ (a c b : ℕ) where

@@ -46,7 +46,7 @@ module _ (top : ℕ) (es : List Transition) where
       inr (r .begins) in
       record { above = omega (arith, r .above); begins = b; ends = r .ends; full = r .full; below = r .below }
 
-  stretches : (n a : ℕ) (s : Span) → s ∈ spans n a top es → Stretch a s
+  pub stretches : (n a : ℕ) (s : Span) → s ∈ spans n a top es → Stretch a s
   unfolding spans
   stretches zero a s m = elim m [ ]
   stretches (suc n) a s m = go (ltb a top) refl m (stretches n (nextCut a top es) s)
@@ -59,6 +59,10 @@ module _ (top : ℕ) (es : List Transition) where
           let h = ltb-true a top e in
           ⊎-elim (λ (q : s ≡ record { low = a; high = b - 1 }). rw q (stretch-first a h)) (λ m. stretch-later a s h (ih m)) (List·Memᴰ·cases-cons m)
       go false e m ih = elim m [ ]
+
+  -- the ranges don't tell two symbols of it apart
+  pub stretch-alike : (a : ℕ) (s : Span) → Stretch a s → (x : ℕ) → s .low ≤ x → x ≤ s .high → (e : Transition) → e ∈ es → holds x e ≡ holds (s .low) e
+  stretch-alike a s r x l u = next-alike (s .low) top es x l (omega (arith, r .ends))
 
   spans-ascend : (n a : ℕ) → Ascending Ahead (spans n a top es)
   unfolding spans
@@ -100,9 +104,8 @@ module _ (lo hi : ℕ) (es : List Transition) where
       (λ (q : c ≡ suc (e .last)). ⊎-elim (λ (h : suc (e .last) ≤ s .low). absurd (omega arith)) (λ (h : n ≤ suc (e .last)). omega arith) (z .1))
       k
 
-  -- the ranges don't tell two symbols of a span apart
   pub cut-alike : (s : Span) → s ∈ cutAll lo hi es → (x : ℕ) → s .low ≤ x → x ≤ s .high → (e : Transition) → e ∈ es → holds x e ≡ holds (s .low) e
-  cut-alike s m x l u = let r = cut-stretch s m in next-alike (s .low) (suc hi) es x l (omega (arith, r .ends))
+  cut-alike s m = stretch-alike (suc hi) es lo s (cut-stretch s m)
 
   -- the span that holds a symbol
   pub record Containing (a : ℕ) : Type 0 where

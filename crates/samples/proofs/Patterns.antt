@@ -12,7 +12,8 @@ use Rattle.ranges.specs.Cuts.{nearer, nextCut, spans, cutAll}
 use Rattle.ranges.specs.Missing.{covered}
 use Rattle.refusal.specs.Answer.{given}
 use Rattle.search.specs.Search
-use Rattle.sets.specs.Sets.{has, pickFrom, isEmpty, same, index}
+use Rattle.lists.specs.Index.{index, same}
+use Rattle.sets.specs.Sets.{has, pickFrom, isEmpty}
 use Rattle.sets.specs.Closure.{through, closed}
 use Rattle.sheets.specs.Fault.{isBad, recordFault, recordsFault, transitionsFault, statesFault, fault}
 use Rattle.sheets.specs.Sheet.{read}

@@ -1,7 +1,7 @@
--- Tables grow at their end: the place of an element, adding one, and meeting some one after the other.
-use Prim.Native.Nat.{ℕ, zero, suc, _≤_, _<_}
-use mathlib.Core.Bool.{Bool, true, false, cond, false≢true}
-use mathlib.Core.List.{List, [], _∷_, _++_, append-assoc, append-nil, List·Memᴰ·head, List·Memᴰ·tail, List·Memᴰ·cases-cons, List·Memᴰ·append-cases, List·Memᴰ·eq-of-singleton, Memᴰ·append-left, Memᴰ·append-right, Memᴰ·cast}
+-- Tables grow at their end: adding an element, and meeting some one after the other.
+use Prim.Native.Nat.{ℕ, _≤_, _<_}
+use mathlib.Core.Bool.{Bool, true, false, cond}
+use mathlib.Core.List.{List, [], _∷_, _++_, append-assoc, append-nil, List·Memᴰ·head, List·Memᴰ·tail, List·Memᴰ·cases-cons, List·Memᴰ·append-cases, List·Memᴰ·eq-of-singleton, Memᴰ·append-left, Memᴰ·append-right}
 use mathlib.Core.Logic.{_⊎_, inl, inr, ⊎-elim}
 use mathlib.Core.Path.{_≡_, refl, sym, _∙_, ap}
 use native.Mathlib.Omega.{arith}
@@ -9,11 +9,13 @@ use borrow.Author.Tests.{ltb-true, ltb-false, lt-ltb, le-ltb}
 use lib.Dec.{ltb}
 use lib.ListN.{getD, length, take, length-append, List·getD-append}
 use lib.Seq.{take-all, take-append-le, length-take-le}
-use Rattle.lists.specs.Lists.{_∈_, Distinct}
-use Rattle.lists.proofs.Members.{at-in, distinct-end}
+use Rattle.lists.specs.Lists.{_∈_}
+use Rattle.lists.specs.Index.{index, Decides}
+use Rattle.lists.proofs.Members.{distinct-end}
+pub use Rattle.lists.proofs.Index.{index-before, index-behind, same-no, index-in, index-lt, index-at, index-place}
 use Rattle.lists.proofs.Tests.{test}
-use Rattle.search.specs.Search.{Graph, index, add, meet}
-use Rattle.search.specs.Reached.{Reached, Good, Decides}
+use Rattle.search.specs.Search.{Graph, add, meet}
+use Rattle.search.specs.Reached.{Reached, Good}
 
 -- U is T with some entries behind it
 pub record Extends {X : Type 0} (T U : List X) : Type 0 where
@@ -93,79 +95,13 @@ module _ {X : Type 0} (same : X → X → Bool) where
       (λ (t : ltb k (length T) ≡ false). ap (λ U. take k (meet same xs U)) (take-all k T (ltb-false k (length T) t)))
       (test (ltb k (length T)))
 
-  -- the place of an element of a table with one more entry
-  pub index-before : (x : X) (T ys : List X) → index same x T < length T → index same x (T ++ ys) ≡ index same x T
-  unfolding index
-  index-before x [] ys h = absurd (omega arith)
-  index-before x (y ∷ T) ys h = go (same x y) h (index-before x T ys)
-    where
-      go : (b : Bool) → cond b 0 (suc (index same x T)) < suc (length T) → (index same x T < length T → index same x (T ++ ys) ≡ index same x T)
-          → cond b 0 (suc (index same x (T ++ ys))) ≡ cond b 0 (suc (index same x T))
-      go true h ih = refl
-      go false h ih = ap suc (ih (omega arith))
-
-  pub index-behind : (x y : X) (T : List X) → length T ≤ index same x T → index same x (T ++ y ∷ []) ≡ cond (same x y) (length T) (suc (length T))
-  unfolding index
-  index-behind x y [] h = refl
-  index-behind x y (z ∷ T) h = go (same x z) h (index-behind x y T)
-    where
-      lift : (b : Bool) → suc (cond b (length T) (suc (length T))) ≡ cond b (suc (length T)) (suc (suc (length T)))
-      lift true = refl
-      lift false = refl
-
-      go : (b : Bool) → suc (length T) ≤ cond b 0 (suc (index same x T)) → (length T ≤ index same x T → index same x (T ++ y ∷ []) ≡ cond (same x y) (length T) (suc (length T)))
-          → cond b 0 (suc (index same x (T ++ y ∷ []))) ≡ cond (same x y) (suc (length T)) (suc (suc (length T)))
-      go true h ih = absurd (omega arith)
-      go false h ih = ap suc (ih (omega arith)) ∙ lift (same x y)
-
 module _ {X : Type 0} (same : X → X → Bool) (ok : Decides same) where
-  same-yes : (x y : X) → x ≡ y → same x y ≡ true
-  same-yes x y e = ap (same x) (sym e) ∙ ok .same-self x
-
-  pub same-no : (x y : X) → (x ≡ y → ⊥) → same x y ≡ false
-  same-no x y h = ⊎-elim (λ (t : same x y ≡ true). absurd (h (ok .same-eq x y t))) (λ t. t) (test (same x y))
-
-  pub index-in : (x : X) (T : List X) → index same x T < length T → x ∈ T
-  unfolding index
-  index-in x [] h = absurd (omega arith)
-  index-in x (y ∷ T) h =
-      ⊎-elim (λ t. List·Memᴰ·head (ok .same-eq x y t)) (λ (t : same x y ≡ false). List·Memᴰ·tail (index-in x T (let k = rw t at h in omega (arith, k))))
-      (test (same x y))
-
-  pub index-lt : (x : X) {T : List X} → x ∈ T → index same x T < length T
-  unfolding index
-  index-lt x {T = y ∷ T} (List·Memᴰ·head e) = rw (same-yes x y e) (omega arith)
-  index-lt x {T = y ∷ T} (List·Memᴰ·tail m) = go (same x y) (index-lt x m)
-    where
-      go : (b : Bool) → index same x T < length T → cond b 0 (suc (index same x T)) < suc (length T)
-      go true h = omega arith
-      go false h = omega arith
-
-  -- at the place of a member stands that member
-  pub index-at : (d x : X) (T : List X) → x ∈ T → getD T (index same x T) d ≡ x
-  unfolding index
-  index-at d x [] m = elim m [ ]
-  index-at d x (y ∷ T) m =
-      ⊎-elim (λ (t : same x y ≡ true). rw t (sym (ok .same-eq x y t)))
-      (λ (t : same x y ≡ false).
-      rw t (⊎-elim (λ (e : x ≡ y). absurd (false≢true (sym t ∙ same-yes x y e))) (λ m. index-at d x T m) (List·Memᴰ·cases-cons m)))
-      (test (same x y))
-
-  -- the place of an entry, where none stands twice
-  pub index-place : (d : X) {T : List X} → Distinct T → (i : ℕ) → i < length T → index same (getD T i d) T ≡ i
-  unfolding index
-  index-place d Distinct.none i h = absurd (omega arith)
-  index-place d {T = y ∷ T} (Distinct.more f g) zero h = rw (ok .same-self y)
-  index-place d {T = y ∷ T} (Distinct.more f g) (suc i) h =
-      let l : i < length T = omega arith in
-      rw (same-no (getD T i d) y (λ q. f (Memᴰ·cast (sym q) (at-in T i d l)))) (ap suc (index-place d g i l))
-
   add-in : (x : X) (T : List X) → x ∈ add same x T
   unfolding add
   add-in x T = go (ltb (index same x T) (length T)) refl
     where
       go : (b : Bool) → ltb (index same x T) (length T) ≡ b → x ∈ cond b T (T ++ x ∷ [])
-      go true e = index-in x T (ltb-true _ _ e)
+      go true e = index-in same ok x T (ltb-true _ _ e)
       go false e = Memᴰ·append-right T (List·Memᴰ·head refl)
 
   pub meet-in : (xs T : List X) (x : X) → x ∈ xs → x ∈ meet same xs T

@@ -1,10 +1,9 @@
 -- What a start leads to, with no queue in it.
 use Prim.Native.Nat.{ℕ, _<_}
-use mathlib.Core.Bool.{Bool, true}
 use mathlib.Core.List.{List}
-use mathlib.Core.Path.{_≡_}
 use lib.ListN.{length}
 use Rattle.lists.specs.Lists.{_∈_, Distinct}
+pub use Rattle.lists.specs.Index.{Decides}
 use Rattle.search.specs.Search.{Graph}
 
 pub data Reached {X : Type 0} (G : Graph X) : X → Type 0 where
@@ -24,8 +23,3 @@ MoreThan {X} k G = (T : List X) × Good G T × (k < length T)
 pub record AllReached {X : Type 0} (G : Graph X) (T : List X) : Type 0 where
   pub good : Good G T
   pub whole : (x : X) → Reached G x → x ∈ T
-
--- the test is equality
-pub record Decides {X : Type 0} (same : X → X → Bool) : Type 0 where
-  pub same-eq : (x y : X) → same x y ≡ true → x ≡ y
-  pub same-self : (x : X) → same x x ≡ true

@@ -4,11 +4,7 @@ use mathlib.Core.Bool.{Bool, cond}
 use mathlib.Core.List.{List, [], _∷_, _++_}
 use lib.Dec.{ltb}
 use lib.ListN.{getD, length}
-
--- the place of x in the table T, or the length of T
-unfoldable pub index : {X : Type 0} → (X → X → Bool) → X → List X → ℕ
-index same x [] = 0
-index same x (y ∷ T) = cond (same x y) 0 (suc (index same x T))
+unfoldable pub use Rattle.lists.specs.Index.{index}
 
 -- an element that the table lacks goes to its end
 unfoldable pub add : {X : Type 0} → (X → X → Bool) → X → List X → List X

@@ -1,14 +1,14 @@
 -- From words to sets: four words hold the set of their bits, and equal words hold equal sets.
-use Prim.Native.Nat.{ℕ, zero, suc, _+_, _*_, _/_, _%_, _^_, _≤_, _<_}
+use Prim.Native.Nat.{ℕ, zero, suc, _+_, _*_, _/_, _%_, _^_, _<_}
 use mathlib.Core.Bool.{Bool, false}
 use mathlib.Core.List.{List, []}
 use mathlib.Core.Path.{_≡_, refl, sym, _∙_, ap}
 use native.Mathlib.Omega.{arith}
 use lib.ListN.{getD, length, replicate}
 use Rattle.lists.proofs.Lists.{tabulate-at, length-tabulate}
-use Rattle.sets.specs.Sets.{Set, has, pick, Canon}
+use Rattle.sets.specs.Sets.{has, pick, Canon}
 use Rattle.sets.specs.BitSet.{bit, inWords, setAt, entries}
-use Rattle.sets.proofs.Sets.{pick-ext, has-pick, pick-canon, pick-none, wide, has-past}
+use Rattle.sets.proofs.Sets.{pick-ext, has-pick, pick-canon, pick-none}
 use Rattle.sets.proofs.Bits.{word-ext, bit-nothing}
 
 -- the places of a set's words
@@ -32,10 +32,6 @@ at-canon t o = pick-canon 256 (inWords t o)
 pub bits-at : (t : List ℕ) (o : ℕ) (P : ℕ → Bool) → ((q : ℕ) → q < 256 → inWords t o q ≡ P q) → setAt t o ≡ pick 256 P
 unfolding setAt
 bits-at t o P h = pick-ext 0 256 _ _ (λ q l. h q (omega arith))
-
--- four words hold S when their bits are its members
-pub set-at : (t : List ℕ) (o n : ℕ) (S : Set) → n ≤ 256 → Canon n S → ((q : ℕ) → q < 256 → inWords t o q ≡ has q S) → setAt t o ≡ S
-set-at t o n S b c h = bits-at t o _ h ∙ wide 0 n 256 _ b (λ q l. has-past n S c q (omega arith)) ∙ c
 
 -- equal words hold equal sets
 pub sets-by-words : (t u : List ℕ) (o p : ℕ) → ((i : ℕ) → i < 4 → getD t (o + i) 0 ≡ getD u (p + i) 0) → setAt t o ≡ setAt u p

@@ -8,3 +8,4 @@ pub mod Stores
 pub mod Steps
 pub mod Scan
 pub mod Rounds
+pub mod Closing

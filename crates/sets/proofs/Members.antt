@@ -1,5 +1,5 @@
 -- The members of a set in ascending order, one after the other.
-use Prim.Native.Nat.{ℕ, zero, suc, _+_, _-_, _≤_, _<_}
+use Prim.Native.Nat.{ℕ, zero, suc, _+_, _≤_, _<_}
 use mathlib.Core.Bool.{Bool, true, false, cond, false≢true}
 use mathlib.Core.List.{[], _∷_, List·Memᴰ·head}
 use mathlib.Core.Logic.{_⊎_, inl, inr, ⊎-elim}
@@ -99,9 +99,6 @@ module _ (S : Set) (c : Canon 256 S) where
       subst (λ (R : Set). getD (keep (leb q) R) 0 256 ≤ x) c
       (least 0 256 (λ x. has x S) q x (omega arith) (let b = has-below 256 S c x h in omega arith) h l)
 
-  pub next-most : (q : ℕ) → nextMember S q ≤ 256
-  next-most q = ⊎-elim (λ r. let b = has-below 256 S c _ (r .0) in omega arith) (λ r. omega (arith, r .0)) (next-cases q)
-
   pub next-above : (q : ℕ) → q ≤ 256 → q ≤ nextMember S q
   next-above q l = ⊎-elim (λ r. r .1) (λ r. omega (arith, r .0)) (next-cases q)
 
@@ -129,6 +126,3 @@ module _ (S : Set) (c : Canon 256 S) where
 
   pub visit-next : (q x : ℕ) → q ≡ nextMember S q → q < 256 → x ≡ nextMember S (q + 1) → membersFrom q S ≡ q ∷ membersFrom x S
   visit-next q x e l n = from-here q (visit-has q e l) ∙ ap (λ L. q ∷ L) (next-from (q + 1) ∙ ap (λ y. membersFrom y S) (sym n))
-
-  pub visit-less : (q x : ℕ) → q < 256 → x ≡ nextMember S (q + 1) → 256 - x < 256 - q
-  visit-less q x l e = omega (arith, next-above (q + 1) (omega arith))

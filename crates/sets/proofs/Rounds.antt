@@ -1,28 +1,22 @@
--- Warshall's closure in place: the rounds on words, and what they do to the sets.
-use Prim.Native.Nat.{ℕ, zero, suc, _+_, _-_, _*_, _≤_, _<_}
+-- One round of Warshall's closure in place, on words, and what it does to the sets.
+use Prim.Native.Nat.{ℕ, zero, suc, _+_, _*_, _≤_, _<_}
 use mathlib.Core.Bool.{Bool, true, false, cond, _||_}
-use mathlib.Core.List.{List, [], map}
+use mathlib.Core.List.{List}
 use mathlib.Core.Logic.{⊎-elim, _≢_}
-use mathlib.Core.Path.{_≡_, refl, sym, _∙_, ap, ap₂, subst}
-use native.Mathlib.Nat.{eq-or-lt-of-le, le-trans}
+use mathlib.Core.Path.{_≡_, refl, sym, _∙_, ap, ap₂}
+use native.Mathlib.Nat.{eq-or-lt-of-le}
 use native.Mathlib.Numerals.{add-one}
 use native.Mathlib.Omega.{arith}
 use borrow.Author.Needs.{needs}
-use borrow.Author.Tests.{ltb-true, ltb-false, lt-ltb, le-ltb}
+use borrow.Author.Tests.{ltb-true, ltb-false}
 use lib.Dec.{ltb}
-use lib.ListN.{getD, length, take, drop}
-use lib.Seq.{getD-take, getD-drop}
-use Rattle.lists.specs.Lists.{tabulate}
-use Rattle.lists.proofs.Lists.{tabulate-ext, map-tabulate}
-use Rattle.lists.proofs.Tests.{test, true-same, or-cases, or-left, or-false}
-use Rattle.sets.specs.Sets.{Set, has, pick, Canon, nextMember}
-use Rattle.sets.specs.BitSet.{setAt, entries}
+use lib.ListN.{length}
+use Rattle.lists.proofs.Tests.{test}
+use Rattle.sets.specs.Sets.{Set, has, pick, Canon}
+use Rattle.sets.specs.BitSet.{setAt}
 use Rattle.sets.specs.Words.{unionAt, visitRow, visitRows}
-use Rattle.sets.specs.Closure.{through, closed}
-use Rattle.sets.specs.Rows.{RowsBelow, ClosedTo, leadsOn}
-use Rattle.sets.proofs.Sets.{pick-ext, pick-canon, has-below}
-use Rattle.sets.proofs.BitSet.{entry-at, at-canon, sets-by-words}
-use Rattle.sets.proofs.Members.{next-least}
+use Rattle.sets.specs.Closure.{through}
+use Rattle.sets.proofs.Sets.{pick-ext, pick-canon}
 use Rattle.sets.proofs.Stores.{length-union, unioned-below, union-other}
 
 -- what the loops need
@@ -60,39 +54,6 @@ visits-all t₀ t k p n e l u = e ∙ ap (visitRows t₀ k) (omega arith)
 
 pub ruleset roundLaws = (visit-done, visit-not, visits-none, visits-next, visits-all, length-visit, length-visits, needs)
 
--- a row whose least member isn't below k and that has none above k has none but k
-pub leads-nowhere : (k : ℕ) (S : Set) → Canon 256 S → leadsOn k S ≡ false → (q : ℕ) → has q S ≡ true → q ≡ k
-unfolding leadsOn
-leads-nowhere k S c e q h =
-    let f = or-false (ltb (nextMember S 0) k) _ e in
-    let a : k ≤ nextMember S 0 = ltb-false _ _ (f .0) in
-    let b : 256 ≤ nextMember S (k + 1) = ltb-false _ _ (f .1) in
-    let m = next-least S c 0 q h (omega arith) in
-    let o = has-below 256 S c q h in
-    ⊎-elim (λ (z : k ≡ q). sym z) (λ (z : k < q). let n = next-least S c (k + 1) q h (omega arith) in absurd (omega arith)) (eq-or-lt-of-le (le-trans a m))
-
--- a row as a part of the table
-part-row : (t : List ℕ) (o : ℕ) → setAt (take (o + 4 - o) (drop o t)) 0 ≡ setAt t o
-part-row t o =
-    sets-by-words (take (o + 4 - o) (drop o t)) t 0 o
-    (λ i l.
-    let n : o + 4 - o ≡ 4 = omega arith in
-    let z : 0 + i ≡ i = omega arith in
-    rw (n, z) (getD-take 4 (drop o t) i 0 l ∙ getD-drop o t i 0))
-
-module _ (t : List ℕ) (k : ℕ) (m : ℕ) (e : m ≡ nextMember (setAt (take (4 * k + 4 - 4 * k) (drop (4 * k) t)) 0) 0) where
-  pub leads-below : m < k → true ≡ leadsOn k (setAt t (4 * k))
-  unfolding leadsOn
-  leads-below h = sym (rw (lt-ltb _ _ (subst (λ x. x < k) (e ∙ ap (λ S. nextMember S 0) (part-row t (4 * k))) h)))
-
-  pub leads-above : k ≤ m → (x : ℕ) → x ≡ nextMember (setAt (take (4 * k + 4 - 4 * k) (drop (4 * k) t)) 0) (k + 1) → ltb x 256 ≡ leadsOn k (setAt t (4 * k))
-  unfolding leadsOn
-  leads-above h x f =
-      let n : k ≤ nextMember (setAt t (4 * k)) 0 = subst (λ x. k ≤ x) (e ∙ ap (λ S. nextMember S 0) (part-row t (4 * k))) h in
-      ap (λ y. ltb y 256) (f ∙ ap (λ S. nextMember S (k + 1)) (part-row t (4 * k))) ∙ sym (rw (le-ltb _ _ n))
-
-pub ruleset leadLaws = (leads-below, leads-above, needs)
-
 -- a row that takes in itself stays as it is
 pub through-self : (n k : ℕ) (K : Set) → Canon n K → through n k K K ≡ K
 unfolding through
@@ -114,7 +75,8 @@ through-canon n k K R c = go (has k R)
     go true = pick-canon n _
     go false = c
 
-abbrev row : List ℕ → ℕ → Set
+-- row j of the table
+abbrev pub row : List ℕ → ℕ → Set
 row t j = setAt t (4 * j)
 
 visit-other : (t : List ℕ) (k p j : ℕ) → j ≢ p → row (visitRow t k p) j ≡ row t j
@@ -136,7 +98,7 @@ module _ (n k : ℕ) (small : n ≤ 256) where
 
   -- the rows of n states after the first m of a round
   module _ (in-n : k < n) (t : List ℕ) (b : 4 * n ≤ length t) (ok : (j : ℕ) → j < n → Canon n (row t j)) where
-    visits-rows : (m : ℕ) → m ≤ n → ((j : ℕ) → j < m → row (visitRows t k m) j ≡ through n k (row t k) (row t j)) × ((j : ℕ) → m ≤ j → row (visitRows t k m) j ≡ row t j)
+    pub visits-rows : (m : ℕ) → m ≤ n → ((j : ℕ) → j < m → row (visitRows t k m) j ≡ through n k (row t k) (row t j)) × ((j : ℕ) → m ≤ j → row (visitRows t k m) j ≡ row t j)
     unfolding visitRows
     visits-rows zero h = (λ j l. absurd (omega arith), λ j l. refl)
     visits-rows (suc m) h =
@@ -156,51 +118,3 @@ module _ (n k : ℕ) (small : n ≤ 256) where
               (eq-or-lt-of-le l),
           λ j l. visit-other u k m j (omega arith) ∙ ih .1 j (omega arith),
         )
-
--- a row that leads to nothing but itself adds nothing to a row that has it
-through-alone : (n k : ℕ) (K R : Set) → Canon n R → ((q : ℕ) → has q K ≡ true → q ≡ k) → through n k K R ≡ R
-unfolding through
-through-alone n k K R c h =
-    ⊎-elim
-    (λ (t : has k R ≡ true).
-    rw t (pick-ext 0 n _ _ (λ q l. true-same (has q R || has q K) (has q R) (λ o. ⊎-elim (λ x. x) (λ x. ap (λ y. has y R) (h q x) ∙ t) (or-cases (has q R) (has q K) o)) (λ x. or-left _ _ x)) ∙ c))
-    (λ (t : has k R ≡ false). rw t)
-    (test (has k R))
-
-map-same : (f : Set → Set) (n : ℕ) (g : ℕ → Set) → ((j : ℕ) → j < n → f (g j) ≡ g j) → map f (tabulate n g) ≡ tabulate n g
-map-same f n g h = map-tabulate f n g ∙ tabulate-ext n _ _ h
-
-pub closed-none : (t : List ℕ) (n : ℕ) → RowsBelow t n → ClosedTo t t n 0
-unfolding closed
-closed-none t n s = record { rows = refl; below = s }
-
--- one round more
-module _ (n : ℕ) (small : n ≤ 256) (t₀ t : List ℕ) (k : ℕ) (s : ClosedTo t₀ t n k) (l : k < n) (long : 4 * n ≤ length t₀) (same : length t ≡ length t₀) where
-  at-k : getD (closed n k (entries t₀ n)) k [] ≡ row t k
-  at-k = ap (λ R. getD R k []) (sym (s .rows)) ∙ entry-at t n k l
-
-  pub closed-round : (u : List ℕ) → u ≡ visitRows t k n → ClosedTo t₀ u n (k + 1)
-  unfolding closed entries
-  closed-round u e =
-      let r = visits-rows n k small l t (omega arith) (s .below .row) n (omega arith) .0 in
-      let q : (j : ℕ) → j < n → row u j ≡ through n k (row t k) (row t j) = λ j h. ap (λ x. row x j) e ∙ r j h in
-      rw add-one
-      record {
-        rows = tabulate-ext n _ (λ j. through n k (row t k) (row t j)) q ∙ sym (map-tabulate (through n k (row t k)) n (row t)) ∙ ap₂ (λ K R. map (through n k K) R) (sym at-k) (s .rows);
-        below = record { row = λ j h. subst (Canon n) (sym (q j h)) (through-canon n k (row t k) (row t j) (s .below .row j h)) };
-      }
-
-  pub closed-skip : (b : Bool) → b ≡ leadsOn k (setAt t (4 * k)) → b ≡ false → ClosedTo t₀ t n (k + 1)
-  unfolding closed entries
-  closed-skip b e f =
-      let alone = leads-nowhere k (row t k) (at-canon t (4 * k)) (sym e ∙ f) in
-      rw add-one
-      record {
-        rows = s .rows ∙ sym (ap (λ K. map (through n k K) (closed n k (entries t₀ n))) at-k ∙ ap (map (through n k (row t k))) (sym (s .rows)) ∙ map-same _ n (row t) (λ j h. through-alone n k (row t k) (row t j) (s .below .row j h) alone) ∙ s .rows);
-        below = s .below;
-      }
-
-pub closed-all : (t₀ t : List ℕ) (n k : ℕ) → ClosedTo t₀ t n k → k ≤ n → n ≤ k → ClosedTo t₀ t n n
-closed-all t₀ t n k s l h = subst (ClosedTo t₀ t n) (omega arith) s
-
-pub ruleset closureLaws = (closed-none, closed-round, closed-skip, closed-all, needs)

@@ -16,11 +16,12 @@ use lib.ListN.{getD, set, length, drop, drop-of-length-le}
 use lib.Pow.{shl-exact}
 use lib.Seq.{drop-cons}
 use Rattle.lists.proofs.Tests.{test, true-same}
-use Rattle.sets.specs.Sets.{Set, has, isEmpty, same, index}
+use Rattle.lists.specs.Index.{index, same}
+use Rattle.lists.proofs.Index.{equal-same, unequal-same}
+use Rattle.sets.specs.Sets.{Set, has, isEmpty}
 use Rattle.sets.specs.BitSet.{bit, inWords, setAt, entries}
 use Rattle.sets.specs.Words.{insertAt}
 use Rattle.sets.proofs.Sets.{empty-yes}
-use Rattle.sets.proofs.Tables.{same-yes, same-no}
 use Rattle.sets.proofs.BitSet.{four, in-has, sets-by-words, words-by-sets, zeros-at, entry-at, length-entries}
 
 -- one bit is read, or stored
@@ -69,7 +70,7 @@ module _ (s : List ℕ) (small : Small s) where
 -- a row is the set s if all four words are equal
 module _ (t s : List ℕ) (o : ℕ) (bt : Small t) (bs : Small s) where
   differ : (i : ℕ) → i < 4 → (getD t (o + i) 0 ≡ getD s i 0 → ⊥) → false ≡ same (setAt s 0) (setAt t o)
-  differ i l h = sym (same-no _ _ (λ e. let z : 0 + i ≡ i = omega arith in h (rw z at (words-by-sets t s o 0 (below t bt) (below s bs) (sym e) i l))))
+  differ i l h = sym (unequal-same _ _ (λ e. let z : 0 + i ≡ i = omega arith in h (rw z at (words-by-sets t s o 0 (below t bt) (below s bs) (sym e) i l))))
 
   pub same-differ₀ : (getD t o 0 ≡ getD s 0 0 → ⊥) → false ≡ same (setAt s 0) (setAt t o)
   same-differ₀ h = differ 0 (omega arith) (λ e. let z : o + 0 ≡ o = omega arith in h (rw z at e))
@@ -87,7 +88,7 @@ module _ (t s : List ℕ) (o : ℕ) (bt : Small t) (bs : Small s) where
       first = let e : o + 0 ≡ o = omega arith in rw e x
 
       all : eqb (getD t (o + 3) 0) (getD s 3 0) ≡ true → same (setAt s 0) (setAt t o) ≡ true
-      all h = same-yes _ _ (sym (sets-by-words t s o 0 (four (λ i. getD t (o + i) 0 ≡ getD s (0 + i) 0) first y z (eqb-true _ _ h))))
+      all h = equal-same _ _ (sym (sets-by-words t s o 0 (four (λ i. getD t (o + i) 0 ≡ getD s (0 + i) 0) first y z (eqb-true _ _ h))))
 
       none : same (setAt s 0) (setAt t o) ≡ true → eqb (getD t (o + 3) 0) (getD s 3 0) ≡ true
       none h = ⊎-elim (λ e. e) (λ e. absurd (false≢true (differ 3 (omega arith) (eqb-false _ _ e) ∙ h))) (test (eqb (getD t (o + 3) 0) (getD s 3 0)))
@@ -95,22 +96,22 @@ module _ (t s : List ℕ) (o : ℕ) (bt : Small t) (bs : Small s) where
 pub ruleset wordLaws = (has-word, insert-word, empty-words, same-differ₀, same-differ₁, same-differ₂, same-last, needs)
 
 -- the entries from j on decide
-pub find-start : (T : List Set) (S : Set) → index S T ≡ 0 + index S (drop 0 T)
+pub find-start : (T : List Set) (S : Set) → index same S T ≡ 0 + index same S (drop 0 T)
 find-start T S = omega arith
 
-module _ (t s : List ℕ) (n j : ℕ) (e : index (setAt s 0) (entries t n) ≡ j + index (setAt s 0) (drop j (entries t n))) where
+module _ (t s : List ℕ) (n j : ℕ) (e : index same (setAt s 0) (entries t n) ≡ j + index same (setAt s 0) (drop j (entries t n))) where
   rest : j < n → drop j (entries t n) ≡ setAt t (4 * j) ∷ drop (j + 1) (entries t n)
   rest l = let m : j < length (entries t n) = rw length-entries l in rw (add-one, drop-cons (entries t n) j [], entry-at t n j l)
 
-  pub find-here : (b : Bool) → j < n → b ≡ same (setAt s 0) (setAt t (4 * j)) → b ≡ true → j ≡ index (setAt s 0) (entries t n)
+  pub find-here : (b : Bool) → j < n → b ≡ same (setAt s 0) (setAt t (4 * j)) → b ≡ true → j ≡ index same (setAt s 0) (entries t n)
   unfolding index
-  find-here b l d h = sym (e ∙ ap (λ T. j + index (setAt s 0) T) (rest l) ∙ rw (sym d ∙ h) (omega arith))
+  find-here b l d h = sym (e ∙ ap (λ T. j + index same (setAt s 0) T) (rest l) ∙ rw (sym d ∙ h) (omega arith))
 
-  pub find-next : (b : Bool) → j < n → b ≡ same (setAt s 0) (setAt t (4 * j)) → b ≡ false → index (setAt s 0) (entries t n) ≡ j + 1 + index (setAt s 0) (drop (j + 1) (entries t n))
+  pub find-next : (b : Bool) → j < n → b ≡ same (setAt s 0) (setAt t (4 * j)) → b ≡ false → index same (setAt s 0) (entries t n) ≡ j + 1 + index same (setAt s 0) (drop (j + 1) (entries t n))
   unfolding index
-  find-next b l d h = e ∙ ap (λ T. j + index (setAt s 0) T) (rest l) ∙ rw (sym d ∙ h) (omega arith)
+  find-next b l d h = e ∙ ap (λ T. j + index same (setAt s 0) T) (rest l) ∙ rw (sym d ∙ h) (omega arith)
 
-  pub find-end : j ≤ n → n ≤ j → n ≡ index (setAt s 0) (entries t n)
+  pub find-end : j ≤ n → n ≤ j → n ≡ index same (setAt s 0) (entries t n)
   unfolding index
   find-end l u = sym (e ∙ rw (drop-of-length-le (entries t n) {i = j} (rw length-entries u)) (omega arith))
 

@@ -10,15 +10,15 @@ use borrow.Author.Tests.{ltb-true, ltb-false, eq-eqb, eqb-true, eqb-false, ne-eq
 use lib.Bits.{bitOr}
 use lib.Dec.{eqb, ltb}
 use lib.ListN.{getD, set, length, length-set}
-use lib.Seq.{getD-set-same, getD-set-other, ext-getD}
+use lib.Seq.{getD-set-same, getD-set-other}
 use Rattle.lists.proofs.Lists.{tabulate-ext, tabulate-end}
 use Rattle.lists.proofs.Tests.{test, true-same}
-use Rattle.sets.specs.Sets.{Set, has, pick, Canon}
+use Rattle.sets.specs.Sets.{has, pick, Canon}
 use Rattle.sets.specs.BitSet.{bit, inWords, setAt, entries}
 use Rattle.sets.specs.Words.{putWords, insertAt, unionAt, putAt, clearAt}
 use Rattle.sets.proofs.Sets.{wide, has-past}
 use Rattle.sets.proofs.Bits.{bit-or, bit-pow}
-use Rattle.sets.proofs.BitSet.{four, in-has, bits-at, sets-by-words, zeros-at, entry-at, length-entries}
+use Rattle.sets.proofs.BitSet.{four, in-has, bits-at, sets-by-words, zeros-at}
 
 apart : (j p : ℕ) → j ≢ p → (4 * j + 4 ≤ 4 * p) ⊎ (4 * p + 4 ≤ 4 * j)
 apart j p h =
@@ -99,10 +99,6 @@ union-other t p u k j h = row-other t (4 * p) _ _ _ _ (4 * j) (apart j p h)
 
 -- a copy
 module _ (t : List ℕ) (o : ℕ) (u : List ℕ) (k : ℕ) where
-  pub length-put : length (putAt t o u k) ≡ length t
-  unfolding putAt
-  length-put = length-put-words t o _ _ _ _
-
   pub put-same : o + 4 ≤ length t → setAt (putAt t o u k) o ≡ setAt u k
   unfolding putAt
   put-same b =
@@ -119,10 +115,6 @@ put-other t p u k j h = row-other t (4 * p) _ _ _ _ (4 * j) (apart j p h)
 
 -- a set that becomes empty
 module _ (t : List ℕ) (o : ℕ) where
-  pub length-clear : length (clearAt t o) ≡ length t
-  unfolding clearAt
-  length-clear = length-put-words t o 0 0 0 0
-
   pub cleared : o + 4 ≤ length t → setAt (clearAt t o) o ≡ []
   unfolding clearAt
   cleared b =
@@ -163,10 +155,6 @@ module _ (t : List ℕ) (o q : ℕ) where
           ap (λ w. bit w (r % 64)) (getD-set-other t (o + q / 64) (o + r / 64) new 0 (λ e. n (omega arith))) ∙ in-has t o r m
           ∙ or-false (has r (setAt t o)) ∙ ap (λ b. has r (setAt t o) || b) (sym (ne-eqb r q (λ e. n (ap (λ x. x / 64) e))))
 
-  pub inserted-below : (n : ℕ) → n ≤ 256 → o + 4 ≤ length t → q < n → Canon n (setAt t o) → setAt (insertAt t o q) o ≡ pick n (λ r. has r (setAt t o) || eqb r q)
-  inserted-below n l b m c =
-      inserted b (omega arith) ∙ wide 0 n 256 _ l (λ r g. rw (has-past n _ c r (omega arith), ne-eqb r q (omega arith)))
-
 pub insert-other : (t : List ℕ) (p q j : ℕ) → q < 256 → j ≢ p → setAt (insertAt t (4 * p) q) (4 * j) ≡ setAt t (4 * j)
 unfolding insertAt
 insert-other t p q j l h =
@@ -174,27 +162,6 @@ insert-other t p q j l h =
     (λ i m.
     getD-set-other t (4 * p + q / 64) (4 * j + i) _ 0
     (λ e. ⊎-elim (λ (g : 4 * j + 4 ≤ 4 * p). omega arith) (λ (g : 4 * p + 4 ≤ 4 * j). omega arith) (apart j p h)))
-
--- the rows of a table after a store to one of them
-pub entries-other : (t u : List ℕ) (n p : ℕ) → ((j : ℕ) → j ≢ p → setAt u (4 * j) ≡ setAt t (4 * j)) → n ≤ p → entries u n ≡ entries t n
-unfolding entries
-entries-other t u n p h l = tabulate-ext n _ _ (λ j m. h j (omega arith))
-
-pub entries-set : (t u : List ℕ) (n p : ℕ) → ((j : ℕ) → j ≢ p → setAt u (4 * j) ≡ setAt t (4 * j)) → p < n → entries u n ≡ set (entries t n) p (setAt u (4 * p))
-entries-set t u n p h l =
-    ext-getD [] _ _ (length-entries u n ∙ sym (length-set (entries t n) p _ ∙ length-entries t n))
-    (λ j m. let k : j < n = rw length-entries at m in entry-at u n j k ∙ ⊎-elim (here j k) (there j k) (test (eqb j p)))
-  where
-    new : Set
-    new = setAt u (4 * p)
-
-    here : (j : ℕ) → j < n → eqb j p ≡ true → setAt u (4 * j) ≡ getD (set (entries t n) p new) j []
-    here j k e =
-        let c : j ≡ p = eqb-true j p e in
-        rw c (sym (getD-set-same (entries t n) p new [] (rw length-entries l)))
-
-    there : (j : ℕ) → j < n → eqb j p ≡ false → setAt u (4 * j) ≡ getD (set (entries t n) p new) j []
-    there j k e = let c : j ≢ p = eqb-false j p e in h j c ∙ sym (getD-set-other (entries t n) p j new [] c ∙ entry-at t n j k)
 
 -- a row put behind the others
 pub entries-put : (t : List ℕ) (n : ℕ) (s : List ℕ) → 4 * n + 4 ≤ length t → entries (putAt t (4 * n) s 0) (n + 1) ≡ entries t n ++ setAt s 0 ∷ []

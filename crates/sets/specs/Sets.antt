@@ -1,6 +1,6 @@
 -- Sets of states: ascending lists. A set is made only by `pick`, so sets with the same members are the same list.
 use Prim.Native.Nat.{ℕ, zero, suc}
-use mathlib.Core.Bool.{Bool, true, false, cond, _&&_, _||_}
+use mathlib.Core.Bool.{Bool, true, false, cond, _||_}
 use mathlib.Core.List.{List, [], _∷_}
 use mathlib.Core.Path.{_≡_}
 use lib.Dec.{eqb, leb}
@@ -29,17 +29,6 @@ Canon n S = pick n (λ q. has q S) ≡ S
 unfoldable pub isEmpty : Set → Bool
 isEmpty [] = true
 isEmpty (x ∷ S) = false
-
-unfoldable pub same : Set → Set → Bool
-same [] [] = true
-same [] (y ∷ T) = false
-same (x ∷ S) [] = false
-same (x ∷ S) (y ∷ T) = eqb x y && same S T
-
--- where a set stands in a table; the table's length where it doesn't
-unfoldable pub index : Set → List Set → ℕ
-index S [] = 0
-index S (R ∷ T) = cond (same S R) 0 (suc (index S T))
 
 -- the members from q on
 unfoldable pub membersFrom : ℕ → Set → Set

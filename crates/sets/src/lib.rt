@@ -4,7 +4,8 @@ ghost use mathlib.Core.Path.{_≡_};
 ghost use Prim.Native.Nat.{_+_, _*_, _≤_, _<_};
 ghost use lib.Count.{trailingZeros};
 ghost use lib.ListN.{length};
-ghost use Rattle.sets.specs.Sets.{has, isEmpty, same, nextMember};
+ghost use Rattle.lists.specs.Index.{same};
+ghost use Rattle.sets.specs.Sets.{has, isEmpty, nextMember};
 ghost use Rattle.sets.specs.BitSet.{setAt};
 ghost use Rattle.sets.specs.Words.{putWords, insertAt, unionAt, putAt, clearAt};
 

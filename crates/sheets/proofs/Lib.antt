@@ -2,4 +2,6 @@
 pub mod Checking
 pub mod Accepted
 pub mod Meaning
+pub mod Below
 pub mod Runs
+pub mod Words

@@ -1,19 +1,20 @@
-// The sheet: an automaton as a list of words. Checks a sheet and finds the records of a state, which are a run in its middle.
-// The check reads each word once; the table of runs is made once in one pass, and a run is then found without a search.
+// The sheet: an automaton as a list of words. The check reads each word once; `reading` reads accepted sheets.
 ghost use mathlib.Core.Path.{_≡_};
 ghost use mathlib.Core.List.{[]};
-ghost use Prim.Native.Nat.{_*_, _≤_, _<_};
+ghost use Prim.Native.Nat.{_*_, _<_};
 ghost use lib.ListN.{length};
-ghost use lib.Seq.{sets};
-ghost use Rattle.automata.specs.Automaton.{leaving};
 ghost use Rattle.automata.specs.Ordered.{less};
-ghost use Rattle.automata.specs.Records.{recordAt, readRecords, writeRecords};
+ghost use Rattle.automata.specs.Records.{recordAt, readRecords};
 ghost use Rattle.sheets.specs.Accepted.{Accepted};
-ghost use Rattle.sheets.specs.Runs.{below, startsOf, Rising, RunAt};
-ghost use Rattle.sheets.specs.Sheet.{stateCount, read};
 ghost use Rattle.sheets.specs.Fault.{fault, statesFault, transitionsFault, recordsFault, recordFault, isBad, acceptWords};
 ghost use Rattle.sheets.specs.Checked.{checkedNumber};
 use refusal::InputRefusal;
+
+mod reading;
+
+pub use reading::accept_word;
+pub use reading::run;
+pub use reading::run_starts;
 
 pub enum Checked {
     Accepted,
@@ -170,47 +171,4 @@ pub fn check(s: &[u32]) -> Checked
         return Checked::Refused(InputRefusal::Start);
     }
     check_states(s[1], &s[2..])
-}
-
-// The number of the first record of t, from the k-th on, that leaves no state below q.
-fn skip_below(t: &[u32], from: usize, q: u32) -> usize
-    requires { ⌜ Rising (readRecords (now t)) × (from ≤ below q (readRecords (now t))) × (5 * from ≤ length (now t)) ⌝ }
-    ensures { λ r. ⌜ r ≡ below q (readRecords (now (t .entry))) ⌝ }
-{
-    let mut k = from;
-    while 5 <= t.len() - 5 * k {
-        if q <= t[5 * k] {
-            return k;
-        }
-        k += 1;
-    }
-    k
-}
-
-// The number of the first record of each state, and of the end, at the front of starts.
-pub fn run_starts(s: &[u32], starts: &mut [u32])
-    requires { ⌜ Accepted (now s) × (stateCount (now s) < length (now starts)) ⌝ }
-    ensures { λ r. ⌜ now (starts .exit) ≡ sets (now (starts .entry)) 0 (startsOf (now (s .entry))) ⌝ }
-{
-    let n = s[2];
-    let base = n as usize + 4;
-    let mut q: u32 = 0;
-    let mut k: usize = 0;
-    while q <= n {
-        k = skip_below(&s[base..], k, q);
-        starts[q as usize] = k as u32;
-        q += 1;
-    }
-}
-
-// The records that leave q.
-pub fn run<'a>(s: &'a [u32], starts: &[u32], q: u32) -> &'a [u32]
-    requires { ⌜ RunAt (now s) (now starts) q ⌝ }
-    ensures { λ r. ⌜ now r ≡ writeRecords (leaving (read (now (s .entry))) q) ⌝ }
-{
-    let base = s[2] as usize + 4;
-    let p = q as usize;
-    let a = base + 5 * (starts[p] as usize);
-    let e = base + 5 * (starts[p + 1] as usize);
-    &s[a..e]
 }

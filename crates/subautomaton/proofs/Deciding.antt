@@ -9,12 +9,12 @@ use borrow.Author.Tests.{eq-eqb, ne-eqb, eqb-true}
 use lib.Dec.{eqb}
 use lib.ListN.{length, getD, take, drop}
 use lib.Seq.{sets}
-use Rattle.lists.specs.Lists.{_∈_, any, keep}
+use Rattle.lists.specs.Lists.{_∈_, any, keep, all}
 use Rattle.lists.proofs.Lists.{any-out, any-in, any-ext, keep-in, keep-out}
 use Rattle.lists.proofs.Members.{at-in}
 use Rattle.lists.proofs.Parts.{part-all}
 use Rattle.lists.proofs.Tests.{true-same, and-parts, and-both}
-use Rattle.automata.specs.Automaton.{Transition, leaving}
+use Rattle.automata.specs.Automaton.{Transition, leaving, states}
 use Rattle.automata.specs.Records.{readRecords}
 use Rattle.labels.specs.Labels.{sameLabel, readLabels}
 use Rattle.labels.proofs.Labels.{length-read}
@@ -22,10 +22,12 @@ use Rattle.sheets.specs.Runs.{startsOf}
 use Rattle.sheets.specs.Sheet.{stateCount, read}
 use Rattle.sheets.proofs.Meaning.{read-well}
 use Rattle.sheets.proofs.Runs.{starts-indexed}
-use Rattle.subautomaton.specs.Inclusion.{all, states, labelOf, isSame, hasState, covers, isCovered, isSubautomaton}
+use Rattle.subautomaton.specs.Inclusion.{labelOf, isSame, hasState, covers, isCovered, isSubautomaton}
 use Rattle.subautomaton.specs.Tables.{Numbered, isHeld, isHeldIn, fits, fitsFrom, fitsIn, Small, Ready, Inputs, Tabled}
 use Rattle.subautomaton.specs.Answer.{patternOf}
-use Rattle.subautomaton.proofs.Loops.{no-true, no-false, states-in, states-out, all-ext}
+use Rattle.lists.proofs.Every.{all-ext}
+use Rattle.lists.proofs.Tests.{no-true, no-false}
+use Rattle.automata.proofs.States.{states-in, states-out}
 use Rattle.subautomaton.proofs.Numbering.{same-number}
 
 module _ (a al b bl starts ca cb : List ℕ) (t : Tabled a al b bl starts ca cb) where

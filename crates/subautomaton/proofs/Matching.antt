@@ -11,7 +11,7 @@ use lib.ListN.{length, getD, take, drop}
 use lib.Seq.{getD-take, getD-drop}
 use Rattle.lists.specs.Lists.{_∈_, any}
 use Rattle.lists.proofs.Lists.{keep-out}
-use Rattle.automata.specs.Automaton.{Transition, leaving}
+use Rattle.automata.specs.Automaton.{Transition, leaving, states}
 use Rattle.automata.specs.Records.{recordAt, readRecords, writeRecords}
 use Rattle.automata.proofs.Records.{records-at, part-record, read-write}
 use Rattle.sheets.specs.Accepted.{Accepted}
@@ -19,7 +19,6 @@ use Rattle.sheets.specs.Runs.{RunAt}
 use Rattle.sheets.specs.Sheet.{stateCount, read}
 use Rattle.sheets.proofs.Meaning.{read-well}
 use Rattle.sheets.proofs.Runs.{run-at}
-use Rattle.subautomaton.specs.Inclusion.{states}
 use Rattle.subautomaton.specs.Tables.{isHeld, isHeldIn, fits, fitsFrom, fitsIn, Small, Ready}
 use Rattle.subautomaton.proofs.Loops.{some-begin, some-ended, some-found, some-next, each-begin, each-ended, each-failed, each-next, record-ended, record-found, record-next, records-ended, records-failed, records-next}
 

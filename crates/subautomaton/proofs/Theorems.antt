@@ -6,15 +6,16 @@ use mathlib.Core.Path.{_≡_, refl}
 use native.Mathlib.Omega.{arith}
 use borrow.Author.Tests.{eq-eqb, eqb-true, eqb-false, le-leb, leb-true, lt-ltb, ltb-true}
 use lib.Dec.{eqb, ltb, leb}
-use Rattle.lists.specs.Lists.{_∈_, any}
+use Rattle.lists.specs.Lists.{_∈_, any, all}
 use Rattle.lists.proofs.Lists.{any-out, any-in}
 use Rattle.lists.proofs.Tests.{and-parts, and-both, or-cases}
-use Rattle.automata.specs.Automaton.{Transition}
+use Rattle.automata.specs.Automaton.{Transition, states}
 use Rattle.labels.specs.Labels.{sameLabel}
-use Rattle.labels.proofs.Same.{same-equal, equal-same}
+use Rattle.lists.proofs.Index.{same-equal, equal-same}
 use Rattle.output.specs.Output.{Pattern}
-use Rattle.subautomaton.specs.Inclusion.{all, states, labelOf, acceptOf, isSame, hasState, covers, isCovered, isSubautomaton, Covers, Sub}
-use Rattle.subautomaton.proofs.Loops.{states-in, states-out, all-out, all-in}
+use Rattle.subautomaton.specs.Inclusion.{labelOf, acceptOf, isSame, hasState, covers, isCovered, isSubautomaton, Covers, Sub}
+use Rattle.lists.proofs.Every.{all-out, all-in}
+use Rattle.automata.proofs.States.{states-in, states-out}
 
 module _ (P Q : Pattern) where
   covers-out : (d e : Transition) → covers P Q d e ≡ true → Covers P Q d e

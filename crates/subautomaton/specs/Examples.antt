@@ -3,11 +3,11 @@ use Prim.Native.Nat.{ℕ}
 use mathlib.Core.Bool.{true, false}
 use mathlib.Core.List.{List, [], _∷_}
 use mathlib.Core.Path.{_≡_, refl}
-use Rattle.lists.specs.Lists.{any}
-use Rattle.automata.specs.Automaton.{Transition}
+use Rattle.lists.specs.Lists.{any, all, tabulate}
+use Rattle.automata.specs.Automaton.{Transition, states}
 use Rattle.labels.specs.Labels.{sameLabel}
 use Rattle.output.specs.Output.{Pattern}
-use Rattle.subautomaton.specs.Inclusion.{all, upFrom, states, isSame, hasState, covers, isCovered, isSubautomaton}
+use Rattle.subautomaton.specs.Inclusion.{isSame, hasState, covers, isCovered, isSubautomaton}
 
 -- a transition between states 0 and 1
 abbrev arrow : ℕ → ℕ → ℕ → ℕ → ℕ → Transition
@@ -26,5 +26,5 @@ examples :
     × (isSubautomaton (pattern 0 (arrow 0 0 0 0 1 ∷ [])) (pattern 0 (arrow 0 0 0 0 1 ∷ [])) ≡ true)
     × (isSubautomaton (pattern 1 []) (pattern 2 []) ≡ true)
     × (isSubautomaton (pattern 0 []) (pattern 1 []) ≡ false)
-unfolding isSubautomaton all states upFrom hasState any isSame sameLabel isCovered covers
+unfolding isSubautomaton all states tabulate hasState any isSame sameLabel isCovered covers
 examples = (refl, refl, refl, refl, refl, refl, refl)

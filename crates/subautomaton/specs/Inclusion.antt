@@ -1,29 +1,15 @@
 -- When an automaton is a subautomaton of another (document 01, "Labels"): its states, accepting ones and start are the other's, and each of its
 -- transitions is covered by one of the other between equal labels. States of equal label count as one.
-use Prim.Native.Nat.{ℕ, zero, suc, _≤_, _<_}
-use mathlib.Core.Bool.{Bool, true, _&&_, _||_}
-use mathlib.Core.List.{List, [], _∷_}
+use Prim.Native.Nat.{ℕ, _≤_, _<_}
+use mathlib.Core.Bool.{Bool, _&&_, _||_}
+use mathlib.Core.List.{List, []}
 use mathlib.Core.Path.{_≡_}
 use lib.Dec.{eqb, leb, ltb}
 use lib.ListN.{getD}
-use Rattle.lists.specs.Lists.{_∈_, any}
-use Rattle.automata.specs.Automaton.{Transition}
+use Rattle.lists.specs.Lists.{_∈_, any, all}
+use Rattle.automata.specs.Automaton.{Transition, states}
 use Rattle.labels.specs.Labels.{sameLabel}
 use Rattle.output.specs.Output.{Pattern}
-
--- every element passes the test
-unfoldable pub all : {A : Type 0} → (A → Bool) → List A → Bool
-all f [] = true
-all f (x ∷ l) = f x && all f l
-
--- k numbers from q on
-unfoldable pub upFrom : ℕ → ℕ → List ℕ
-upFrom q zero = []
-upFrom q (suc k) = q ∷ upFrom (suc q) k
-
--- the states of an automaton of size n
-unfoldable pub states : ℕ → List ℕ
-states n = upFrom 0 n
 
 abbrev pub labelOf : Pattern → ℕ → List ℕ
 labelOf P q = getD (P .labels) q []

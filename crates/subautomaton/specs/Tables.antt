@@ -6,13 +6,12 @@ use mathlib.Core.Path.{_≡_}
 use lib.Dec.{eqb, leb, ltb}
 use lib.ListN.{length, getD}
 use Rattle.lists.specs.Lists.{_∈_, any}
-use Rattle.automata.specs.Automaton.{Transition, Automaton, leaving}
+use Rattle.automata.specs.Automaton.{Transition, Automaton, states, leaving}
 use Rattle.labels.specs.Labels.{sameLabel, labelsFault, readLabels}
-use Rattle.search.specs.Search.{index}
+use Rattle.lists.specs.Index.{index}
 use Rattle.sheets.specs.Accepted.{Accepted}
 use Rattle.sheets.specs.Runs.{Indexed}
 use Rattle.sheets.specs.Sheet.{stateCount}
-use Rattle.subautomaton.specs.Inclusion.{states}
 
 -- c has the numbers of the first m labels of ks among the labels ls; a label that is none of them has the number of labels
 pub record Numbered (m : ℕ) (ks ls : List (List ℕ)) (c : List ℕ) : Type 0 where

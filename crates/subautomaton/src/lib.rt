@@ -3,34 +3,17 @@
 ghost use mathlib.Core.Path.{_≡_};
 ghost use Prim.Native.Nat.{_≤_, _<_};
 ghost use lib.ListN.{length};
-ghost use Rattle.lists.specs.Lists.{any};
+ghost use Rattle.lists.specs.Lists.{any, all};
+ghost use Rattle.automata.specs.Automaton.{states};
 ghost use Rattle.automata.specs.Records.{recordAt, readRecords};
-ghost use Rattle.labels.specs.Labels.{sameLabel, labelsFault, readLabels};
+ghost use Rattle.labels.specs.Labels.{labelsFault, readLabels};
 ghost use Rattle.refusal.specs.Decision.{decisionOf};
-ghost use Rattle.search.specs.Search.{index};
 ghost use Rattle.sheets.specs.Accepted.{Accepted};
 ghost use Rattle.sheets.specs.Sheet.{stateCount, read};
-ghost use Rattle.subautomaton.specs.Inclusion.{all, states, isSubautomaton};
+ghost use Rattle.subautomaton.specs.Inclusion.{isSubautomaton};
 ghost use Rattle.subautomaton.specs.Tables.{Numbered, isHeld, isHeldIn, fits, fitsFrom, fitsIn, Small, Ready, Inputs, Tabled};
 ghost use Rattle.subautomaton.specs.Answer.{patternOf, subautomatonAnswer};
 use refusal::Decision;
-
-// The number of the first of the n labels of b that is x, or n.
-fn find_label(b: &[u8], n: usize, x: &[u8]) -> usize
-    requires { ⌜ labelsFault n (now b) ≡ 0 ⌝ }
-    ensures { λ r. ⌜ (r ≡ index sameLabel (now (x .entry)) (readLabels (now (b .entry)))) × (r ≤ n) ⌝ }
-{
-    let mut at: usize = 2;
-    let mut k: usize = 0;
-    while k < n {
-        if labels::same_label(x, labels::label_from(b, at)) {
-            return k;
-        }
-        at = labels::next_label(b, at);
-        k += 1;
-    }
-    k
-}
 
 // The numbers of the m labels of x among the n labels of b.
 fn number_labels(x: &[u8], m: usize, b: &[u8], n: usize, out: &mut [u32])
@@ -40,7 +23,7 @@ fn number_labels(x: &[u8], m: usize, b: &[u8], n: usize, out: &mut [u32])
     let mut at: usize = 2;
     let mut i: usize = 0;
     while i < m {
-        out[i] = find_label(b, n, labels::label_from(x, at)) as u32;
+        out[i] = labels::find(b, n, labels::label_from(x, at)) as u32;
         at = labels::next_label(x, at);
         i += 1;
     }

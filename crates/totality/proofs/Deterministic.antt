@@ -13,21 +13,22 @@ use lib.Seq.{getD-drop}
 use Rattle.lists.specs.Lists.{_∈_, any, keep}
 use Rattle.lists.proofs.Tests.{test, or-false}
 use Rattle.lists.proofs.Lists.{any-out}
-use Rattle.automata.specs.Automaton.{Transition, Automaton, Accepts, Word, holds, carries, leaving, rangesOf}
+use Rattle.automata.specs.Automaton.{Transition, Automaton, Accepts, Word, holds, carries, leaving, rangesOf, states}
 use Rattle.automata.specs.Records.{readRecords}
 use Rattle.automata.specs.WellFormed.{WellFormed, lastSymbol}
 use Rattle.ranges.specs.Missing.{missing}
 use Rattle.ranges.specs.Span.{overlapping}
-use Rattle.ranges.proofs.Missing.{any-none}
+use Rattle.lists.proofs.Every.{any-none}
+use Rattle.automata.proofs.States.{states-in, states-out}
 use Rattle.ranges.proofs.Overlap.{one-each}
 use Rattle.ranges.proofs.Sorting.{leaving-sorted}
 use Rattle.sheets.specs.Accepted.{Accepted}
 use Rattle.sheets.specs.Sheet.{recordsAt, read}
 use Rattle.sheets.proofs.Meaning.{read-well}
 use Rattle.totality.specs.Deterministic.{Deterministic}
-use Rattle.totality.specs.Totality.{states, holesOf, hasEpsilon, isNfaAt, isNfaIn, isNfa, totalized, flipped, complemented}
+use Rattle.totality.specs.Totality.{holesOf, hasEpsilon, isNfaAt, isNfaIn, isNfa, totalized, flipped, complemented}
 use Rattle.totality.proofs.Rows.{leaves, leaving-in}
-use Rattle.totality.proofs.Totalized.{state-in, state-out, totalized-well}
+use Rattle.totality.proofs.Totalized.{totalized-well}
 use Rattle.totality.proofs.Words.{Complete, unranged, held-or-free, totalize-words, flipped-words, own-functional, total-complete, total-functional}
 
 -- the transitions of a state have no epsilon, no overlap and no hole
@@ -46,14 +47,14 @@ module _ (lo hi : ℕ) (A : Automaton) where
   unfolding isNfa isNfaIn isNfaAt
   nfa-settled = (
     λ h q l.
-        let a = or-false (hasEpsilon (leaving A q)) _ (any-none (λ q. isNfaAt lo hi (leaving A q)) (states (A .size)) h q (state-in (A .size) q l)) in
+        let a = or-false (hasEpsilon (leaving A q)) _ (any-none (λ q. isNfaAt lo hi (leaving A q)) (states (A .size)) h q (states-in (A .size) q l)) in
         let b = or-false (overlapping (rangesOf (leaving A q))) _ (a .1) in
         record { no-epsilon = a .0; no-overlap = b .0; no-hole = none-long _ (b .1) },
     λ f.
         ⊎-elim
         (λ (t : isNfa lo hi A ≡ true).
         let (q, m, k) = any-out (λ q. isNfaAt lo hi (leaving A q)) (states (A .size)) t in
-        let s = f q (state-out (A .size) q m) in
+        let s = f q (states-out (A .size) q m) in
         absurd (false≢true (sym (settled-not q s) ∙ k)))
         (λ t. t) (test (isNfa lo hi A)),
   )

@@ -1,11 +1,12 @@
 -- The laws of totality and complement.
-pub mod Left
 pub mod Merging
 pub mod Runs
 pub mod States
 pub mod Rows
 pub mod Writing
+pub mod Passing
 pub mod Answers
+pub mod Made
 pub mod Totalized
 pub mod Words
 pub mod Deterministic

@@ -22,7 +22,7 @@ use Rattle.automata.proofs.Records.{records-at, records-end, read-drop, read-ta
 use Rattle.ranges.specs.Span.{Span}
 use Rattle.totality.specs.Totality.{holeTo}
 use Rattle.totality.specs.Merging.{readSpans, leading, Mergeable, merged, Whole}
-use Rattle.totality.proofs.Left.{Left, left-start, left-done, left-room, left-next}
+use Rattle.lists.proofs.Left.{Left, left-start, left-done, left-room, left-next}
 
 -- the search for the records before a hole stands at k
 module _ (run : List ℕ) (i low k : ℕ) (e : i + 5 * leading low (readRecords (drop i run)) ≡ k + 5 * leading low (readRecords (drop k run))) where

@@ -15,7 +15,7 @@ use Rattle.lists.specs.Written.{Written}
 use Rattle.lists.proofs.Tests.{test}
 use Rattle.lists.proofs.Lists.{keep-in, keep-out, keep-all, keep-none, tabulate-end}
 use Rattle.lists.proofs.Members.{ascending-keep}
-use Rattle.automata.specs.Automaton.{Transition, Automaton, leaving, rangesOf}
+use Rattle.automata.specs.Automaton.{Transition, Automaton, leaving, rangesOf, states}
 use Rattle.automata.specs.Ordered.{inOrder}
 use Rattle.automata.specs.Records.{readRecords, writeRecords}
 use Rattle.automata.specs.WellFormed.{here, later, Before, WellFormed}
@@ -23,15 +23,17 @@ use Rattle.automata.proofs.Ordered.{inOrder-same}
 use Rattle.automata.proofs.Records.{read-write, length-write, write-append}
 use Rattle.ranges.specs.Missing.{Holes, Apart}
 use Rattle.ranges.specs.Span.{Span}
-use Rattle.ranges.proofs.Missing.{missing-holes, held}
+use Rattle.ranges.proofs.Missing.{missing-holes}
+use Rattle.ranges.proofs.Held.{held}
 use Rattle.ranges.proofs.Sorting.{leaving-sorted}
 use Rattle.sheets.specs.Sheet.{stateCount, read}
 use Rattle.sheets.proofs.Meaning.{read-well}
 use Rattle.totality.specs.Merging.{leading, Mergeable, Fillable, Ready}
-use Rattle.totality.specs.Totality.{states, holesOf, holeTo, filled, filledIn, totalized, holesIn}
-use Rattle.totality.proofs.Left.{Left, left-start, left-done, left-room, left-next}
+use Rattle.totality.specs.Totality.{holesOf, holeTo, filled, filledIn, totalized, holesIn}
+use Rattle.lists.proofs.Left.{Left, left-start, left-done, left-room, left-next}
 use Rattle.totality.proofs.Merging.{merge-hole, drop-records, less-holes}
-use Rattle.totality.proofs.States.{states-at, states-end, run-records, run-sorted, run-room, ready-run}
+use Rattle.automata.proofs.States.{states-at, states-end}
+use Rattle.totality.proofs.States.{run-records, run-sorted, run-room, ready-run}
 
 -- the transitions of one state
 module _ (A : Automaton) (w : WellFormed A) (q : ℕ) where

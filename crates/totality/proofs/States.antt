@@ -5,45 +5,35 @@ use mathlib.Core.List.{List, [], _∷_, flatMap, append-assoc}
 use mathlib.Core.Logic.{⊎-elim}
 use mathlib.Core.Path.{_≡_, refl, sym, _∙_, ap}
 use native.Mathlib.Nat.{suc-mul, mul-le-mul, suc-le-suc-iff}
-use native.Mathlib.Numerals.{add-one}
 use native.Mathlib.Omega.{arith}
 use mir.Syntax.{w64}
 use mir.Val.{Fits}
 use borrow.Author.Needs.{needs}
 use borrow.Author.Tests.{ltb-true, ltb-false}
 use lib.Dec.{ltb, eqb}
-use lib.ListN.{length, take, drop, drop-of-length-le, length-append}
-use lib.Seq.{drop-cons, take-at, length-take-le, sets, sets-eq, length-sets}
+use lib.ListN.{length, take, drop, length-append}
+use lib.Seq.{take-at, length-take-le, sets, sets-eq, length-sets}
 use Rattle.lists.specs.Written.{Written}
-use Rattle.lists.specs.Lists.{any, tabulate}
+use Rattle.lists.specs.Lists.{any}
 use Rattle.lists.proofs.Tests.{test}
-use Rattle.lists.proofs.Lists.{tabulate-at, length-tabulate, length-keep}
-use Rattle.automata.specs.Automaton.{Transition, Automaton, leaving, rangesOf}
+use Rattle.lists.proofs.Lists.{length-keep}
+use Rattle.automata.specs.Automaton.{Transition, Automaton, leaving, rangesOf, states}
 use Rattle.automata.specs.Records.{readRecords, writeRecords}
+use Rattle.automata.proofs.States.{length-states, states-at, states-end}
 use Rattle.automata.proofs.Records.{read-write, length-write}
 use Rattle.automata.specs.WellFormed.{WellFormed}
 use Rattle.ranges.specs.Span.{Span}
 use Rattle.ranges.specs.Missing.{Sorted, missing, gap, scan, spanWords}
-use Rattle.ranges.proofs.Missing.{gap-some, gap-none, missing-scan}
+use Rattle.ranges.proofs.Missing.{missing-scan}
+use Rattle.ranges.proofs.Scanned.{gap-some, gap-none}
 use Rattle.ranges.proofs.Writing.{words-length}
 use Rattle.ranges.proofs.Sorting.{leaving-sorted}
 use Rattle.sheets.specs.Runs.{RunAt}
 use Rattle.sheets.specs.Sheet.{stateCount, read}
 use Rattle.sheets.proofs.Meaning.{read-well, read-fits}
 use Rattle.sheets.proofs.Runs.{run-at}
-use Rattle.totality.specs.Totality.{states, holesOf, isNfaAt, isNfaIn, isNfa, filled, holesIn}
+use Rattle.totality.specs.Totality.{holesOf, isNfaAt, isNfaIn, isNfa, filled, holesIn}
 use Rattle.totality.specs.Merging.{readSpans, Mergeable, merged, Fillable, Ready}
-
--- the states from q on
-pub states-at : (n q : ℕ) → q < n → drop q (states n) ≡ q ∷ drop (q + 1) (states n)
-unfolding states
-states-at n q h =
-    drop-cons (tabulate n (λ q. q)) q 0 (rw (length-tabulate n (λ q. q)) h) ∙ ap (λ x. x ∷ drop (suc q) (tabulate n (λ q. q))) (tabulate-at n (λ q. q) q 0 h)
-    ∙ ap (λ k. q ∷ drop k (tabulate n (λ q. q))) (sym (add-one q))
-
-pub states-end : (n q : ℕ) → n ≤ q → drop q (states n) ≡ []
-unfolding states
-states-end n q h = drop-of-length-le (tabulate n (λ q. q)) {i = q} (rw (length-tabulate n (λ q. q)) h)
 
 -- the run of a state of a sheet
 module _ (s starts holes : List ℕ) (r : Ready s starts holes) where
@@ -122,10 +112,6 @@ holes-few lo hi A w (q ∷ qs) =
   where
     ranges-few : length (rangesOf (leaving A q)) ≤ length (A .transitions)
     ranges-few = unfold rangesOf leaving in omega (arith, length-keep (λ e. eqb (e .kind) 1) (leaving A q), length-keep (λ e. eqb (e .from) q) (A .transitions))
-
-length-states : (n : ℕ) → length (states n) ≡ n
-unfolding states
-length-states n = length-tabulate n (λ q. q)
 
 -- the holes of a sheet
 pub holes-bound : (lo hi : ℕ) (s starts holes : List ℕ) → Ready s starts holes → length (holesIn lo hi (read s) (states (stateCount s))) ≤ 256 * 2049

@@ -1,47 +1,23 @@
 -- The totalized automaton: where its transitions come from, and that it is well-formed.
 use Prim.Native.Nat.{ℕ, zero, suc, _≤_, _<_}
 use mathlib.Core.Bool.{Bool, true, false, cond}
-use mathlib.Core.List.{List, [], _∷_, _++_, map, flatMap, List·Memᴰ·head, List·Memᴰ·tail, List·Memᴰ·not-nil, List·Memᴰ·cases-cons, List·Memᴰ·append-cases, List·Memᴰ·eq-of-singleton, Memᴰ·append-left, Memᴰ·append-right, Memᴰ·map, Memᴰ·of-map}
+use mathlib.Core.List.{List, [], _∷_, _++_, map, flatMap, List·Memᴰ·head, List·Memᴰ·tail, List·Memᴰ·not-nil, List·Memᴰ·append-cases, List·Memᴰ·eq-of-singleton, Memᴰ·append-left, Memᴰ·append-right, Memᴰ·map, Memᴰ·of-map}
 use mathlib.Core.Logic.{⊎-elim}
-use mathlib.Core.Path.{_≡_, refl, sym, _∙_, subst}
+use mathlib.Core.Path.{_≡_, refl, sym, _∙_}
 use native.Mathlib.Omega.{arith}
 use borrow.Author.Tests.{ltb-true, ltb-false}
 use lib.Dec.{ltb, eqb}
 use lib.ListN.{length, getD, length-append, length-map, List·getD-append}
-use Rattle.lists.specs.Lists.{_∈_, tabulate, Ascending, none, more}
+use Rattle.lists.specs.Lists.{_∈_, Ascending, none, more}
 use Rattle.lists.proofs.Tests.{test}
-use Rattle.lists.proofs.Lists.{drop-mem}
-use Rattle.automata.specs.Automaton.{Transition, Automaton, leaving}
+use Rattle.automata.specs.Automaton.{Transition, Automaton, leaving, states}
 use Rattle.automata.specs.WellFormed.{here, Before, Sound, WellFormed}
 use Rattle.automata.proofs.Ordered.{inOrder-in, inOrder-out, inOrder-ascending}
 use Rattle.ranges.specs.Span.{Span}
-use Rattle.totality.specs.Totality.{states, holesOf, holeTo, filled, filledIn, loopOn, totalized, otherWord, flipped, complemented, isNfa}
+use Rattle.totality.specs.Totality.{holesOf, holeTo, filled, filledIn, loopOn, totalized, otherWord, flipped, complemented, isNfa}
 use Rattle.totality.proofs.Rows.{leaves, leaving-in, state-holes}
-use Rattle.totality.proofs.States.{states-at}
-
-flat-in : {X : Type 0} (f : ℕ → List X) {x : X} {q : ℕ} {qs : List ℕ} → q ∈ qs → x ∈ f q → x ∈ flatMap f qs
-unfolding flatMap
-flat-in f {x} {q} {qs = p ∷ qs} (List·Memᴰ·head e) m = Memᴰ·append-left (flatMap f qs) (subst (λ y. x ∈ f y) e m)
-flat-in f {qs = p ∷ qs} (List·Memᴰ·tail n) m = Memᴰ·append-right (f p) (flat-in f n m)
-
-flat-out : {X : Type 0} (f : ℕ → List X) (x : X) (qs : List ℕ) → x ∈ flatMap f qs → (q : ℕ) × q ∈ qs × x ∈ f q
-unfolding flatMap
-flat-out f x [] m = absurd (List·Memᴰ·not-nil m)
-flat-out f x (q ∷ qs) m =
-    ⊎-elim (λ k. (q, List·Memᴰ·head refl, k)) (λ k. let r = flat-out f x qs k in (r .0, List·Memᴰ·tail (r .1), r .2)) (List·Memᴰ·append-cases (f q) m)
-
-pub state-in : (n q : ℕ) → q < n → q ∈ states n
-state-in n q h = drop-mem q (states n) q _ (states-at n q h)
-
-tabulate-out : (n : ℕ) (g : ℕ → ℕ) (x : ℕ) → x ∈ tabulate n g → (k : ℕ) × (k < n) × (x ≡ g k)
-unfolding tabulate
-tabulate-out zero g x m = absurd (List·Memᴰ·not-nil m)
-tabulate-out (suc n) g x m =
-    ⊎-elim (λ e. (0, omega arith, e)) (λ k. let r = tabulate-out n (λ k. g (suc k)) x k in (suc (r .0), (let l = r .1 in omega arith), r .2)) (List·Memᴰ·cases-cons m)
-
-pub state-out : (n q : ℕ) → q ∈ states n → q < n
-unfolding states
-state-out n q m = let r = tabulate-out n (λ q. q) q m in rw (r .2) (r .1)
+use Rattle.lists.proofs.Every.{flat-in, flat-out}
+use Rattle.automata.proofs.States.{states-in, states-out, states-ascend}
 
 -- a transition of the totalized automaton is one that was there, a hole that is led to the sink, or the sink's loop
 pub data Origin (lo hi : ℕ) (A : Automaton) (e : Transition) : Type 0 where
@@ -57,7 +33,7 @@ module _ (lo hi : ℕ) (A : Automaton) (w : WellFormed A) where
       inside : e ∈ filledIn lo hi A (states (A .size)) → Origin lo hi A e
       inside k =
           let (q, i, j) = flat-out (λ q. filled lo hi (A .size) q (leaving A q)) e (states (A .size)) k in
-          ⊎-elim (λ l. kept (leaves A w q e l .0)) (λ l. let (h, n, c) = Memᴰ·of-map (holeTo (A .size) q) (holesOf lo hi (leaving A q)) l in hole q h (state-out (A .size) q i) n (sym c))
+          ⊎-elim (λ l. kept (leaves A w q e l .0)) (λ l. let (h, n, c) = Memᴰ·of-map (holeTo (A .size) q) (holesOf lo hi (leaving A q)) l in hole q h (states-out (A .size) q i) n (sym c))
           (List·Memᴰ·append-cases (leaving A q) (inOrder-out e (leaving A q ++ map (holeTo (A .size) q) (holesOf lo hi (leaving A q))) j))
 
   -- every transition is kept, every hole is there, and so is the loop
@@ -65,14 +41,14 @@ module _ (lo hi : ℕ) (A : Automaton) (w : WellFormed A) where
   unfolding totalized filledIn filled
   kept-in {e} m =
       Memᴰ·append-left _
-      (flat-in (λ q. filled lo hi (A .size) q (leaving A q)) (state-in (A .size) (e .from) (w .states .froms e m))
+      (flat-in (λ q. filled lo hi (A .size) q (leaving A q)) (states-in (A .size) (e .from) (w .states .froms e m))
       (inOrder-in (Memᴰ·append-left _ (leaving-in A w (e .from) e m refl))))
 
   pub hole-in : (q : ℕ) (h : Span) → q < A .size → h ∈ holesOf lo hi (leaving A q) → holeTo (A .size) q h ∈ totalized lo hi A .transitions
   unfolding totalized filledIn filled
   hole-in q h l m =
       Memᴰ·append-left _
-      (flat-in (λ q. filled lo hi (A .size) q (leaving A q)) (state-in (A .size) q l) (inOrder-in (Memᴰ·append-right (leaving A q) (Memᴰ·map (holeTo (A .size) q) m))))
+      (flat-in (λ q. filled lo hi (A .size) q (leaving A q)) (states-in (A .size) q l) (inOrder-in (Memᴰ·append-right (leaving A q) (Memᴰ·map (holeTo (A .size) q) m))))
 
   pub loop-in : loopOn lo hi (A .size) ∈ totalized lo hi A .transitions
   unfolding totalized
@@ -84,18 +60,12 @@ ascending-append {l = x ∷ l} (more f a) b h =
     more (λ y k. ⊎-elim (λ i. f y i) (λ i. h x y (List·Memᴰ·head refl) i) (List·Memᴰ·append-cases l k)) (ascending-append a b (λ y z i j. h y z (List·Memᴰ·tail i) j))
 
 -- transitions of ascending states, those of each in order
-states-ascend : (f : ℕ → List Transition) {qs : List ℕ} → Ascending _<_ qs → ((q : ℕ) → Ascending Before (f q)) → ((q : ℕ) (e : Transition) → e ∈ f q → e .from ≡ q) → Ascending Before (flatMap f qs)
+rows-ascend : (f : ℕ → List Transition) {qs : List ℕ} → Ascending _<_ qs → ((q : ℕ) → Ascending Before (f q)) → ((q : ℕ) (e : Transition) → e ∈ f q → e .from ≡ q) → Ascending Before (flatMap f qs)
 unfolding flatMap
-states-ascend f none a g = none
-states-ascend f {qs = q ∷ qs} (more l b) a g =
-    ascending-append (a q) (states-ascend f b a g)
+rows-ascend f none a g = none
+rows-ascend f {qs = q ∷ qs} (more l b) a g =
+    ascending-append (a q) (rows-ascend f b a g)
     (λ x y m n. let (p, i, j) = flat-out f y qs n in let k : x .from < y .from = rw (g q x m, g p y j) (l p i) in here k)
-
-tabulate-ascend : (n : ℕ) (g : ℕ → ℕ) → ((i j : ℕ) → i < j → g i < g j) → Ascending _<_ (tabulate n g)
-unfolding tabulate
-tabulate-ascend zero g h = none
-tabulate-ascend (suc n) g h =
-    more {x = g 0} (λ y m. let r = tabulate-out n (λ k. g (suc k)) y m in rw (r .2) (h 0 (suc (r .0)) (omega arith))) (tabulate-ascend n (λ k. g (suc k)) (λ i j l. h (suc i) (suc j) (omega arith)))
 
 -- the accept word of a state, and of the sink
 module _ (l : List ℕ) where
@@ -154,12 +124,12 @@ module _ (lo hi : ℕ) (A : Automaton) (w : WellFormed A) (c : lo ≤ hi) where
       rises : Ascending Before (filledIn lo hi A (states (A .size)) ++ loopOn lo hi (A .size) ∷ [])
       rises =
           ascending-append
-          (states-ascend fill (tabulate-ascend (A .size) (λ q. q) (λ i j h. h))
+          (rows-ascend fill (states-ascend (A .size))
           (λ q. inOrder-ascending (leaving A q ++ map (holeTo (A .size) q) (holesOf lo hi (leaving A q)))) fill-from)
           (more (λ y m. absurd (List·Memᴰ·not-nil m)) none)
           (λ x y m n.
           let (q, i, j) = flat-out fill x (states (A .size)) m in
-          let l : x .from < y .from = rw (fill-from q x j, List·Memᴰ·eq-of-singleton n) (state-out (A .size) q i) in
+          let l : x .from < y .from = rw (fill-from q x j, List·Memᴰ·eq-of-singleton n) (states-out (A .size) q i) in
           here l)
 
 -- flipping acceptance keeps all else

@@ -16,7 +16,8 @@ use Rattle.automata.specs.Automaton.{Transition, Automaton, Run, stay, skip, re
 use Rattle.automata.specs.WellFormed.{WellFormed}
 use Rattle.ranges.specs.Missing.{Within}
 use Rattle.ranges.specs.Span.{Span, overlapping, Shared}
-use Rattle.ranges.proofs.Missing.{held, holds-ends, any-none}
+use Rattle.lists.proofs.Every.{any-none}
+use Rattle.ranges.proofs.Held.{held, holds-ends}
 use Rattle.ranges.proofs.Overlap.{overlap-shared}
 use Rattle.ranges.proofs.Sorting.{leaving-sorted}
 use Rattle.totality.specs.Totality.{holesOf, holeTo, loopOn, totalized, otherWord, flipped}

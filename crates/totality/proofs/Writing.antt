@@ -11,7 +11,7 @@ use lib.Seq.{take-all}
 use Rattle.lists.specs.Written.{Written}
 use Rattle.lists.proofs.Parts.{take-more}
 use Rattle.lists.proofs.Written.{written-none, written-append, written-cons, written-more, written-length}
-use Rattle.automata.specs.Automaton.{Automaton}
+use Rattle.automata.specs.Automaton.{Automaton, states}
 use Rattle.automata.specs.Records.{writeRecords}
 use Rattle.automata.proofs.Records.{length-write, write-append}
 use Rattle.sheets.specs.Accepted.{Accepted}
@@ -19,7 +19,7 @@ use Rattle.sheets.specs.Sheet.{stateCount, read, write}
 use Rattle.sheets.proofs.Meaning.{read-well}
 use Rattle.totality.specs.Merging.{acceptWord, turned, headWords, frontWords, Small, Ready}
 use Rattle.totality.proofs.Rows.{length-all, length-totalized}
-use Rattle.totality.specs.Totality.{states, filledIn, loopOn, flipped, totalized, transitionCount}
+use Rattle.totality.specs.Totality.{filledIn, loopOn, flipped, totalized, transitionCount}
 
 -- the accept word that is written
 module _ (b : Bool) (x : ℕ) where

@@ -5,15 +5,11 @@ use mathlib.Core.Bool.{Bool, cond, _||_}
 use mathlib.Core.List.{List, [], _∷_, _++_, map, flatMap}
 use lib.Dec.{eqb, ltb}
 use lib.ListN.{length}
-use Rattle.lists.specs.Lists.{any, tabulate}
-use Rattle.automata.specs.Automaton.{Transition, Automaton, leaving, rangesOf}
+use Rattle.lists.specs.Lists.{any}
+use Rattle.automata.specs.Automaton.{Transition, Automaton, states, leaving, rangesOf}
 use Rattle.automata.specs.Ordered.{inOrder}
 use Rattle.ranges.specs.Span.{Span, overlapping}
 use Rattle.ranges.specs.Missing.{missing}
-
--- the states of an automaton of size n
-unfoldable pub states : ℕ → List ℕ
-states n = tabulate n (λ q. q)
 
 -- the holes that transitions leave
 unfoldable pub holesOf : ℕ → ℕ → List Transition → List Span

@@ -95,13 +95,6 @@ placed-point at x to (point y n) e = let p : y ≡ x = cc in (n, ap (λ y. point
 
 -- s is what `next` answers at the place at of t
 module _ (t : List ℕ) (at : ℕ) (s : Step) (told : s ≡ stepAt t at) where
-  pub end-past : s ≡ End → length t ≤ at
-  unfolding stepAt
-  end-past e =
-      let h = front-end (drop at t) (placed-end at _ (sym e ∙ told)) in
-      let k : length t - at ≡ 0 = sym (length-drop at t) ∙ ap length h in
-      omega arith
-
   pub end-decode : s ≡ End → decode (drop at t) ≡ points []
   unfolding stepAt
   end-decode e = decode-end (drop at t) (placed-end at _ (sym e ∙ told))
@@ -134,6 +127,3 @@ module _ (t : List ℕ) (at : ℕ) (s : Step) (told : s ≡ stepAt t at) where
     -- the measure of a loop over the text
     pub point-less : length t - to < length t - at
     point-less = omega (arith, point-later, point-within)
-
-    pub point-scalar : Scalar x
-    point-scalar = fact .proper

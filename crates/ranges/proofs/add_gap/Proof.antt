@@ -8,7 +8,7 @@ use borrow.Author.Needs.{needs}
 use lib.ListN.{length, set, length-set}
 use lib.Seq.{sets}
 use Rattle.ranges.specs.Missing.{gap, spanWords}
-use Rattle.ranges.proofs.Missing.{gap-some, gap-none}
+use Rattle.ranges.proofs.Scanned.{gap-some, gap-none}
 use Rattle.ranges.proofs.add_gap.Statement.{statement}
 use Rattle.ranges.proofs.add_gap.Tie as tie
 

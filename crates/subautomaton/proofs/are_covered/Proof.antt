@@ -2,9 +2,9 @@
 use Prim.Native.Nat.{_-_, _≤_}
 use mathlib.Core.Path.{_≡_}
 use lib.ListN.{length, drop}
+use Rattle.lists.specs.Lists.{all}
 use Rattle.automata.specs.Records.{readRecords}
 use Rattle.sheets.specs.Sheet.{read}
-use Rattle.subautomaton.specs.Inclusion.{all}
 use Rattle.subautomaton.specs.Tables.{fitsIn, Small}
 use Rattle.subautomaton.proofs.Matching.{recordsLaws}
 use Rattle.subautomaton.proofs.are_covered.Statement.{statement}

@@ -1,16 +1,17 @@
 -- `has_state` meets its contract: the states from `q` on are left.
 use Prim.Native.Nat.{_-_, _≤_}
 use mathlib.Core.Path.{_≡_}
+use lib.ListN.{drop}
+use Rattle.automata.specs.Automaton.{states}
 use Rattle.lists.specs.Lists.{any}
 use Rattle.sheets.specs.Sheet.{read}
-use Rattle.subautomaton.specs.Inclusion.{upFrom, states}
 use Rattle.subautomaton.specs.Tables.{isHeld}
 use Rattle.subautomaton.proofs.Matching.{hasLaws}
 use Rattle.subautomaton.proofs.has_state.Statement.{statement}
 use Rattle.subautomaton.proofs.has_state.Tie as tie
 
 abbrev Inv-loop : tie.InvT-loop
-Inv-loop b cb k accept n q₀ q = (q ≤ n) × (any (isHeld (read b) cb k accept) (states n) ≡ any (isHeld (read b) cb k accept) (upFrom q (n - q)))
+Inv-loop b cb k accept n q₀ q = (q ≤ n) × (any (isHeld (read b) cb k accept) (states n) ≡ any (isHeld (read b) cb k accept) (drop q (states n)))
 
 abbrev μ-loop : tie.MeasureT-loop
 μ-loop b cb k accept n q₀ q = n - q

@@ -1,5 +1,5 @@
 -- `check_inputs` meets its contract: the first refusal in this order, or none.
-use Rattle.totality.proofs.Answers.{checkLaws}
+use Rattle.totality.proofs.Passing.{checkLaws}
 use Rattle.totality.proofs.check_inputs.Statement.{statement}
 use Rattle.totality.proofs.check_inputs.Tie as tie
 

@@ -1,5 +1,5 @@
 -- `decide_nfa` meets its contract: the tables are those of the sheet.
-use Rattle.totality.proofs.Answers.{readyLaws}
+use Rattle.totality.proofs.Made.{readyLaws}
 use Rattle.totality.proofs.decide_nfa.Statement.{statement}
 use Rattle.totality.proofs.decide_nfa.Tie as tie
 

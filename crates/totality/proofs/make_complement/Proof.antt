@@ -1,5 +1,5 @@
 -- `make_complement` meets its contract: it totalizes only if `is_nfa`.
-use Rattle.totality.proofs.Answers.{complementLaws}
+use Rattle.totality.proofs.Made.{complementLaws}
 use Rattle.totality.proofs.make_complement.Statement.{statement}
 use Rattle.totality.proofs.make_complement.Tie as tie
 

@@ -1,5 +1,5 @@
 -- `make_flipped` meets its contract: the words behind the accept words are those of the sheet.
-use Rattle.totality.proofs.Answers.{flippedLaws}
+use Rattle.totality.proofs.Made.{flippedLaws}
 use Rattle.totality.proofs.make_flipped.Statement.{statement}
 use Rattle.totality.proofs.make_flipped.Tie as tie
 

@@ -1,5 +1,5 @@
 -- `make_total` meets its contract: 21, 22, or the totalized sheet and its labels.
-use Rattle.totality.proofs.Answers.{totalMadeLaws}
+use Rattle.totality.proofs.Made.{totalMadeLaws}
 use Rattle.totality.proofs.make_total.Statement.{statement}
 use Rattle.totality.proofs.make_total.Tie as tie
 

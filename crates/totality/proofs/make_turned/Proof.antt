@@ -1,5 +1,5 @@
 -- `make_turned` meets its contract: the tables are those of the sheet.
-use Rattle.totality.proofs.Answers.{readyLaws}
+use Rattle.totality.proofs.Made.{readyLaws}
 use Rattle.totality.proofs.make_turned.Statement.{statement}
 use Rattle.totality.proofs.make_turned.Tie as tie
 

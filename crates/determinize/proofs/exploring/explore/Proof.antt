@@ -6,7 +6,7 @@ use lib.ListN.{length}
 use Rattle.sets.specs.BitSet.{entries}
 use Rattle.sheets.specs.Sheet.{stateCount, read}
 use Rattle.determinize.specs.Notes.{Canonical}
-use Rattle.determinize.proofs.Visits.{Exploring, exploreLaws, explore-few, explore-bounded, explore-canonical, explore-next}
+use Rattle.determinize.proofs.Queued.{Exploring, exploreLaws, explore-few, explore-bounded, explore-canonical, explore-next}
 use Rattle.determinize.proofs.exploring.explore.Statement.{statement}
 use Rattle.determinize.proofs.exploring.explore.Tie as tie
 

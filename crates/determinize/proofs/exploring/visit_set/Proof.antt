@@ -1,6 +1,6 @@
 -- `visit_set` meets its contract: the copied row is the entry.
 use borrow.Author.Needs.{needs}
-use Rattle.determinize.proofs.Visits.{rowLaws, row-canon}
+use Rattle.determinize.proofs.Queued.{rowLaws, row-canon}
 use Rattle.determinize.proofs.exploring.visit_set.Statement.{statement}
 use Rattle.determinize.proofs.exploring.visit_set.Tie as tie
 

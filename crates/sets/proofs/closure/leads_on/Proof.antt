@@ -1,5 +1,5 @@
 -- `leads_on` meets its contract: its two tests are those of the definition.
-use Rattle.sets.proofs.Rounds.{leadLaws}
+use Rattle.sets.proofs.Closing.{leadLaws}
 use Rattle.sets.proofs.closure.leads_on.Statement.{statement}
 use Rattle.sets.proofs.closure.leads_on.Tie as tie
 

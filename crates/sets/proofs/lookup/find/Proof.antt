@@ -2,14 +2,14 @@
 use Prim.Native.Nat.{_+_, _-_, _≤_}
 use mathlib.Core.Path.{_≡_}
 use lib.ListN.{drop}
-use Rattle.sets.specs.Sets.{index}
+use Rattle.lists.specs.Index.{index, same}
 use Rattle.sets.specs.BitSet.{setAt, entries}
 use Rattle.sets.proofs.Steps.{findLaws, find-next}
 use Rattle.sets.proofs.lookup.find.Statement.{statement}
 use Rattle.sets.proofs.lookup.find.Tie as tie
 
 abbrev Inv-loop : tie.InvT-loop
-Inv-loop t n s j₀ j = (j ≤ n) × (index (setAt s 0) (entries t n) ≡ j + index (setAt s 0) (drop j (entries t n)))
+Inv-loop t n s j₀ j = (j ≤ n) × (index same (setAt s 0) (entries t n) ≡ j + index same (setAt s 0) (drop j (entries t n)))
 
 abbrev μ-loop : tie.MeasureT-loop
 μ-loop t n s j₀ j = n - j

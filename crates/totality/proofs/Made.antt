@@ -1,0 +1,154 @@
+-- The results that the code makes: too large ones, the totalized sheet, the flipped one, and the complement.
+use Prim.Native.Nat.{ℕ, suc, _+_, _-_, _≤_, _<_}
+use mathlib.Core.Bool.{Bool, true, false}
+use mathlib.Core.List.{List, [], _∷_, _++_}
+use mathlib.Core.Path.{_≡_, refl, sym, _∙_, ap}
+use native.Mathlib.Omega.{arith}
+use mir.Syntax.{w64}
+use mir.Val.{Fits}
+use borrow.Author.Needs.{needs}
+use lib.ListN.{length, take, drop, replicate, length-drop, length-replicate}
+use lib.Seq.{drop-at, sets}
+use Rattle.lists.specs.Written.{Written}
+use Rattle.lists.proofs.Parts.{part-all}
+use Rattle.lists.proofs.Written.{written-append, written-length}
+use Rattle.automata.specs.Automaton.{Automaton, states}
+use Rattle.automata.specs.Records.{writeRecords}
+use Rattle.automata.proofs.Records.{length-read}
+use Rattle.labels.specs.Labels.{labelsFault, labelCount, writeLabels}
+use Rattle.labels.specs.Forms.{sinkLabel}
+use Rattle.labels.proofs.Labels.{label-list}
+use Rattle.labels.proofs.Places.{few-count}
+use Rattle.output.specs.declared.Made.{Made}
+use Rattle.output.specs.declared.Made.the-variants.{Lengths, Refused}
+use Rattle.output.specs.Made.{outputOf}
+use Rattle.output.specs.Output.{outputs}
+use Rattle.output.proofs.Answers.{made-given}
+use Rattle.refusal.specs.declared.Refusal.the-variants.{State}
+use Rattle.refusal.specs.declared.StateRefusal.the-variants.{States, Transitions}
+use Rattle.refusal.specs.Answer.{given}
+use Rattle.sheets.specs.Runs.{startsOf}
+use Rattle.sheets.proofs.Runs.{starts-indexed}
+use Rattle.sheets.proofs.Accepted.{accepted}
+use Rattle.sheets.specs.Accepted.{Accepted}
+use Rattle.sheets.specs.Sheet.{stateCount, recordCount, recordsAt, read, write}
+use Rattle.sheets.proofs.Meaning.{read-well, read-fits, write-read-sheet}
+use Rattle.totality.specs.Answers.{limited, turnedPattern, flippedPattern, complementPattern}
+use Rattle.totality.specs.Merging.{turned, headWords, Small, Ready}
+use Rattle.totality.specs.Totality.{isNfa, flipped, totalized, complemented, holesIn, transitionCount}
+use Rattle.totality.proofs.Rows.{length-totalized}
+use Rattle.totality.proofs.States.{holes-bound}
+use Rattle.totality.proofs.Writing.{head-length}
+use Rattle.totality.proofs.Answers.{limited-states, limited-transitions, limited-given}
+
+-- flipping keeps states and transitions
+turned-size : (b : Bool) (A : Automaton) → turned b A .size ≡ A .size
+unfolding flipped
+turned-size true A = refl
+turned-size false A = refl
+
+turned-transitions : (b : Bool) (A : Automaton) → turned b A .transitions ≡ A .transitions
+unfolding flipped
+turned-transitions true A = refl
+turned-transitions false A = refl
+
+-- a table of holes that was written to is one still
+pub ready-again : (s starts h h′ : List ℕ) → Ready s starts h → length h′ ≡ length h → Ready s starts h′
+ready-again s starts h h′ r e = record { accepted = r .accepted; indexed = r .indexed; long = e ∙ r .long }
+
+-- the count of the totalized sheet's transitions
+module _ (lo hi : ℕ) (s starts holes : List ℕ) (r : Ready s starts holes) (k : ℕ) (e : k ≡ length (holesIn lo hi (read s) (states (stateCount s)))) where
+  count-is : recordCount s + k + 1 ≡ transitionCount lo hi (read s)
+  unfolding transitionCount
+  count-is = omega (arith, e, length-read (recordCount s) (drop (recordsAt s) s) (simp length-drop (omega (arith, r .accepted .whole))))
+
+  pub count-fits : Fits w64 (recordCount s + k)
+  count-fits = record { fits = omega (arith, e, holes-bound lo hi s starts holes r, r .accepted .few-records) }
+
+  pub total-fits : Fits w64 (recordCount s + k + 1)
+  total-fits = record { fits = omega (arith, e, holes-bound lo hi s starts holes r, r .accepted .few-records) }
+
+  pub total-small : (o : List ℕ) → stateCount s ≤ 255 → recordCount s + k + 1 ≤ 2048 → 10500 ≤ length o → Small lo hi s o (recordCount s + k + 1)
+  total-small o h m g = record { few-states = omega arith; few-transitions = m; counted = count-is; room = g }
+
+-- the totalized sheet
+module _ (b : Bool) (lo hi : ℕ) (s : List ℕ) (ls : List (List ℕ)) (o l : List ℕ) where
+  size-is : turnedPattern b lo hi (read s) ls .automaton .size ≡ stateCount s + 1
+  unfolding turnedPattern totalized
+  size-is = turned-size b (totalized lo hi (read s))
+
+  pub total-states : 255 < stateCount s → outputOf (Refused (State States)) o l ≡ outputs o l (limited (turnedPattern b lo hi (read s) ls))
+  unfolding outputs
+  total-states h = ap (outputs o l) (sym (limited-states (turnedPattern b lo hi (read s) ls) (rw size-is (omega arith))))
+
+  module _ (starts holes : List ℕ) (r : Ready s starts holes) (k : ℕ) (e : k ≡ length (holesIn lo hi (read s) (states (stateCount s)))) (h : stateCount s ≤ 255) where
+    transitions-are : length (turnedPattern b lo hi (read s) ls .automaton .transitions) ≡ recordCount s + k + 1
+    unfolding turnedPattern transitionCount
+    transitions-are =
+        ap length (turned-transitions b (totalized lo hi (read s))) ∙ length-totalized lo hi (read s) (read-well s (r .accepted)) ∙ sym (count-is lo hi s starts holes r k e)
+
+    pub total-transitions : 2048 < recordCount s + k + 1 → outputOf (Refused (State Transitions)) o l ≡ outputs o l (limited (turnedPattern b lo hi (read s) ls))
+    unfolding outputs
+    total-transitions g = ap (outputs o l) (sym (limited-transitions (turnedPattern b lo hi (read s) ls) (rw size-is (omega arith)) (rw transitions-are g)))
+
+    pub total-given : recordCount s + k + 1 ≤ 2048 → (o′ l′ : List ℕ) (w y : ℕ) → Written o 0 (write (turned b (totalized lo hi (read s)))) o′ w → Written l 0 (writeLabels (ls ++ sinkLabel ∷ [])) l′ y
+        → outputOf (Lengths w y) o′ l′ ≡ outputs o l (limited (turnedPattern b lo hi (read s) ls))
+    unfolding turnedPattern
+    total-given g o′ l′ w y p q =
+        made-given o l o′ l′ w y (turnedPattern b lo hi (read s) ls) p q
+        ∙ ap (outputs o l) (sym (limited-given (turnedPattern b lo hi (read s) ls) (rw size-is (omega arith)) (rw transitions-are g)))
+
+pub ruleset totalMadeLaws = (total-states, count-fits, total-fits, total-small, total-transitions, total-given, ready-again, needs)
+
+-- what stands behind the accept words of a sheet
+behind-accepts : (s : List ℕ) → Accepted s → drop (stateCount s + 3) s ≡ length (read s .transitions) ∷ writeRecords (read s .transitions)
+behind-accepts s a =
+    let three : stateCount s + 3 ≡ suc (suc (suc (stateCount s))) = omega arith in
+    ap (drop (stateCount s + 3)) (sym (write-read-sheet s a)) ∙ ap (λ k. drop k (write (read s))) three ∙ drop-at (read s .accept) _ (stateCount s) (read-well s a .accepts)
+
+-- the sheet with its acceptance flipped
+module _ (s : List ℕ) (a : Accepted s) (o o₁ : List ℕ) (e₁ : ℕ) (head : Written o 0 (headWords true s (stateCount s)) o₁ e₁) where
+  pub rest-room : 10500 ≤ length o → e₁ + length (take (length s - (stateCount s + 3)) (drop (stateCount s + 3) s)) ≤ length o₁
+  rest-room r =
+      rw (part-all (stateCount s + 3) s)
+      (omega (arith, head .behind, head-length s a true (stateCount s), written-length o o₁ _ 0 e₁ head, length-drop (stateCount s + 3) s, a .whole, a .few-states, a .few-records))
+
+  module _ (o₂ : List ℕ) (w : ℕ) (rest : Written o₁ e₁ (take (length s - (stateCount s + 3)) (drop (stateCount s + 3) s)) o₂ w) where
+    flipped-written : Written o 0 (write (flipped (read s))) o₂ w
+    unfolding flipped headWords
+    flipped-written = written-append o o₁ o₂ (headWords true s (stateCount s)) _ 0 e₁ w head (rw (part-all (stateCount s + 3) s, behind-accepts s a) at rest)
+
+    pub flipped-given : (l l′ : List ℕ) (ls : List (List ℕ)) (y : ℕ) → Written l 0 (writeLabels ls) l′ y → outputOf (Lengths w y) o₂ l′ ≡ outputs o l (given (flippedPattern (read s) ls))
+    unfolding flippedPattern
+    flipped-given l l′ ls y q = made-given o l o₂ l′ w y (flippedPattern (read s) ls) flipped-written q
+
+-- what `copy_all` requires
+pub labels-few : (s b : List ℕ) → Accepted s → labelsFault (stateCount s) b ≡ 0 → labelCount b ≤ 256
+labels-few s b a h = few-count (stateCount s) b h (a .few-states)
+
+pub ruleset flippedLaws = (rest-room, flipped-given, labels-few, label-list, needs)
+
+-- the tables of a sheet
+pub tables-ready : (s old starts holes : List ℕ) → Accepted s → starts ≡ sets old 0 (startsOf s) → length old ≡ 257 → length holes ≡ 4098 → Ready s starts holes
+tables-ready s old starts holes a e l m = record { accepted = a; indexed = starts-indexed s old starts e (omega (arith, a .few-states)); long = m }
+
+-- fresh ones
+pub fresh-ready : (s starts : List ℕ) → Accepted s → starts ≡ sets (replicate 257 0) 0 (startsOf s) → Ready s starts (replicate 4098 0)
+fresh-ready s starts a e = tables-ready s (replicate 257 0) starts (replicate 4098 0) a e (length-replicate {A = ℕ} 257 0) (length-replicate {A = ℕ} 4098 0)
+
+-- the results in the terms of the operations
+module _ (m : Made) (o l o′ l′ : List ℕ) (lo hi : ℕ) (s : List ℕ) (ls : List (List ℕ)) where
+  module _ (b : Bool) (f : b ≡ isNfa lo hi (read s)) where
+    pub complement-totalized : b ≡ true → outputOf m o′ l′ ≡ outputs o l (limited (turnedPattern true lo hi (read s) ls)) → outputOf m o′ l′ ≡ outputs o l (limited (complementPattern lo hi (read s) ls))
+    unfolding turnedPattern complementPattern complemented
+    complement-totalized h e = rw (← f, h) e
+
+    pub complement-flipped : b ≡ false → Accepted s → outputOf m o′ l′ ≡ outputs o l (given (flippedPattern (read s) ls)) → outputOf m o′ l′ ≡ outputs o l (limited (complementPattern lo hi (read s) ls))
+    unfolding flippedPattern complementPattern complemented flipped
+    complement-flipped h a e =
+        let r = read-fits s a in
+        rw (← f, h) (e ∙ ap (outputs o l) (sym (limited-given (flippedPattern (read s) ls) (r .few-states) (r .few-transitions))))
+
+pub ruleset readyLaws = (fresh-ready, needs)
+
+pub ruleset complementLaws = (complement-totalized, complement-flipped, needs)
