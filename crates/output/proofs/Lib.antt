@@ -6,3 +6,4 @@ pub mod Storing
 pub mod Heads
 pub mod Merging
 pub mod Halves
+pub mod Collecting

@@ -3,7 +3,6 @@ pub mod Joints
 pub mod Meeting
 pub mod Finding
 pub mod Blocking
-pub mod Gathering
 pub mod Adding
 pub mod Writing
 pub mod Making

@@ -10,5 +10,4 @@ add-joint-spec =
     (λ c. search jointLaws) (λ c. search jointLaws) (λ c. search jointLaws) (λ c. search jointLaws) (λ c. search jointLaws)
     (λ c. search jointLaws) (λ c. search jointLaws) (λ c. search jointLaws) (λ c κs. search jointLaws)
     (λ c. search jointLaws) (λ c. search jointLaws) (λ c. search jointLaws) (λ c κs. search jointLaws)
-    (λ c κs. search jointLaws) (λ c κs. search jointLaws) (λ c. search jointLaws) (λ c. search jointLaws)
-    (λ c. search jointLaws) (λ c. search jointLaws))
+    (λ c κs. search jointLaws) (λ c. search jointLaws) (λ c. search jointLaws) (λ c. search jointLaws) (λ c. search jointLaws))

@@ -3,7 +3,7 @@ use Prim.Native.Nat.{_-_, _≤_}
 use native.Mathlib.Omega.{arith}
 use lib.ListN.{drop}
 use Rattle.sheets.specs.Sheet.{read}
-use Rattle.product.specs.Gathering.{Rest}
+use Rattle.output.specs.Gathering.{Rest}
 use Rattle.product.specs.Product.{transitionsFrom}
 use Rattle.product.specs.Tables.{tableOf, numberAt}
 use Rattle.product.proofs.Adding.{pairsLaws, pairs-over, pairs-next}

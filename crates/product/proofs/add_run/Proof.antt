@@ -4,7 +4,7 @@ use mathlib.Core.List.{[], _∷_, _++_}
 use lib.ListN.{length, drop}
 use Rattle.automata.specs.Records.{recordAt, readRecords}
 use Rattle.output.specs.Ordered.{recordsIn}
-use Rattle.product.specs.Gathering.{Rest}
+use Rattle.output.specs.Gathering.{Rest}
 use Rattle.product.specs.Tables.{links, Narrow}
 use Rattle.product.proofs.Adding.{runLaws, run-over, run-next}
 use Rattle.product.proofs.add_run.Statement.{statement}

@@ -4,7 +4,7 @@ use mathlib.Core.List.{_++_}
 use lib.ListN.{length, drop}
 use Rattle.automata.specs.Records.{readRecords}
 use Rattle.output.specs.Ordered.{recordsIn}
-use Rattle.product.specs.Gathering.{Rest}
+use Rattle.output.specs.Gathering.{Rest}
 use Rattle.product.specs.Tables.{links, Narrow}
 use Rattle.product.proofs.Adding.{runsLaws, runs-over, runs-next}
 use Rattle.product.proofs.add_runs.Statement.{statement}
