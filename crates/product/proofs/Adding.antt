@@ -20,7 +20,8 @@ use Rattle.sheets.specs.Sheet.{read}
 use Rattle.product.specs.Product.{Pair, jointOf, jointsOf, jointsFrom, transitionOf, transitionsFrom}
 use Rattle.product.specs.Tables.{pairOf, tableOf, numberAt, links}
 use Rattle.product.proofs.Joints.{joints-none-left, joints-none-right, joints-left, joints-right, joints-other-left, joints-other-right, joints-two}
-use Rattle.product.proofs.Meeting.{length-table, narrow-to, narrow-here, narrow-next}
+use Rattle.product.proofs.Meeting.{narrow-to, narrow-here, narrow-next}
+use Rattle.product.proofs.Queueing.{length-table}
 use Rattle.product.proofs.Finding.{entry-at, run-narrow}
 use Rattle.product.proofs.Blocking.{pair-run-left, pair-run-right, within-left, within-right}
 

@@ -44,7 +44,7 @@ use Rattle.sheets.proofs.Runs.{starts-indexed}
 use Rattle.product.specs.Product.{Pair, samePair, Joint, jointsFrom, pairs, transitionOf, transitionsFrom, placeIn, acceptOf, built, blockedAt, labelOf, product, intersection}
 use Rattle.product.specs.Tables.{codeOf, tableOf, numberIn, Queued, Ready, Within, foundIn, numberAt, sheetWords, Whole}
 use Rattle.product.proofs.Answers.{answer-over, answer-blocked, answer-many, answer-given}
-use Rattle.product.proofs.Meeting.{length-table}
+use Rattle.product.proofs.Queueing.{length-table}
 use Rattle.product.proofs.Pairs.{same-decides, pairs-decides}
 
 -- the numbers of the code are the places in the finished table
