@@ -15,16 +15,17 @@ use Rattle.lists.proofs.Tests.{test}
 use Rattle.labels.specs.Labels.{sameLabel}
 use Rattle.labels.proofs.Same.{same-equal, equal-same}
 use Rattle.parser.specs.Accepts.{Zeros, markOne, markAll}
-use Rattle.parser.specs.Grammar.{Items, nextName, nextNames, Told}
+use Rattle.grammar.specs.Grammar.{Items, nextName, nextNames, Told}
 use Rattle.parser.specs.Names.{Table, namesIn}
-use Rattle.parser.specs.Pattern.{spelled, indexOf, addName, addNames, statesOf, acceptWord}
-use Rattle.parser.specs.Pieces.{nameOf}
-use Rattle.parser.specs.declared.grammar.Span.{Span}
-use Rattle.parser.specs.declared.grammar.Arrow.{Arrow}
-use Rattle.parser.specs.declared.grammar.NamePiece.{NamePiece}
-use Rattle.parser.specs.declared.grammar.NamePiece.the-variants.{Read as NameRead, Nothing as NoName}
+use Rattle.grammar.specs.Places.{spelled}
+use Rattle.parser.specs.Pattern.{indexOf, addName, addNames, statesOf, acceptWord}
+use Rattle.grammar.specs.Pieces.{nameOf}
+use Rattle.grammar.specs.declared.tokens.Span.{Span}
+use Rattle.grammar.specs.declared.pieces.Arrow.{Arrow}
+use Rattle.grammar.specs.declared.tokens.NamePiece.{NamePiece}
+use Rattle.grammar.specs.declared.tokens.NamePiece.the-variants.{Read as NameRead, Nothing as NoName}
 use Rattle.parser.specs.declared.names.Names.{Names}
-use Rattle.parser.proofs.Many.{names-ended, names-more, names-less, name-spelt}
+use Rattle.grammar.proofs.Many.{names-ended, names-more, names-less, name-spelt}
 use Rattle.parser.proofs.Tables.{table-count}
 
 -- the state's word is marked, or there is none

@@ -26,24 +26,25 @@ use Rattle.refusal.specs.declared.StateRefusal.the-variants.{OutputLength, Stat
 use Rattle.refusal.specs.declared.Refusal.the-variants.{Input, State}
 use Rattle.sheets.specs.Sheet.{write}
 use Rattle.parser.specs.Accepts.{Zeros, markAll}
-use Rattle.parser.specs.Grammar.{found, transitions, nextNames, wholeText}
-use Rattle.parser.specs.Layout.{toldAt, Laid, arrowsOf, patternAt}
-use Rattle.parser.specs.Names.{Spelt, Table, namesIn, Addition}
+use Rattle.grammar.specs.Grammar.{found, transitions, nextNames, wholeText}
+use Rattle.grammar.specs.Places.{spelled, Spelt, toldAt, Laid}
+use Rattle.parser.specs.Layout.{arrowsOf, patternAt}
+use Rattle.parser.specs.Names.{Table, namesIn, Addition}
 use Rattle.parser.specs.Parsed.{Output, parsed, parsedOf}
-use Rattle.parser.specs.Pieces.{textOf}
+use Rattle.grammar.specs.Pieces.{textOf}
 use Rattle.parser.specs.Records.{Recording}
-use Rattle.parser.specs.Pattern.{spelled, indexOf, addName, addNames, statesOf, acceptWord, automatonOf, fewTransitions, fewStates, meaning, parse}
+use Rattle.parser.specs.Pattern.{indexOf, addName, addNames, statesOf, acceptWord, automatonOf, fewTransitions, fewStates, meaning, parse}
 use Rattle.parser.specs.declared.Parsed.the-variants.{Read, Refused}
-use Rattle.parser.specs.declared.grammar.Cursor.{Cursor}
-use Rattle.parser.specs.declared.grammar.Layout.{Layout}
-use Rattle.parser.specs.declared.grammar.TextPiece.{TextPiece}
-use Rattle.parser.specs.declared.grammar.TextPiece.the-variants.{Read as TextRead, Nothing as NoText}
+use Rattle.grammar.specs.declared.tokens.Cursor.{Cursor}
+use Rattle.grammar.specs.declared.text.Layout.{Layout}
+use Rattle.grammar.specs.declared.text.TextPiece.{TextPiece}
+use Rattle.grammar.specs.declared.text.TextPiece.the-variants.{Read as TextRead, Nothing as NoText}
 use Rattle.parser.specs.declared.names.Names.{Names}
 use Rattle.parser.specs.declared.names.Added.{Added}
 use Rattle.parser.specs.declared.names.Added.the-variants.{Kept, Full}
 use Rattle.parser.specs.declared.records.Recorded.{Recorded}
 use Rattle.parser.specs.declared.records.Recorded.the-variants.{Kept as RecordedKept, Full as RecordedFull}
-use Rattle.parser.proofs.Progress.{FirstSpelt, leads, holds-found, text-holds}
+use Rattle.grammar.proofs.Progress.{FirstSpelt, leads, holds-found, text-holds}
 use Rattle.parser.proofs.Recording.{recorded-listed, recorded-few, recorded-full}
 use Rattle.parser.proofs.Marking.{states-distinct, marks-words}
 use Rattle.parser.proofs.Tables.{table-inside, table-count, table-counted, added-table, added-names, added-full}

@@ -14,16 +14,17 @@ use Rattle.automata.specs.Records.{writeRecords}
 use Rattle.automata.proofs.Ordered.{insert-out, insert-new, insert-in, inOrder-in, inOrder-out, inOrder-ascending, ascending-unique, inOrder-same, inOrder-grows}
 use Rattle.output.specs.Ordered.{Listed, recordsIn}
 use Rattle.output.proofs.Inserting.{listed-in, listed-none, listed-again, listed-insert}
-use Rattle.parser.specs.Grammar.{space, transition, Items, transitions}
-use Rattle.parser.specs.Pattern.{spelled, indexOf, transitionOf}
-use Rattle.parser.specs.Pieces.{arrowOf}
+use Rattle.grammar.specs.Grammar.{space, transition, Items, transitions}
+use Rattle.grammar.specs.Places.{spelled}
+use Rattle.parser.specs.Pattern.{indexOf, transitionOf}
+use Rattle.grammar.specs.Pieces.{arrowOf}
 use Rattle.parser.specs.Records.{Recording, kept, full}
-use Rattle.parser.specs.declared.grammar.Arrow.{Arrow}
-use Rattle.parser.specs.declared.grammar.ArrowPiece.{ArrowPiece}
-use Rattle.parser.specs.declared.grammar.ArrowPiece.the-variants.{Read as ArrowRead, Nothing as NoArrow}
+use Rattle.grammar.specs.declared.pieces.Arrow.{Arrow}
+use Rattle.grammar.specs.declared.pieces.ArrowPiece.{ArrowPiece}
+use Rattle.grammar.specs.declared.pieces.ArrowPiece.the-variants.{Read as ArrowRead, Nothing as NoArrow}
 use Rattle.parser.specs.declared.records.Recorded.{Recorded}
 use Rattle.parser.specs.declared.records.Recorded.the-variants.{Kept, Full}
-use Rattle.parser.proofs.Many.{arrows-ended, arrows-more, arrows-less, arrow-drawn}
+use Rattle.grammar.proofs.Many.{arrows-ended, arrows-more, arrows-less, arrow-drawn}
 
 -- the record between the numbers that were found
 pub record-put : (t : List ℕ) (ls : List (List ℕ)) (e : Arrow) (from to : ℕ) (buf m : List ℕ) (end r : ℕ) → from ≡ indexOf (spelled t (e .from)) ls → to ≡ indexOf (spelled t (e .to)) ls →

@@ -16,10 +16,11 @@ use Rattle.lists.proofs.Tests.{and-both}
 use Rattle.lists.proofs.Written.{written-length}
 use Rattle.labels.specs.Labels.{entry, entriesOk, readEntries, Label}
 use Rattle.labels.proofs.Labels.{first}
-use Rattle.parser.specs.Names.{Spelt, Table, namesIn, Addition, kept, full}
-use Rattle.parser.specs.Pattern.{spelled, indexOf, addName, addNames}
-use Rattle.parser.specs.declared.grammar.Span.{Span}
-use Rattle.parser.specs.declared.grammar.Arrow.{Arrow}
+use Rattle.grammar.specs.Places.{spelled, Spelt}
+use Rattle.parser.specs.Names.{Table, namesIn, Addition, kept, full}
+use Rattle.parser.specs.Pattern.{indexOf, addName, addNames}
+use Rattle.grammar.specs.declared.tokens.Span.{Span}
+use Rattle.grammar.specs.declared.pieces.Arrow.{Arrow}
 use Rattle.parser.specs.declared.names.Names.{Names}
 use Rattle.parser.specs.declared.names.Added.{Added}
 use Rattle.parser.specs.declared.names.Added.the-variants.{Kept, Full}

@@ -5,8 +5,9 @@ use mathlib.Core.List.{List, [], _∷_}
 use mathlib.Core.Path.{_≡_}
 use lib.Dec.{ltb}
 use lib.ListN.{length, getD, set}
-use Rattle.parser.specs.Pattern.{spelled, indexOf}
-use Rattle.parser.specs.declared.grammar.Span.{Span}
+use Rattle.grammar.specs.Places.{spelled}
+use Rattle.parser.specs.Pattern.{indexOf}
+use Rattle.grammar.specs.declared.tokens.Span.{Span}
 
 -- 256 words 0
 pub record Zeros (ws : List ℕ) : Type 0 where

@@ -1,7 +1,4 @@
--- The grammar of patterns and what a text means.
-pub mod Bytes
-pub mod Grammar
-pub mod Pieces
+-- What a text means, and the tables that the code fills.
 pub mod Pattern
 pub mod Names
 pub mod Records

@@ -1,27 +1,13 @@
--- The tables that the code fills: names, records and accept words.
-use Prim.Native.Nat.{ℕ, _-_, _*_, _≤_, _<_}
+-- The table of names that the code fills.
+use Prim.Native.Nat.{ℕ, _*_, _≤_, _<_}
 use mathlib.Core.Bool.{true}
 use mathlib.Core.List.{List}
 use mathlib.Core.Path.{_≡_}
 use lib.ListN.{length, take}
 use Rattle.labels.specs.Labels.{entriesOk, readEntries}
-use Rattle.parser.specs.declared.grammar.Span.{Span}
-use Rattle.parser.specs.declared.grammar.Arrow.{Arrow}
 use Rattle.parser.specs.declared.names.Names.{Names}
 use Rattle.parser.specs.declared.names.Added.{Added}
 use Rattle.parser.specs.declared.names.Added.the-variants.{Kept, Full}
-
--- the bytes of a name in a text
-pub record Spelt (t : List ℕ) (s : Span) : Type 0 where
-  pub some : s .start < s .end
-  pub short : s .end - s .start ≤ 64
-  pub inside : s .end ≤ length t
-
--- a transition of a text
-pub record Drawn (t : List ℕ) (e : Arrow) : Type 0 where
-  pub from-spelt : Spelt t (e .from)
-  pub to-spelt : Spelt t (e .to)
-  pub full : e .first ≤ e .last
 
 -- the names of a table
 unfoldable pub namesIn : List ℕ → Names → List (List ℕ)

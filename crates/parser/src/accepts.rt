@@ -3,12 +3,13 @@ ghost use mathlib.Core.List.{_∷_};
 ghost use mathlib.Core.Path.{_≡_};
 ghost use lib.ListN.{length};
 ghost use Rattle.parser.specs.Accepts.{markOne, markAll};
-ghost use Rattle.parser.specs.Grammar.{nextNames};
-ghost use Rattle.parser.specs.Names.{Spelt, Table, namesIn};
-use crate::grammar::Cursor;
-use crate::grammar::NamePiece;
-use crate::grammar::Span;
+ghost use Rattle.grammar.specs.Grammar.{nextNames};
+ghost use Rattle.grammar.specs.Places.{Spelt};
+ghost use Rattle.parser.specs.Names.{Table, namesIn};
 use crate::names::Names;
+use grammar::Cursor;
+use grammar::NamePiece;
+use grammar::Span;
 
 // The accept word of the state with the name x becomes 1. A name that no state has is dropped.
 fn mark(text: &[u8], b: &[u8], s: Names, x: Span, words: &mut [u32])
@@ -29,7 +30,7 @@ fn mark_next(text: &[u8], c: Cursor, b: &[u8], s: Names, words: &mut [u32])
 {
     let mut at = c.at;
     loop {
-        let NamePiece::Read(x, next) = crate::grammar::next_name(text, Cursor { at }) else {
+        let NamePiece::Read(x, next) = grammar::next_name(text, Cursor { at }) else {
             return;
         };
         mark(text, b, s, x, words);

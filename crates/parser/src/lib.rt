@@ -9,11 +9,14 @@ ghost use Rattle.lists.specs.Written.{Written};
 ghost use Rattle.output.specs.Output.{roomFirst};
 ghost use Rattle.refusal.specs.Answer.{given};
 ghost use Rattle.parser.specs.Accepts.{Zeros};
-ghost use Rattle.parser.specs.Layout.{toldAt, Laid, arrowsOf, patternAt};
+ghost use Rattle.grammar.specs.Places.{toldAt, Laid};
+ghost use Rattle.parser.specs.Layout.{arrowsOf, patternAt};
 ghost use Rattle.parser.specs.Names.{Table, namesIn, Addition};
 ghost use Rattle.parser.specs.Parsed.{parsedOf, parsed};
 ghost use Rattle.parser.specs.Pattern.{statesOf, fewTransitions, fewStates, parse};
+use grammar::Cursor;
 use grammar::Layout;
+use grammar::TextPiece;
 use names::Added;
 use names::Names;
 use records::Recorded;
@@ -22,14 +25,8 @@ use refusal::Refusal;
 use refusal::StateRefusal;
 
 mod accepts;
-mod grammar;
 mod names;
 mod records;
-
-pub use grammar::Cursor;
-pub use grammar::TextPiece;
-pub use grammar::space;
-pub use grammar::whole_text;
 
 // How many bytes of the text were read, how many words the sheet takes and how many bytes the labels; or a refusal.
 pub enum Parsed {

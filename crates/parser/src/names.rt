@@ -3,13 +3,14 @@ ghost use mathlib.Core.Bool.{true};
 ghost use mathlib.Core.Path.{_≡_};
 ghost use Prim.Native.Nat.{_<_};
 ghost use Rattle.labels.specs.Labels.{Label, entriesOk, readEntries};
-ghost use Rattle.parser.specs.Grammar.{transitions};
-ghost use Rattle.parser.specs.Pattern.{spelled, indexOf, addName, addNames};
-ghost use Rattle.parser.specs.Names.{Spelt, Drawn, Table, namesIn, Addition};
-use crate::grammar::Arrow;
-use crate::grammar::ArrowPiece;
-use crate::grammar::Cursor;
-use crate::grammar::Span;
+ghost use Rattle.grammar.specs.Grammar.{transitions};
+ghost use Rattle.grammar.specs.Places.{spelled, Spelt, Drawn};
+ghost use Rattle.parser.specs.Pattern.{indexOf, addName, addNames};
+ghost use Rattle.parser.specs.Names.{Table, namesIn, Addition};
+use grammar::Arrow;
+use grammar::ArrowPiece;
+use grammar::Cursor;
+use grammar::Span;
 
 // How many names a table has, and the place behind the last.
 pub struct Names {
@@ -100,8 +101,7 @@ pub fn add_arrows(text: &[u8], c: Cursor, b: &mut [u8], s: Names) -> Added
     let mut at = c.at;
     let mut names = s;
     loop {
-        let ArrowPiece::Read(e, next) = crate::grammar::spaced_transition(text, Cursor { at })
-        else {
+        let ArrowPiece::Read(e, next) = grammar::spaced_transition(text, Cursor { at }) else {
             return Added::Kept(names);
         };
         let Added::Kept(more) = add_arrow(text, b, names, e) else {

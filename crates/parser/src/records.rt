@@ -7,14 +7,15 @@ ghost use Rattle.automata.specs.Ordered.{insert, inOrder};
 ghost use Rattle.automata.specs.Records.{writeRecords};
 ghost use Rattle.lists.specs.Written.{Written};
 ghost use Rattle.output.specs.Ordered.{Listed, recordsIn};
-ghost use Rattle.parser.specs.Grammar.{transitions};
+ghost use Rattle.grammar.specs.Grammar.{transitions};
 ghost use Rattle.parser.specs.Pattern.{transitionOf};
-ghost use Rattle.parser.specs.Names.{Drawn, Table, namesIn};
+ghost use Rattle.grammar.specs.Places.{Drawn};
+ghost use Rattle.parser.specs.Names.{Table, namesIn};
 ghost use Rattle.parser.specs.Records.{Recording};
-use crate::grammar::Arrow;
-use crate::grammar::ArrowPiece;
-use crate::grammar::Cursor;
 use crate::names::Names;
+use grammar::Arrow;
+use grammar::ArrowPiece;
+use grammar::Cursor;
 
 // The place behind the records, or that there are over 2,048.
 pub enum Recorded {
@@ -40,8 +41,7 @@ pub fn add_records(text: &[u8], c: Cursor, b: &[u8], s: Names, buf: &mut [u32]) 
     let mut at = c.at;
     let mut end: usize = 0;
     loop {
-        let ArrowPiece::Read(e, next) = crate::grammar::spaced_transition(text, Cursor { at })
-        else {
+        let ArrowPiece::Read(e, next) = grammar::spaced_transition(text, Cursor { at }) else {
             return Recorded::Kept(end);
         };
         end = add_record(text, b, s, e, buf, end);

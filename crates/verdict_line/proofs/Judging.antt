@@ -23,7 +23,7 @@ use Rattle.sheets.specs.Fault.{fault}
 use Rattle.sheets.specs.Sheet.{read}
 use Rattle.determinize.specs.Determinize.{determinize}
 use Rattle.determinize.proofs.Theorems.{determinize-fits}
-use Rattle.parser.specs.Grammar.{Found, nothing, found, Mark}
+use Rattle.grammar.specs.Grammar.{Found, nothing, found, Mark}
 use Rattle.parser.specs.Pattern.{Reading, parse}
 use Rattle.parser.specs.declared.Parsed.{Parsed}
 use Rattle.parser.specs.declared.Parsed.the-variants.{Read}

@@ -7,7 +7,7 @@ use Rattle.refusal.specs.Answer.{Answer, refused, given}
 use Rattle.refusal.specs.Number.{numberOf}
 use Rattle.refusal.specs.declared.Refusal.{Refusal}
 use Rattle.sheets.specs.Sheet.{write}
-use Rattle.parser.specs.Grammar.{Found, nothing, found, Mark, mark}
+use Rattle.grammar.specs.Grammar.{Found, nothing, found, Mark, mark}
 use Rattle.parser.specs.Pattern.{Reading}
 use Rattle.parser.specs.declared.Parsed.{Parsed}
 use Rattle.parser.specs.declared.Parsed.the-variants as parsed

@@ -2,7 +2,7 @@
 use Prim.Native.Nat.{_-_}
 use mathlib.Core.Path.{_≡_}
 use lib.ListN.{length}
-use Rattle.parser.specs.Grammar.{transitions}
+use Rattle.grammar.specs.Grammar.{transitions}
 use Rattle.parser.specs.Names.{Table, namesIn}
 use Rattle.parser.specs.Pattern.{addNames}
 use Rattle.parser.proofs.Collecting.{collectLaws, collect-next, collect-full}

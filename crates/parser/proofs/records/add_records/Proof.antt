@@ -6,7 +6,7 @@ use native.Mathlib.Omega.{arith}
 use lib.ListN.{length}
 use Rattle.automata.specs.Ordered.{inOrder}
 use Rattle.output.specs.Ordered.{Listed, recordsIn}
-use Rattle.parser.specs.Grammar.{transitions}
+use Rattle.grammar.specs.Grammar.{transitions}
 use Rattle.parser.specs.Names.{namesIn}
 use Rattle.parser.specs.Pattern.{transitionOf}
 use Rattle.parser.proofs.Recording.{recordLaws, record-listed, record-next, record-full}
