@@ -90,3 +90,9 @@ module _ (bs t : List ℕ) (n h : ℕ) (e : Entered bs t) (m : length bs ≡ n) 
 pub length-entered : (t : List ℕ) (n h : ℕ) → length (entered t n h) ≡ length t
 unfolding entered
 length-entered t n h = length-set (set t (256 + n) (getD t h 0)) h (n + 1) ∙ length-set t (256 + n) (getD t h 0)
+
+-- the words behind the table are kept
+pub entered-behind : (t : List ℕ) (n h i : ℕ) → n < 256 → h < 256 → 512 ≤ i → getD (entered t n h) i 0 ≡ getD t i 0
+unfolding entered
+entered-behind t n h i f g l =
+    getD-set-other (set t (256 + n) (getD t h 0)) h i (n + 1) 0 (λ z. omega arith) ∙ getD-set-other t (256 + n) i (getD t h 0) 0 (λ z. omega arith)

@@ -1,8 +1,12 @@
 -- Laws of the latest number that passes a test.
 use Prim.Native.Nat.{ℕ, zero, suc, _-_, _≤_, _<_}
 use mathlib.Core.Bool.{Bool, true, false, cond, false≢true}
+use mathlib.Core.Logic.{⊎-elim}
 use mathlib.Core.Path.{_≡_, refl, sym, _∙_, ap}
 use native.Mathlib.Omega.{arith}
+use borrow.Author.Tests.{eqb-true, eqb-false}
+use lib.Dec.{eqb}
+use Rattle.lists.proofs.Tests.{test, cond-no}
 use Rattle.buckets.specs.Buckets.{latest}
 
 pub latest-most : (p : ℕ → Bool) (n : ℕ) → latest p n ≤ n
@@ -35,12 +39,20 @@ latest-through p q (suc n) h = go (p n) refl (q n) refl (latest-through p q n (�
 pub latest-fixed : (p : ℕ → Bool) (n : ℕ) → latest p n ≡ latest p (latest p n)
 latest-fixed p n = latest-through p p n (λ j l e. e)
 
+-- there is no latest where none passes
+pub latest-none : (p : ℕ → Bool) (n : ℕ) → latest p n ≡ 0 → (j : ℕ) → j < n → p j ≡ false
+unfolding latest
+latest-none p zero e j h = absurd (omega arith)
+latest-none p (suc n) e j h =
+    let z = cond-no (p n) n (latest p n) e in
+    ⊎-elim (λ (q : eqb j n ≡ true). ap p (eqb-true j n q) ∙ z .0) (λ (q : eqb j n ≡ false). latest-none p n (z .1) j (lower (eqb-false j n q)))
+    (test (eqb j n))
+  where
+    lower : (j ≡ n → ⊥) → j < n
+    lower y = omega arith
+
 -- the latest up to i by the number before i
 module _ (p : ℕ → Bool) (i : ℕ) (h : 0 < i) where
-  pub latest-here : p (i - 1) ≡ true → latest p i ≡ i
-  unfolding latest
-  latest-here e = let z : i ≡ suc (i - 1) = omega arith in ap (latest p) z ∙ rw e (sym z)
-
   pub latest-before : p (i - 1) ≡ false → latest p i ≡ latest p (i - 1)
   unfolding latest
   latest-before e = let z : i ≡ suc (i - 1) = omega arith in ap (latest p) z ∙ rw e

@@ -8,7 +8,7 @@ use borrow.Author.Tests.{eqb-true}
 use lib.Dec.{eqb}
 use lib.ListN.{length, getD}
 use Rattle.buckets.specs.Buckets.{latest, inBucket, Entered}
-use Rattle.buckets.proofs.Latest.{latest-most, latest-through, latest-fixed, latest-here, latest-before, latest-passes}
+use Rattle.buckets.proofs.Latest.{latest-most, latest-through, latest-fixed, latest-none, latest-before, latest-passes}
 
 -- a walk through the bucket h is at i, which is 0 or the number after one of the bucket; no number from i on passes the test p
 pub record Walk (bs : List ℕ) (h : ℕ) (p : ℕ → Bool) (i : ℕ) : Type 0 where
@@ -47,11 +47,7 @@ module _ (bs t : List ℕ) (h : ℕ) (p : ℕ → Bool) (e : Entered bs t) (s : 
     pub walk-less : getD t (256 + (i - 1)) 0 < i
     walk-less = omega (arith, link, latest-most (inBucket bs h) (i - 1))
 
--- what the end of a walk says
-module _ (bs : List ℕ) (h : ℕ) (p : ℕ → Bool) (i : ℕ) (w : Walk bs h p i) where
-  pub walk-found : 0 < i → p (i - 1) ≡ true → latest p (length bs) ≡ i
-  walk-found l q = w .rest ∙ latest-here p i l q
-
-  pub walk-ended : i ≤ 0 → latest p (length bs) ≡ 0
-  unfolding latest
-  walk-ended l = let z : i ≡ 0 = omega arith in w .rest ∙ ap (latest p) z
+-- at the end of a walk no number passes the test
+pub walk-ended : (bs : List ℕ) (h : ℕ) (p : ℕ → Bool) (i : ℕ) → Walk bs h p i → i ≤ 0 → (j : ℕ) → j < length bs → p j ≡ false
+unfolding latest
+walk-ended bs h p i w l = let z : i ≡ 0 = omega arith in latest-none p (length bs) (w .rest ∙ ap (latest p) z)

@@ -1,6 +1,9 @@
 -- The laws of what a text means.
+pub mod Memory
+pub mod Indexing
 pub mod Finding
 pub mod Tables
+pub mod Labelling
 pub mod Collecting
 pub mod Recording
 pub mod Marking

@@ -24,7 +24,7 @@ use Rattle.grammar.specs.Grammar.{Found, nothing, found, Told, transitions, who
 use Rattle.grammar.specs.Places.{spelled, Spelt, Drawn}
 use Rattle.parser.specs.Pattern.{indexOf, addName, addNames, statesOf, transitionOf, acceptWord, automatonOf, Reading, fewTransitions, fewStates, meaning, parse}
 use Rattle.grammar.specs.declared.pieces.Arrow.{Arrow}
-use Rattle.parser.proofs.Marking.{index-in}
+use Rattle.parser.proofs.Indexing.{index-in}
 use Rattle.grammar.proofs.Many.{text-drawn}
 use Rattle.grammar.proofs.Progress.{holds-found}
 use Rattle.parser.proofs.Tables.{spelt-label}

@@ -2,17 +2,11 @@
 use Prim.Native.Nat.{ℕ}
 use mathlib.Core.Bool.{cond}
 use mathlib.Core.List.{List, [], _∷_}
-use mathlib.Core.Path.{_≡_}
 use lib.Dec.{ltb}
-use lib.ListN.{length, getD, set}
+use lib.ListN.{length, set}
 use Rattle.grammar.specs.Places.{spelled}
 use Rattle.parser.specs.Pattern.{indexOf}
 use Rattle.grammar.specs.declared.tokens.Span.{Span}
-
--- 256 words 0
-pub record Zeros (ws : List ℕ) : Type 0 where
-  pub long : length ws ≡ 256
-  pub zero : (j : ℕ) → getD ws j 0 ≡ 0
 
 -- 1 for the state with the name x, where there is one
 unfoldable pub markOne : List ℕ → List (List ℕ) → List ℕ → Span → List ℕ

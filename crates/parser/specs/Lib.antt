@@ -1,5 +1,6 @@
 -- What a text means, and the tables that the code fills.
 pub mod Pattern
+pub mod Memory
 pub mod Names
 pub mod Records
 pub mod Accepts

@@ -22,7 +22,7 @@ with-names-spec =
     (λ c. search recordedLaws) (λ c. search recordedLaws)
     (λ c. let a = c .before .before .before .before .before .before .before .before .before .before .before .before .before .before .before .before .before
     .before .before .before .before .before .before .before .args in
-    within-22 (a .text .now) (a .l) (namesIn (a .b .now) (a .s)) _ _ _ _ _
+    within-22 (a .text .now) (a .l) (namesIn (a .text .now) (a .t .now) (a .n)) _ _ _ _ _
     (c .before .before .before .before .before .before .before .before .before .before .before .before .before .before .before .before .add-records .ensures) _
     (c .before .before .before .before .before .before .before .before .before .before .before .before .end .given .1) _
     (c .before .before .before .before .before .before .write-pattern .ensures)))

@@ -10,5 +10,5 @@ add-record-spec =
     tie.close
     (tie.spec (λ c κs. search needs) (λ c κs. search needs) (λ c κs. search needs) (λ c. search needs)
     (λ c. let a = c .before .before .before .before .before .before .before .before .before .args in
-    record-put (a .text .now) (namesIn (a .b .now) (a .s)) (a .e) _ _ _ _ _ _ (c .before .before .before .before .before .number-of .ensures)
+    record-put (a .text .now) (namesIn (a .text .now) (a .t .now) (a .n)) (a .e) _ _ _ _ _ _ (c .before .before .before .before .before .number-of .ensures)
     (c .before .before .before .before .number-of2 .ensures) (c .before .before .insert-record .ensures)))

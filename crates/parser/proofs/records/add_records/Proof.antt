@@ -14,10 +14,10 @@ use Rattle.parser.proofs.records.add_records.Statement.{statement}
 use Rattle.parser.proofs.records.add_records.Tie as tie
 
 abbrev Inv-loop : tie.InvT-loop
-Inv-loop text b s buf₀ at₀ end₀ buf at end = (length buf ≡ 10245) × (end ≤ 10240) × Listed buf 0 end (recordsIn buf 0 end) × (inOrder (recordsIn buf 0 end ++ map (transitionOf text (namesIn b s)) (transitions text at .items)) ≡ inOrder (map (transitionOf text (namesIn b s)) (transitions text at₀ .items)))
+Inv-loop text t n buf₀ at₀ end₀ buf at end = (length buf ≡ 10245) × (end ≤ 10240) × Listed buf 0 end (recordsIn buf 0 end) × (inOrder (recordsIn buf 0 end ++ map (transitionOf text (namesIn text t n)) (transitions text at .items)) ≡ inOrder (map (transitionOf text (namesIn text t n)) (transitions text at₀ .items)))
 
 abbrev μ-loop : tie.MeasureT-loop
-μ-loop text b s buf₀ at₀ end₀ buf at end = length text - at
+μ-loop text t n buf₀ at₀ end₀ buf at end = length text - at
 
 pub add-records-spec : {M : Type 1} → statement M
 add-records-spec =
