@@ -16,6 +16,7 @@ use Rattle.labels.specs.Labels.{labelsFault, readLabels, writeLabels, LabelList
 use Rattle.labels.specs.declared.Checked as labelled
 use Rattle.labels.specs.declared.Checked.the-variants as labelAnswer
 use Rattle.labels.proofs.Labels.{label-list, count-read}
+use Rattle.output.specs.Gathering.{Collected}
 use Rattle.output.specs.Made.{outputOf}
 use Rattle.output.specs.Output.{Output, Pattern, outputs, roomFirst, labelsFirst}
 use Rattle.output.specs.declared.Made.the-variants.{Lengths, Refused}
@@ -34,11 +35,10 @@ use Rattle.sheets.proofs.Accepted.{check-accepted}
 use Rattle.sheets.proofs.Checking.{sheet-passed, sheet-refused}
 use Rattle.words.proofs.Epsilons.{fresh}
 use Rattle.epsilon.specs.Eliminate.{closureRanges, allStates, eliminated, limited, eliminateAnswer}
-use Rattle.output.specs.Storing.{Stored}
 use Rattle.epsilon.specs.Tables.{TransitionsOf, Ready}
 
 -- the transitions of all states are gathered
-module _ (s : List ℕ) (a : Accepted s) (buf : List ℕ) (end : ℕ) (t : Stored buf end (flatMap (closureRanges (read s)) (allStates (read s)))) where
+module _ (s : List ℕ) (a : Accepted s) (buf : List ℕ) (end : ℕ) (t : Collected buf end (flatMap (closureRanges (read s)) (allStates (read s)))) where
   pub too-many : 10240 < end → (o l : List ℕ) (ls : List (List ℕ)) → outputOf (Refused (State Transitions)) o l ≡ outputs o l (limited (eliminated (read s)) ls)
   unfolding limited eliminated
   too-many h o l ls = made-refused o l (State Transitions) _ (rw (lt-ltb 2048 _ (t .over h)))

@@ -1,7 +1,7 @@
 -- The laws of epsilon elimination.
 pub mod Members
 pub mod Runs
-pub mod Storing
+pub mod Gathering
 pub mod Writing
 pub mod Answers
 pub mod Numbers

@@ -1,5 +1,5 @@
 // Epsilon elimination: each state gets the ranges and the acceptance of its closure. Closures and runs are found once; the
-// ranges are gathered in order in local memory, and nothing is written to an output before it is known that they are few enough.
+// ranges are gathered and put in order in local memory, and nothing is written to an output before it is known that they are few enough.
 ghost use mathlib.Core.List.{[], _∷_, _++_, flatMap};
 ghost use mathlib.Core.Path.{_≡_};
 ghost use Prim.Native.Nat.{_+_, _≤_, _<_};
@@ -7,9 +7,9 @@ ghost use lib.ListN.{length};
 ghost use Rattle.lists.specs.Written.{Written};
 ghost use Rattle.automata.specs.Records.{recordAt, readRecords};
 ghost use Rattle.labels.specs.Labels.{labelsFault, readLabels};
+ghost use Rattle.output.specs.Gathering.{Open, Gathered, Collected};
 ghost use Rattle.output.specs.Made.{outputOf};
 ghost use Rattle.output.specs.Ordered.{recordsIn};
-ghost use Rattle.output.specs.Storing.{Room, Stored};
 ghost use Rattle.output.specs.Output.{outputs, roomFirst, labelsFirst};
 ghost use Rattle.sheets.specs.Accepted.{Accepted};
 ghost use Rattle.sheets.specs.Sheet.{stateCount, read, write};
@@ -22,27 +22,27 @@ use output::Made;
 use refusal::Refusal;
 use refusal::StateRefusal;
 
-// The record r as one of state p into its place, if it is a range. Like the functions below it answers the place behind the records.
+// The record r as one of state p behind the others, if it is a range. Like the functions below it answers the place behind the records.
 fn add_range(r: &[u32], p: u32, buf: &mut [u32], end: usize) -> usize
-    requires { ⌜ (length (now r) ≡ 5) × Room (now buf) end ⌝ }
-    ensures { λ e. ⌜ Stored (now (buf .exit)) e (recordsIn (now (buf .entry)) 0 end ++ movedTo p (recordAt (now (r .entry)) 0 ∷ [])) ⌝ }
+    requires { ⌜ (length (now r) ≡ 5) × Open (now buf) end ⌝ }
+    ensures { λ e. ⌜ Gathered (now (buf .exit)) e (recordsIn (now (buf .entry)) 0 end ++ movedTo p (recordAt (now (r .entry)) 0 ∷ [])) ⌝ }
 {
     if r[1] != 1 {
         return end;
     }
-    output::insert_record(buf, 0, end, p, r[1], r[2], r[3], r[4])
+    output::gather_record(buf, end, p, r[1], r[2], r[3], r[4])
 }
 
-// The ranges of the run as those of state p, each into its place, until there are too many.
+// The ranges of the run as those of state p, until there are too many.
 fn add_run(run: &[u32], p: u32, buf: &mut [u32], end: usize) -> usize
-    requires { ⌜ Room (now buf) end ⌝ }
-    ensures { λ e. ⌜ Stored (now (buf .exit)) e (recordsIn (now (buf .entry)) 0 end ++ movedTo p (readRecords (now (run .entry)))) ⌝ }
+    requires { ⌜ Open (now buf) end ⌝ }
+    ensures { λ e. ⌜ Gathered (now (buf .exit)) e (recordsIn (now (buf .entry)) 0 end ++ movedTo p (readRecords (now (run .entry)))) ⌝ }
 {
     let mut e = end;
     let mut at: usize = 0;
     while 5 <= run.len() - at {
         e = add_range(&run[at..at + 5], p, buf, e);
-        if 10240 < e {
+        if 20480 <= e {
             return e;
         }
         at += 5;
@@ -59,8 +59,8 @@ fn add_closure(
     buf: &mut [u32],
     end: usize,
 ) -> usize
-    requires { ⌜ Tables (now s) (now starts) (now closures) × (p < stateCount (now s)) × Room (now buf) end ⌝ }
-    ensures { λ e. ⌜ Stored (now (buf .exit)) e (recordsIn (now (buf .entry)) 0 end ++ closureRanges (read (now (s .entry))) p) ⌝ }
+    requires { ⌜ Tables (now s) (now starts) (now closures) × (p < stateCount (now s)) × Open (now buf) end ⌝ }
+    ensures { λ e. ⌜ Gathered (now (buf .exit)) e (recordsIn (now (buf .entry)) 0 end ++ closureRanges (read (now (s .entry))) p) ⌝ }
 {
     let mut row = [0u64; 4];
     sets::copy_row(&mut row, closures, p as usize);
@@ -68,7 +68,7 @@ fn add_closure(
     let mut q = sets::next_member(&row, 0);
     while q < 256 {
         e = add_run(sheets::run(s, starts, q as u32), p, buf, e);
-        if 10240 < e {
+        if 20480 <= e {
             return e;
         }
         q = sets::next_member(&row, q + 1);
@@ -78,15 +78,15 @@ fn add_closure(
 
 // The ranges of the closures of all states.
 fn add_closures(s: &[u32], starts: &[u32], closures: &[u64], buf: &mut [u32]) -> usize
-    requires { ⌜ Tables (now s) (now starts) (now closures) × (length (now buf) ≡ 10245) ⌝ }
-    ensures { λ e. ⌜ Stored (now (buf .exit)) e (flatMap (closureRanges (read (now (s .entry)))) (allStates (read (now (s .entry))))) ⌝ }
+    requires { ⌜ Tables (now s) (now starts) (now closures) × (length (now buf) ≡ 20480) ⌝ }
+    ensures { λ e. ⌜ Gathered (now (buf .exit)) e (flatMap (closureRanges (read (now (s .entry)))) (allStates (read (now (s .entry))))) ⌝ }
 {
     let n = s[2];
     let mut e: usize = 0;
     let mut p: u32 = 0;
     while p < n {
         e = add_closure(s, starts, closures, p, buf, e);
-        if 10240 < e {
+        if 20480 <= e {
             return e;
         }
         p += 1;
@@ -94,15 +94,16 @@ fn add_closures(s: &[u32], starts: &[u32], closures: &[u64], buf: &mut [u32]) ->
     e
 }
 
-// The closures of the sheet's states, and the ranges of them all.
+// The closures of the sheet's states, and the ranges of them all in order, equal ones once, unless there are too many.
 fn gather(s: &[u32], closures: &mut [u64], buf: &mut [u32]) -> usize
-    requires { ⌜ Accepted (now s) × Fresh (now closures) × (length (now buf) ≡ 10245) ⌝ }
-    ensures { λ e. ⌜ ClosuresOf (now (s .entry)) (now (closures .exit)) × Stored (now (buf .exit)) e (flatMap (closureRanges (read (now (s .entry)))) (allStates (read (now (s .entry))))) ⌝ }
+    requires { ⌜ Accepted (now s) × Fresh (now closures) × (length (now buf) ≡ 20480) ⌝ }
+    ensures { λ e. ⌜ ClosuresOf (now (s .entry)) (now (closures .exit)) × Collected (now (buf .exit)) e (flatMap (closureRanges (read (now (s .entry)))) (allStates (read (now (s .entry))))) ⌝ }
 {
     let mut starts = [0u32; 257];
     sheets::run_starts(s, &mut starts);
     words::state_closures(s, closures);
-    add_closures(s, &starts, closures, buf)
+    let end = add_closures(s, &starts, closures, buf);
+    output::collect_records(buf, end)
 }
 
 // The accept word of the closure of p.
@@ -148,7 +149,7 @@ fn eliminate_accepted(s: &[u32], labels: &[u8], out: &mut [u32], names: &mut [u8
     ensures { λ r. ⌜ outputOf r (now (out .exit)) (now (names .exit)) ≡ outputs (now (out .entry)) (now (names .entry)) (limited (eliminated (read (now (s .entry)))) (readLabels (now (labels .entry)))) ⌝ }
 {
     let mut closures = [0u64; 1024];
-    let mut buf = [0u32; 10245];
+    let mut buf = [0u32; 20480];
     let end = gather(s, &mut closures, &mut buf);
     if 10240 < end {
         return Made::Refused(Refusal::State(StateRefusal::Transitions));

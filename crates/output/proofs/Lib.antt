@@ -6,3 +6,5 @@ pub mod Storing
 pub mod Heads
 pub mod Merging
 pub mod Halves
+pub mod Joining
+pub mod Collecting

@@ -4,3 +4,4 @@ pub mod Made
 pub mod Ordered
 pub mod Storing
 pub mod Sorting
+pub mod Gathering

@@ -8,9 +8,12 @@ ghost use lib.ListN.{length};
 ghost use Rattle.lists.specs.Written.{Written};
 use refusal::Refusal;
 
+mod gathering;
 mod ordered;
 mod sorting;
 
+pub use gathering::collect_records;
+pub use gathering::gather_record;
 pub use ordered::insert_record;
 pub use sorting::sort_records;
 

@@ -7,21 +7,21 @@ use native.Mathlib.Omega.{arith}
 use borrow.Author.Needs.{needs}
 use lib.ListN.{getD, length, take, drop, drop-of-length-le}
 use lib.Seq.{drop-cons}
-use Rattle.lists.specs.Written.{Written}
 use Rattle.automata.specs.Automaton.{Transition, Automaton, leaving}
 use Rattle.automata.specs.Records.{recordAt, readRecords, writeRecords}
 use Rattle.automata.proofs.Records.{read-write, records-at, records-end, part-record}
+use Rattle.output.specs.Gathering.{Open, Gathered, Rest}
 use Rattle.output.specs.Ordered.{recordsIn}
+use Rattle.output.proofs.Collecting.{gathered-same, rest-none, rest-begin, rest-end, rest-next, rest-over}
 use Rattle.ranges.specs.Span.{intersectRanges, spanOf}
 use Rattle.ranges.specs.declared.Common.{Common}
 use Rattle.ranges.specs.declared.Common.the-variants.{Range, Nothing}
 use Rattle.sheets.specs.Sheet.{read}
 use Rattle.product.specs.Product.{Pair, jointOf, jointsOf, jointsFrom, transitionOf, transitionsFrom}
 use Rattle.product.specs.Tables.{pairOf, tableOf, numberAt, links}
-use Rattle.product.specs.Gathering.{Open, Gathered, Rest}
-use Rattle.product.proofs.Gathering.{open-none, packed-put, records-put, gathered-same, rest-begin, rest-end, rest-next, rest-over}
 use Rattle.product.proofs.Joints.{joints-none-left, joints-none-right, joints-left, joints-right, joints-other-left, joints-other-right, joints-two}
-use Rattle.product.proofs.Meeting.{length-table, narrow-to, narrow-here, narrow-next}
+use Rattle.product.proofs.Meeting.{narrow-to, narrow-here, narrow-next}
+use Rattle.product.proofs.Queueing.{length-table}
 use Rattle.product.proofs.Finding.{entry-at, run-narrow}
 use Rattle.product.proofs.Blocking.{pair-run-left, pair-run-right, within-left, within-right}
 
@@ -43,16 +43,15 @@ module _ (buf : List ℕ) (end : ℕ) (k : Open buf end) (numbers : List ℕ) (i
     joint-apart h =
         none-added (joints-two (recordAt d 0) (recordAt e 0) hd he ∙ ap (λ o. jointOf o (record { left = getD d 4 0; right = getD e 4 0 })) (sym told ∙ ap spanOf h))
 
-    pub joint-put : (a b : ℕ) → x ≡ Range a b → (to : ℕ) → to ≡ numberAt numbers (record { left = getD d 4 0; right = getD e 4 0 }) → (l : List ℕ) (behind : ℕ)
-        → Written buf end (i ∷ 1 ∷ a ∷ b ∷ to ∷ []) l behind → (m : List ℕ) (next : ℕ) → Gathered m next (recordsIn l 0 behind)
-        → Gathered m next (recordsIn buf 0 end ++ links numbers i (recordAt d 0 ∷ []) (recordAt e 0 ∷ []))
+    pub joint-put : (a b : ℕ) → x ≡ Range a b → (to : ℕ) → to ≡ numberAt numbers (record { left = getD d 4 0; right = getD e 4 0 }) → (m : List ℕ) (next : ℕ)
+        → Gathered m next (recordsIn buf 0 end ++ record { from = i; kind = 1; first = a; last = b; to = to } ∷ []) → Gathered m next (recordsIn buf 0 end ++ links numbers i (recordAt d 0 ∷ []) (recordAt e 0 ∷ []))
     unfolding links jointOf transitionOf
-    joint-put a b h to q l behind w m next g =
+    joint-put a b h to q m next g =
         let j : jointsOf (recordAt d 0 ∷ []) (recordAt e 0 ∷ []) ≡ record { span = record { low = a; high = b }; to = record { left = getD d 4 0; right = getD e 4 0 } } ∷ [] =
         joints-two (recordAt d 0) (recordAt e 0) hd he ∙ ap (λ o. jointOf o (record { left = getD d 4 0; right = getD e 4 0 })) (sym told ∙ ap spanOf h) in
-        rw (j, ← q) (subst (Gathered m next) (records-put buf end k i 1 a b to l behind w) g)
+        rw (j, ← q) g
 
-pub ruleset jointLaws = (joint-other-left, joint-other-right, joint-apart, joint-put, packed-put, narrow-to, needs)
+pub ruleset jointLaws = (joint-other-left, joint-other-right, joint-apart, joint-put, narrow-to, needs)
 
 module _ (numbers : List ℕ) (i : ℕ) where
   links-none-left : (es : List Transition) → links numbers i [] es ≡ []
@@ -132,8 +131,7 @@ pub ruleset pairLaws = (pair-run-left, pair-run-right, run-narrow, pair-links, n
 
 -- the transitions of the pairs from i on are left
 pub pairs-begin : (A B : Automaton) (buf numbers : List ℕ) (T : List Pair) → length buf ≡ 20480 → Rest buf 0 (transitionsFrom (numberAt numbers) A B 0 (drop 0 T)) (transitionsFrom (numberAt numbers) A B 0 T)
-unfolding recordsIn readRecords
-pairs-begin A B buf numbers T h = record { room = open-none buf h; left = refl }
+pairs-begin A B buf numbers T h = rest-none buf h _
 
 module _ (A B : Automaton) (buf : List ℕ) (end : ℕ) (numbers words : List ℕ) (n i : ℕ) (es : List Transition) (l : Rest buf end (transitionsFrom (numberAt numbers) A B i (drop i (tableOf words n))) es)
     (w : n ≤ length words) where

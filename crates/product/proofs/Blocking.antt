@@ -26,7 +26,7 @@ use Rattle.sheets.proofs.Runs.{run-at}
 use Rattle.product.specs.Product.{Pair, isNone, hasEpsilon, blocked, blockedAt}
 use Rattle.product.specs.Tables.{pairOf, tableOf, Ready, Within, EpsilonFirst}
 use Rattle.product.proofs.Finding.{entry-at, entry-in}
-use Rattle.product.proofs.Meeting.{length-table}
+use Rattle.product.proofs.Queueing.{length-table}
 
 -- in a run an epsilon comes before the ranges
 before-epsilon : (q : ℕ) (d e : Transition) → d .from ≡ q → e .from ≡ q → Before d e → e .kind ≡ 0 → d .kind ≡ 0

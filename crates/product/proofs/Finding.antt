@@ -26,7 +26,7 @@ use Rattle.sheets.proofs.Runs.{run-at}
 use Rattle.product.specs.Product.{Pair, samePair, Joint, jointsFrom, pairs}
 use Rattle.product.specs.Tables.{pairOf, tableOf, capped, Queued, Met, targets, Narrow, Ready, Within, foundIn}
 use Rattle.product.proofs.Joints.{from-out}
-use Rattle.product.proofs.Meeting.{length-table}
+use Rattle.product.proofs.Queueing.{length-table}
 use Rattle.product.proofs.Result.{startPair, map-at}
 
 -- the pair with the number i

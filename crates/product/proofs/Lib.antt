@@ -1,11 +1,11 @@
 -- The theory of the product, and the laws by which its code is proved.
 pub mod Joints
+pub mod Queueing
 pub mod Meeting
 pub mod Finding
 pub mod Blocking
-pub mod Gathering
 pub mod Adding
-pub mod Writing
+pub mod Sections
 pub mod Making
 pub mod Pairs
 pub mod Result

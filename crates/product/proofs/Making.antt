@@ -19,6 +19,7 @@ use Rattle.automata.specs.WellFormed.{mostStates, mostTransitions}
 use Rattle.labels.specs.Labels.{writeLabels}
 use Rattle.output.specs.declared.Made.{Made}
 use Rattle.output.specs.declared.Made.the-variants as made
+use Rattle.output.specs.Gathering.{Collected}
 use Rattle.output.specs.Made.{outputOf}
 use Rattle.output.specs.Output.{outputs, roomFirst}
 use Rattle.output.proofs.Answers.{made-given, made-refused, room-lacking, room-enough, room-words, room-bytes}
@@ -40,11 +41,10 @@ use Rattle.sheets.specs.Sheet.{stateCount, read, write}
 use Rattle.sheets.proofs.Accepted.{check-accepted}
 use Rattle.sheets.proofs.Checking.{sheet-passed, sheet-refused}
 use Rattle.sheets.proofs.Runs.{starts-indexed}
-use Rattle.product.specs.Gathering.{Collected}
 use Rattle.product.specs.Product.{Pair, samePair, Joint, jointsFrom, pairs, transitionOf, transitionsFrom, placeIn, acceptOf, built, blockedAt, labelOf, product, intersection}
 use Rattle.product.specs.Tables.{codeOf, tableOf, numberIn, Queued, Ready, Within, foundIn, numberAt, sheetWords, Whole}
 use Rattle.product.proofs.Answers.{answer-over, answer-blocked, answer-many, answer-given}
-use Rattle.product.proofs.Meeting.{length-table}
+use Rattle.product.proofs.Queueing.{length-table}
 use Rattle.product.proofs.Pairs.{same-decides, pairs-decides}
 
 -- the numbers of the code are the places in the finished table

@@ -2,15 +2,15 @@
 use Prim.Native.Nat.{_-_, _≤_}
 use mathlib.Core.List.{flatMap}
 use lib.ListN.{drop}
+use Rattle.output.specs.Gathering.{Rest}
 use Rattle.sheets.specs.Sheet.{stateCount, read}
 use Rattle.epsilon.specs.Eliminate.{closureRanges, allStates}
-use Rattle.output.specs.Storing.{Left}
-use Rattle.epsilon.proofs.Storing.{allLaws}
+use Rattle.epsilon.proofs.Gathering.{allLaws}
 use Rattle.epsilon.proofs.add_closures.Statement.{statement}
 use Rattle.epsilon.proofs.add_closures.Tie as tie
 
 abbrev Inv-loop : tie.InvT-loop
-Inv-loop s starts closures buf₀ n e₀ p₀ buf e p = (p ≤ stateCount s) × Left buf e (flatMap (closureRanges (read s)) (drop p (allStates (read s)))) (flatMap (closureRanges (read s)) (allStates (read s)))
+Inv-loop s starts closures buf₀ n e₀ p₀ buf e p = (p ≤ stateCount s) × Rest buf e (flatMap (closureRanges (read s)) (drop p (allStates (read s)))) (flatMap (closureRanges (read s)) (allStates (read s)))
 
 abbrev μ-loop : tie.MeasureT-loop
 μ-loop s starts closures buf₀ n e₀ p₀ buf e p = stateCount s - p

@@ -1,5 +1,5 @@
 -- `add_range` meets its contract: the record is no range, or is put into its place.
-use Rattle.epsilon.proofs.Storing.{rangeLaws}
+use Rattle.epsilon.proofs.Gathering.{rangeLaws}
 use Rattle.epsilon.proofs.add_range.Statement.{statement}
 use Rattle.epsilon.proofs.add_range.Tie as tie
 

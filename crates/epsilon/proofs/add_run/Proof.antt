@@ -3,15 +3,15 @@ use Prim.Native.Nat.{_-_, _≤_}
 use mathlib.Core.List.{_++_}
 use lib.ListN.{length, drop}
 use Rattle.automata.specs.Records.{readRecords}
+use Rattle.output.specs.Gathering.{Rest}
 use Rattle.output.specs.Ordered.{recordsIn}
 use Rattle.epsilon.specs.Eliminate.{movedTo}
-use Rattle.output.specs.Storing.{Left}
-use Rattle.epsilon.proofs.Storing.{runLaws}
+use Rattle.epsilon.proofs.Gathering.{runLaws}
 use Rattle.epsilon.proofs.add_run.Statement.{statement}
 use Rattle.epsilon.proofs.add_run.Tie as tie
 
 abbrev Inv-loop : tie.InvT-loop
-Inv-loop run p buf₀ end e₀ at₀ buf e at = (at ≤ length run) × Left buf e (movedTo p (readRecords (drop at run))) (recordsIn buf₀ 0 end ++ movedTo p (readRecords run))
+Inv-loop run p buf₀ end e₀ at₀ buf e at = (at ≤ length run) × Rest buf e (movedTo p (readRecords (drop at run))) (recordsIn buf₀ 0 end ++ movedTo p (readRecords run))
 
 abbrev μ-loop : tie.MeasureT-loop
 μ-loop run p buf₀ end e₀ at₀ buf e at = length run - at

@@ -1,0 +1,26 @@
+-- `meet_run` meets its contract: the records of the run from `at` on are left to be met.
+use Prim.Native.Nat.{_-_, _≤_}
+use mathlib.Core.List.{[], _∷_}
+use mathlib.Core.Path.{_≡_}
+use lib.ListN.{length, drop}
+use Rattle.automata.specs.Records.{recordAt, readRecords}
+use Rattle.product.specs.Tables.{Queued, targets, Narrow}
+use Rattle.product.proofs.Meeting.{runLaws, run-next}
+use Rattle.product.proofs.Queueing.{metWith}
+use Rattle.product.proofs.exploring.meet_run.Statement.{statement}
+use Rattle.product.proofs.exploring.meet_run.Tie as tie
+
+abbrev Inv-loop : tie.InvT-loop
+Inv-loop d run queue₀ numbers₀ n m₀ at₀ queue numbers m at = (at ≤ length run) × Queued queue numbers m × Narrow (readRecords (drop at run)) × (metWith queue m (targets (recordAt d 0 ∷ []) (readRecords (drop at run))) ≡ metWith queue₀ n (targets (recordAt d 0 ∷ []) (readRecords run)))
+
+abbrev μ-loop : tie.MeasureT-loop
+μ-loop d run queue₀ numbers₀ n m₀ at₀ queue numbers m at = length run - at
+
+pub meet-run-spec : {M : Type 1} → statement M
+meet-run-spec =
+    tie.close
+    (tie.spec
+    Inv-loop μ-loop (λ c. search runLaws) (λ c. search runLaws) (λ c. search runLaws) (λ c. search runLaws) (λ c. search runLaws)
+    (λ c. search runLaws) (λ c. search runLaws) (λ c κs. search runLaws) (λ c. search runLaws) (λ c. search runLaws)
+    (λ c. (search runLaws, c .before .before .before .before .meet-record .ensures .queued, search runLaws, let l = c .before .before .before .before .before .before .before .before in let i = l .before .loop .inv in let a = c .before .before .before .before .before .before .before .before .before .before .before .before .before .before .args in run-next (a .d .now) (a .run .now) _ _ _ _ _ (l .before .loop .at) (i .1) (i .3) (l .loop-test .taken) _ _ _ (c .before .before .before .before .meet-record .ensures)))
+    (λ c. search runLaws) (λ c. search runLaws) (λ c. search runLaws))

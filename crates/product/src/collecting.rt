@@ -1,0 +1,153 @@
+// The transitions of the pairs: gathered as they come, then put in order, equal ones once.
+ghost use mathlib.Core.List.{[], _∷_, _++_, map};
+ghost use mathlib.Core.Path.{_≡_};
+ghost use Prim.Native.Nat.{_≤_, _<_};
+ghost use lib.ListN.{length, getD};
+ghost use Rattle.automata.specs.Records.{recordAt, readRecords};
+ghost use Rattle.sheets.specs.Sheet.{stateCount, read};
+ghost use Rattle.output.specs.Gathering.{Open, Gathered, Collected};
+ghost use Rattle.output.specs.Ordered.{recordsIn};
+ghost use Rattle.product.specs.Product.{jointsFrom, transitionOf, transitionsFrom};
+ghost use Rattle.product.specs.Tables.{pairOf, tableOf, Narrow, Ready, Within, numberAt, links};
+use ranges::Common;
+
+// The number of the pair of p and q.
+fn number_of(numbers: &[u32], p: u32, q: u32) -> u32
+    requires { ⌜ (length (now numbers) ≡ 65536) × (p < 256) × (q < 256) ⌝ }
+    ensures { λ r. ⌜ r ≡ numberAt (now (numbers .entry)) (record { left = p; right = q }) ⌝ }
+{
+    let code = p * 256 + q;
+    numbers[code as usize]
+}
+
+// The transition of pair i by the records d and e behind the others, if they are ranges that meet. Like the functions below it answers the place
+// behind the transitions.
+fn add_joint(d: &[u32], e: &[u32], i: u32, numbers: &[u32], buf: &mut [u32], end: usize) -> usize
+    requires { ⌜ (length (now d) ≡ 5) × (length (now e) ≡ 5) × Narrow (recordAt (now d) 0 ∷ []) × Narrow (recordAt (now e) 0 ∷ []) × (length (now numbers) ≡ 65536) × Open (now buf) end ⌝ }
+    ensures { λ r. ⌜ Gathered (now (buf .exit)) r (recordsIn (now (buf .entry)) 0 end ++ links (now (numbers .entry)) i (recordAt (now (d .entry)) 0 ∷ []) (recordAt (now (e .entry)) 0 ∷ [])) ⌝ }
+{
+    if d[1] != 1 {
+        return end;
+    }
+    if e[1] != 1 {
+        return end;
+    }
+    match ranges::intersect_ranges(d[2], d[3], e[2], e[3]) {
+        Common::Range(first, last) => {
+            let to = number_of(numbers, d[4], e[4]);
+            output::gather_record(buf, end, i, 1, first, last, to)
+        }
+        Common::Nothing => end,
+    }
+}
+
+// The transitions of pair i by the record d and those of the run, until there are too many.
+fn add_run(d: &[u32], run: &[u32], i: u32, numbers: &[u32], buf: &mut [u32], end: usize) -> usize
+    requires { ⌜ (length (now d) ≡ 5) × Narrow (recordAt (now d) 0 ∷ []) × Narrow (readRecords (now run)) × (length (now numbers) ≡ 65536) × Open (now buf) end ⌝ }
+    ensures { λ r. ⌜ Gathered (now (buf .exit)) r (recordsIn (now (buf .entry)) 0 end ++ links (now (numbers .entry)) i (recordAt (now (d .entry)) 0 ∷ []) (readRecords (now (run .entry)))) ⌝ }
+{
+    let mut k = end;
+    let mut at: usize = 0;
+    while 5 <= run.len() - at {
+        k = add_joint(d, &run[at..at + 5], i, numbers, buf, k);
+        if 20480 <= k {
+            return k;
+        }
+        at += 5;
+    }
+    k
+}
+
+// The transitions of pair i by the records of two runs, until there are too many.
+fn add_runs(
+    first: &[u32],
+    second: &[u32],
+    i: u32,
+    numbers: &[u32],
+    buf: &mut [u32],
+    end: usize,
+) -> usize
+    requires { ⌜ Narrow (readRecords (now first)) × Narrow (readRecords (now second)) × (length (now numbers) ≡ 65536) × Open (now buf) end ⌝ }
+    ensures { λ r. ⌜ Gathered (now (buf .exit)) r (recordsIn (now (buf .entry)) 0 end ++ links (now (numbers .entry)) i (readRecords (now (first .entry))) (readRecords (now (second .entry)))) ⌝ }
+{
+    let mut k = end;
+    let mut at: usize = 0;
+    while 5 <= first.len() - at {
+        k = add_run(&first[at..at + 5], second, i, numbers, buf, k);
+        if 20480 <= k {
+            return k;
+        }
+        at += 5;
+    }
+    k
+}
+
+// The transitions of the i-th pair of the queue, until there are too many.
+fn add_pair(
+    a: &[u32],
+    aruns: &[u32],
+    b: &[u32],
+    bruns: &[u32],
+    queue: &[u32],
+    i: usize,
+    numbers: &[u32],
+    buf: &mut [u32],
+    end: usize,
+) -> usize
+    requires { ⌜ Ready (now a) (now aruns) × Ready (now b) (now bruns) × (i < length (now queue)) × (i < 257) × (pairOf (getD (now queue) i 0) .left < stateCount (now a)) × (pairOf (getD (now queue) i 0) .right < stateCount (now b)) × (length (now numbers) ≡ 65536) × Open (now buf) end ⌝ }
+    ensures { λ r. ⌜ Gathered (now (buf .exit)) r (recordsIn (now (buf .entry)) 0 end ++ map (transitionOf (numberAt (now (numbers .entry))) i) (jointsFrom (read (now (a .entry))) (read (now (b .entry))) (pairOf (getD (now (queue .entry)) i 0)))) ⌝ }
+{
+    let c = queue[i];
+    add_runs(
+        sheets::run(a, aruns, c / 256),
+        sheets::run(b, bruns, c % 256),
+        i as u32,
+        numbers,
+        buf,
+        end,
+    )
+}
+
+// The transitions of the first n pairs of the queue, until there are too many.
+fn add_pairs(
+    a: &[u32],
+    aruns: &[u32],
+    b: &[u32],
+    bruns: &[u32],
+    queue: &[u32],
+    n: usize,
+    numbers: &[u32],
+    buf: &mut [u32],
+) -> usize
+    requires { ⌜ Ready (now a) (now aruns) × Ready (now b) (now bruns) × (n ≤ length (now queue)) × (n ≤ 257) × Within (stateCount (now a)) (stateCount (now b)) (tableOf (now queue) n) × (length (now numbers) ≡ 65536) × (length (now buf) ≡ 20480) ⌝ }
+    ensures { λ r. ⌜ Gathered (now (buf .exit)) r (transitionsFrom (numberAt (now (numbers .entry))) (read (now (a .entry))) (read (now (b .entry))) 0 (tableOf (now (queue .entry)) n)) ⌝ }
+{
+    let mut end: usize = 0;
+    let mut i: usize = 0;
+    while i < n {
+        end = add_pair(a, aruns, b, bruns, queue, i, numbers, buf, end);
+        if 20480 <= end {
+            return end;
+        }
+        i += 1;
+    }
+    end
+}
+
+// The transitions of the first n pairs of the queue in order, equal ones once, unless there are too many.
+pub fn collect_pairs(
+    a: &[u32],
+    aruns: &[u32],
+    b: &[u32],
+    bruns: &[u32],
+    queue: &[u32],
+    n: usize,
+    numbers: &[u32],
+    buf: &mut [u32],
+) -> usize
+    requires { ⌜ Ready (now a) (now aruns) × Ready (now b) (now bruns) × (n ≤ length (now queue)) × (n ≤ 257) × Within (stateCount (now a)) (stateCount (now b)) (tableOf (now queue) n) × (length (now numbers) ≡ 65536) × (length (now buf) ≡ 20480) ⌝ }
+    ensures { λ r. ⌜ Collected (now (buf .exit)) r (transitionsFrom (numberAt (now (numbers .entry))) (read (now (a .entry))) (read (now (b .entry))) 0 (tableOf (now (queue .entry)) n)) ⌝ }
+{
+    let end = add_pairs(a, aruns, b, bruns, queue, n, numbers, buf);
+    output::collect_records(buf, end)
+}

@@ -1,0 +1,132 @@
+// Finding the pairs of states that ranges reach: a queue in which a pair is one word, and a table of the number of each pair.
+ghost use mathlib.Core.List.{[], _∷_};
+ghost use mathlib.Core.Path.{_≡_};
+ghost use Prim.Native.Nat.{_<_};
+ghost use lib.ListN.{length, getD};
+ghost use Rattle.automata.specs.Records.{recordAt, readRecords};
+ghost use Rattle.automata.specs.WellFormed.{mostStates};
+ghost use Rattle.search.specs.Search.{table};
+ghost use Rattle.sheets.specs.Sheet.{stateCount, read};
+ghost use Rattle.product.specs.Product.{pairs};
+ghost use Rattle.product.specs.Tables.{pairOf, tableOf, Queued, Met, targets, Narrow, Ready, Within, foundIn};
+use ranges::Common;
+
+// The pair of p and q gets the next number, if it has none and there is room. The number of pairs afterwards.
+fn meet_pair(queue: &mut [u32], numbers: &mut [u32], n: usize, p: u32, q: u32) -> usize
+    requires { ⌜ Queued (now queue) (now numbers) n × (p < 256) × (q < 256) ⌝ }
+    ensures { λ r. ⌜ Met (tableOf (now (queue .entry)) n) (record { left = p; right = q } ∷ []) (now (queue .exit)) (now (numbers .exit)) r ⌝ }
+{
+    if 256 < n {
+        return n;
+    }
+    let code = p * 256 + q;
+    let at = code as usize;
+    if numbers[at] != 257 {
+        return n;
+    }
+    queue[n] = code;
+    numbers[at] = n as u32;
+    n + 1
+}
+
+// The pair to which the records d and e lead is met, if they are ranges that meet.
+fn meet_record(d: &[u32], e: &[u32], queue: &mut [u32], numbers: &mut [u32], n: usize) -> usize
+    requires { ⌜ Queued (now queue) (now numbers) n × (length (now d) ≡ 5) × (length (now e) ≡ 5) × Narrow (recordAt (now d) 0 ∷ []) × Narrow (recordAt (now e) 0 ∷ []) ⌝ }
+    ensures { λ r. ⌜ Met (tableOf (now (queue .entry)) n) (targets (recordAt (now (d .entry)) 0 ∷ []) (recordAt (now (e .entry)) 0 ∷ [])) (now (queue .exit)) (now (numbers .exit)) r ⌝ }
+{
+    if d[1] != 1 {
+        return n;
+    }
+    if e[1] != 1 {
+        return n;
+    }
+    match ranges::intersect_ranges(d[2], d[3], e[2], e[3]) {
+        Common::Range(_, _) => meet_pair(queue, numbers, n, d[4], e[4]),
+        Common::Nothing => n,
+    }
+}
+
+// The pairs to which the record d and those of the run lead are met.
+fn meet_run(d: &[u32], run: &[u32], queue: &mut [u32], numbers: &mut [u32], n: usize) -> usize
+    requires { ⌜ Queued (now queue) (now numbers) n × (length (now d) ≡ 5) × Narrow (recordAt (now d) 0 ∷ []) × Narrow (readRecords (now run)) ⌝ }
+    ensures { λ r. ⌜ Met (tableOf (now (queue .entry)) n) (targets (recordAt (now (d .entry)) 0 ∷ []) (readRecords (now (run .entry)))) (now (queue .exit)) (now (numbers .exit)) r ⌝ }
+{
+    let mut m = n;
+    let mut at: usize = 0;
+    while 5 <= run.len() - at {
+        m = meet_record(d, &run[at..at + 5], queue, numbers, m);
+        at += 5;
+    }
+    m
+}
+
+// The pairs to which the records of two runs lead are met, the first's outermost.
+fn meet_runs(
+    first: &[u32],
+    second: &[u32],
+    queue: &mut [u32],
+    numbers: &mut [u32],
+    n: usize,
+) -> usize
+    requires { ⌜ Queued (now queue) (now numbers) n × Narrow (readRecords (now first)) × Narrow (readRecords (now second)) ⌝ }
+    ensures { λ r. ⌜ Met (tableOf (now (queue .entry)) n) (targets (readRecords (now (first .entry))) (readRecords (now (second .entry)))) (now (queue .exit)) (now (numbers .exit)) r ⌝ }
+{
+    let mut m = n;
+    let mut at: usize = 0;
+    while 5 <= first.len() - at {
+        if 256 < m {
+            return m;
+        }
+        m = meet_run(&first[at..at + 5], second, queue, numbers, m);
+        at += 5;
+    }
+    m
+}
+
+// The pairs to which the i-th pair of the queue leads are met.
+fn visit_pair(
+    a: &[u32],
+    aruns: &[u32],
+    b: &[u32],
+    bruns: &[u32],
+    queue: &mut [u32],
+    numbers: &mut [u32],
+    n: usize,
+    i: usize,
+) -> usize
+    requires { ⌜ Ready (now a) (now aruns) × Ready (now b) (now bruns) × Queued (now queue) (now numbers) n × (i < n) × Within (stateCount (now a)) (stateCount (now b)) (tableOf (now queue) n) ⌝ }
+    ensures { λ r. ⌜ Met (tableOf (now (queue .entry)) n) (pairs (read (now (a .entry))) (read (now (b .entry))) .next (pairOf (getD (now (queue .entry)) i 0))) (now (queue .exit)) (now (numbers .exit)) r ⌝ }
+{
+    let c = queue[i];
+    meet_runs(
+        sheets::run(a, aruns, c / 256),
+        sheets::run(b, bruns, c % 256),
+        queue,
+        numbers,
+        n,
+    )
+}
+
+// The pairs of states that ranges reach, as a queue meets them; how many they are, or 257 where they are more than 256.
+pub fn find_pairs(
+    a: &[u32],
+    aruns: &[u32],
+    b: &[u32],
+    bruns: &[u32],
+    queue: &mut [u32],
+    numbers: &mut [u32],
+) -> usize
+    requires { ⌜ Ready (now a) (now aruns) × Ready (now b) (now bruns) × Queued (now queue) (now numbers) 0 ⌝ }
+    ensures { λ r. ⌜ Queued (now (queue .exit)) (now (numbers .exit)) r × Within (stateCount (now (a .entry))) (stateCount (now (b .entry))) (tableOf (now (queue .exit)) r) × (foundIn (now (queue .exit)) r ≡ table (pairs (read (now (a .entry))) (read (now (b .entry)))) mostStates) ⌝ }
+{
+    let mut n = meet_pair(queue, numbers, 0, a[1], b[1]);
+    let mut i: usize = 0;
+    while i < n {
+        if 256 < n {
+            return n;
+        }
+        n = visit_pair(a, aruns, b, bruns, queue, numbers, n, i);
+        i += 1;
+    }
+    n
+}

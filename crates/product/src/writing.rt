@@ -1,0 +1,118 @@
+// The outputs from the finished table of pairs; nothing is written before the number of transitions is known.
+ghost use mathlib.Core.Bool.{cond};
+ghost use mathlib.Core.List.{map};
+ghost use mathlib.Core.Path.{_≡_};
+ghost use Prim.Native.Nat.{_+_, _≤_, _<_};
+ghost use lib.Dec.{eqb};
+ghost use lib.ListN.{length};
+ghost use Rattle.sheets.specs.Accepted.{Accepted};
+ghost use Rattle.sheets.specs.Sheet.{stateCount, read};
+ghost use Rattle.lists.specs.Written.{Written};
+ghost use Rattle.labels.specs.Labels.{writeLabels};
+ghost use Rattle.output.specs.Made.{outputOf};
+ghost use Rattle.output.specs.Output.{outputs};
+ghost use Rattle.product.specs.Product.{acceptOf, labelOf, product};
+ghost use Rattle.product.specs.Tables.{pairOf, tableOf, Queued, Ready, Within, sheetWords, Whole};
+use output::Made;
+use refusal::Refusal;
+use refusal::StateRefusal;
+
+// The accept word of a pair from those of its states.
+fn both_accept(x: u32, y: u32) -> u32
+    ensures { λ r. ⌜ r ≡ cond (eqb y 0) 0 x ⌝ }
+{
+    if y == 0 {
+        return 0;
+    }
+    x
+}
+
+// The accept word of the pair of the word c.
+fn accept_word(a: &[u32], b: &[u32], c: u32) -> u32
+    requires { ⌜ Accepted (now a) × Accepted (now b) × (pairOf c .left < stateCount (now a)) × (pairOf c .right < stateCount (now b)) ⌝ }
+    ensures { λ r. ⌜ r ≡ acceptOf (read (now (a .entry))) (read (now (b .entry))) (pairOf c) ⌝ }
+{
+    let p = (c / 256) as usize;
+    let q = (c % 256) as usize;
+    both_accept(a[p + 3], b[q + 3])
+}
+
+// The accept words of the first n pairs of the queue at a place; the place behind them.
+fn put_accept_words(
+    a: &[u32],
+    b: &[u32],
+    queue: &[u32],
+    n: usize,
+    out: &mut [u32],
+    at: usize,
+) -> usize
+    requires { ⌜ Accepted (now a) × Accepted (now b) × (n ≤ length (now queue)) × Within (stateCount (now a)) (stateCount (now b)) (tableOf (now queue) n) × (at + n ≤ length (now out)) ⌝ }
+    ensures { λ r. ⌜ Written (now (out .entry)) at (map (acceptOf (read (now (a .entry))) (read (now (b .entry)))) (tableOf (now (queue .entry)) n)) (now (out .exit)) r ⌝ }
+{
+    let mut end = at;
+    let mut i: usize = 0;
+    while i < n {
+        out[end] = accept_word(a, b, queue[i]);
+        end += 1;
+        i += 1;
+    }
+    end
+}
+
+// The sheet of the product from its pairs and the records of its transitions; its length.
+fn write_sheet(
+    a: &[u32],
+    b: &[u32],
+    queue: &[u32],
+    n: usize,
+    records: &[u32],
+    out: &mut [u32],
+) -> usize
+    requires { ⌜ Accepted (now a) × Accepted (now b) × (n ≤ length (now queue)) × (n ≤ 256) × Within (stateCount (now a)) (stateCount (now b)) (tableOf (now queue) n) × (length (now records) ≤ 10240) × (10500 ≤ length (now out)) ⌝ }
+    ensures { λ r. ⌜ Written (now (out .entry)) 0 (sheetWords (map (acceptOf (read (now (a .entry))) (read (now (b .entry)))) (tableOf (now (queue .entry)) n)) n (now (records .entry))) (now (out .exit)) r ⌝ }
+{
+    let states = output::put_start(out, 0, n as u32);
+    let counts = put_accept_words(a, b, queue, n, out, states);
+    let first = output::put_word(out, counts, (records.len() / 5) as u32);
+    output::put_words(out, first, records)
+}
+
+// The labels of the first n pairs of the queue; how many bytes they take.
+fn write_labels(queue: &[u32], n: usize, names: &mut [u8]) -> usize
+    requires { ⌜ (n ≤ length (now queue)) × (n ≤ 256) × Within 256 256 (tableOf (now queue) n) × (16642 ≤ length (now names)) ⌝ }
+    ensures { λ r. ⌜ Written (now (names .entry)) 0 (writeLabels (map labelOf (tableOf (now (queue .entry)) n))) (now (names .exit)) r ⌝ }
+{
+    let mut at = labels::put_count(names, n);
+    let mut i: usize = 0;
+    while i < n {
+        let c = queue[i];
+        at = labels::put_pair(names, at, c / 256, c % 256);
+        i += 1;
+    }
+    at
+}
+
+// The outputs from the finished table: the first n pairs of the queue, among which none is blocked.
+pub fn write_product(
+    a: &[u32],
+    aruns: &[u32],
+    b: &[u32],
+    bruns: &[u32],
+    queue: &[u32],
+    n: usize,
+    numbers: &[u32],
+    out: &mut [u32],
+    names: &mut [u8],
+) -> Made
+    requires { ⌜ Ready (now a) (now aruns) × Ready (now b) (now bruns) × Queued (now queue) (now numbers) n × (n ≤ 256) × Within (stateCount (now a)) (stateCount (now b)) (tableOf (now queue) n) × Whole (read (now a)) (read (now b)) (tableOf (now queue) n) × (10500 ≤ length (now out)) × (16642 ≤ length (now names)) ⌝ }
+    ensures { λ r. ⌜ outputOf r (now (out .exit)) (now (names .exit)) ≡ outputs (now (out .entry)) (now (names .entry)) (product (read (now (a .entry))) (read (now (b .entry)))) ⌝ }
+{
+    let mut buf = [0u32; 20480];
+    let behind = crate::collecting::collect_pairs(a, aruns, b, bruns, queue, n, numbers, &mut buf);
+    if 10240 < behind {
+        return Made::Refused(Refusal::State(StateRefusal::Transitions));
+    }
+    let words = write_sheet(a, b, queue, n, &buf[..behind], out);
+    let bytes = write_labels(queue, n, names);
+    Made::Lengths(words, bytes)
+}
