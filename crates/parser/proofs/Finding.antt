@@ -14,7 +14,6 @@ use Rattle.buckets.proofs.Walking.{Walk, walk-begin, walk-next, walk-less, walk
 use Rattle.grammar.specs.Places.{spelled, Spelt}
 use Rattle.labels.specs.Labels.{sameLabel}
 use Rattle.labels.proofs.Same.{same-equal}
-use Rattle.lists.specs.Lists.{tabulate}
 use Rattle.lists.proofs.Lists.{tabulate-at, length-tabulate, map-tabulate}
 use Rattle.lists.proofs.Parts.{drop-at}
 use Rattle.lists.proofs.Tests.{test}

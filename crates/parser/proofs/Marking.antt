@@ -1,28 +1,26 @@
 -- Laws of the accept words: how they are filled, and that they are those of the states.
 use Prim.Native.Nat.{ℕ, zero, suc, _≤_, _<_}
 use mathlib.Core.Bool.{Bool, true, false, cond, _||_}
-use mathlib.Core.List.{List, [], _∷_, _++_, map, List·Memᴰ·head, List·Memᴰ·tail, List·Memᴰ·append-cases, List·Memᴰ·eq-of-singleton}
+use mathlib.Core.List.{List, [], _∷_, map}
 use mathlib.Core.Logic.{⊎-elim}
-use mathlib.Core.Path.{_≡_, refl, sym, _∙_, ap, subst}
+use mathlib.Core.Path.{_≡_, refl, sym, _∙_, ap}
 use native.Mathlib.Omega.{arith}
 use borrow.Author.Needs.{needs}
-use borrow.Author.Tests.{lt-ltb, le-ltb, ltb-false, eq-eqb, ne-eqb, eqb-true, eqb-false}
+use borrow.Author.Tests.{lt-ltb, le-ltb, eqb-true, eqb-false}
 use lib.Dec.{ltb, eqb}
-use lib.ListN.{length, getD, take, set, replicate, length-set, length-map, length-replicate}
+use lib.ListN.{length, getD, take, set, length-set, length-map}
 use lib.Seq.{getD-set-same, getD-set-other, getD-take, ext-getD, length-take-le}
 use Rattle.lists.specs.Lists.{any, Distinct}
 use Rattle.lists.proofs.Tests.{test}
 use Rattle.labels.specs.Labels.{sameLabel}
-use Rattle.labels.proofs.Same.{same-equal, equal-same}
 use Rattle.parser.specs.Accepts.{markOne, markAll}
-use Rattle.grammar.specs.Grammar.{Items, nextName, nextNames, Told}
+use Rattle.grammar.specs.Grammar.{Items, nextName, nextNames}
 use Rattle.parser.specs.Memory.{Zeros}
 use Rattle.parser.specs.Names.{Table, namesIn}
 use Rattle.grammar.specs.Places.{spelled}
-use Rattle.parser.specs.Pattern.{indexOf, addName, addNames, statesOf, acceptWord}
+use Rattle.parser.specs.Pattern.{indexOf, acceptWord}
 use Rattle.grammar.specs.Pieces.{nameOf}
 use Rattle.grammar.specs.declared.tokens.Span.{Span}
-use Rattle.grammar.specs.declared.pieces.Arrow.{Arrow}
 use Rattle.grammar.specs.declared.tokens.NamePiece.{NamePiece}
 use Rattle.grammar.specs.declared.tokens.NamePiece.the-variants.{Read as NameRead, Nothing as NoName}
 use Rattle.grammar.proofs.Many.{names-ended, names-more, names-less, name-spelt}

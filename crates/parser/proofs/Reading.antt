@@ -7,17 +7,16 @@ use native.Mathlib.Omega.{arith}
 use borrow.Author.Needs.{needs}
 use borrow.Author.Tests.{le-ltb, lt-ltb}
 use lib.Dec.{ltb}
-use lib.ListN.{length, take, length-map}
+use lib.ListN.{length, take, drop, length-map, length-take, length-drop}
 use lib.Seq.{length-take-le}
 use Rattle.lists.specs.Lists.{tabulate}
 use Rattle.lists.specs.Written.{Written}
 use Rattle.lists.proofs.Written.{written-append}
-use Rattle.automata.specs.Automaton.{Transition}
 use Rattle.automata.specs.Records.{writeRecords}
 use Rattle.automata.proofs.Records.{length-write}
 use Rattle.labels.specs.Labels.{writeLabels}
 use Rattle.output.proofs.Answers.{room-lacking, room-enough, room-words, room-bytes}
-use Rattle.output.specs.Ordered.{Listed}
+use Rattle.output.specs.Gathering.{Collected}
 use Rattle.output.specs.Output.{Pattern, roomFirst}
 use Rattle.refusal.specs.Answer.{given}
 use Rattle.refusal.specs.declared.InputRefusal.the-variants.{Grammar}
@@ -32,8 +31,8 @@ use Rattle.parser.specs.Memory.{Zeros}
 use Rattle.parser.specs.Names.{Table, namesIn, Addition}
 use Rattle.parser.specs.Parsed.{Output, parsed, parsedOf}
 use Rattle.grammar.specs.Pieces.{textOf}
-use Rattle.parser.specs.Records.{Recording}
-use Rattle.parser.specs.Pattern.{indexOf, addName, addNames, statesOf, acceptWord, automatonOf, fewTransitions, fewStates, meaning, parse}
+use Rattle.parser.specs.Records.{Recorded}
+use Rattle.parser.specs.Pattern.{indexOf, addName, addNames, statesOf, transitionOf, acceptWord, automatonOf, fewTransitions, fewStates, meaning, parse}
 use Rattle.parser.specs.declared.Parsed.the-variants.{Read, Refused}
 use Rattle.grammar.specs.declared.tokens.Cursor.{Cursor}
 use Rattle.grammar.specs.declared.text.Layout.{Layout}
@@ -41,10 +40,7 @@ use Rattle.grammar.specs.declared.text.TextPiece.{TextPiece}
 use Rattle.grammar.specs.declared.text.TextPiece.the-variants.{Read as TextRead, Nothing as NoText}
 use Rattle.parser.specs.declared.names.Added.{Added}
 use Rattle.parser.specs.declared.names.Added.the-variants.{Kept, Full}
-use Rattle.parser.specs.declared.records.Recorded.{Recorded}
-use Rattle.parser.specs.declared.records.Recorded.the-variants.{Kept as RecordedKept, Full as RecordedFull}
 use Rattle.grammar.proofs.Progress.{FirstSpelt, leads, holds-found, text-holds}
-use Rattle.parser.proofs.Recording.{recorded-listed, recorded-few, recorded-full}
 use Rattle.parser.proofs.Finding.{names-count}
 use Rattle.parser.proofs.Marking.{marks-words}
 use Rattle.parser.proofs.Tables.{table-none, added-table, added-names, added-full}
@@ -83,7 +79,7 @@ module _ (t : List ℕ) (l : Layout) (b : List ℕ) (i : ℕ) (k : Table t b i) 
   words-marked vs ws z h =
       ap₂ take (sym (names-count t b i)) h ∙ marks-words t (namesIn t b i) (k .distinct) vs _ z (omega (arith, names-count t b i, k .few))
 
-  pub pattern-written : (us ws rs o o′ n n′ : List ℕ) (c w j : ℕ) → Zeros 256 us → ws ≡ markAll t (namesIn t b i) us (l .first ∷ nextNames t (l .more .at) .items) → rs ≡ writeRecords (arrowsOf t l (namesIn t b i)) →
+  pub pattern-written : (us ws rs o o′ n n′ : List ℕ) (c w j : ℕ) → Zeros 256 us → ws ≡ markAll t (namesIn t b i) us (l .first ∷ nextNames t (l .more .at) .items) → Recorded rs (arrowsOf t l (namesIn t b i)) →
       Written o 0 (1 ∷ 0 ∷ length (take i ws) ∷ (take i ws ++ length rs / 5 ∷ rs)) o′ w → Written n 0 (writeLabels (namesIn t b i)) n′ j →
       parsedOf (Read c w j) o′ n′ ≡ parsed o n (given (record { pattern = patternAt t l (namesIn t b i); read = c }))
   unfolding automatonOf
@@ -93,7 +89,7 @@ module _ (t : List ℕ) (l : Layout) (b : List ℕ) (i : ℕ) (k : Table t b i) 
       let x : take i ws ≡ vs = words-marked us ws u h in
       let y : length vs ≡ length (namesIn t b i) = length-map (namesIn t b i) (acceptWord t (l .first ∷ nextNames t (l .more .at) .items)) in
       let z : length (writeRecords es) / 5 ≡ length es = omega (arith, length-write es) in
-      parsed-given o n o′ n′ c w j (patternAt t l (namesIn t b i)) (rw (x, g, y, z) at p) q
+      parsed-given o n o′ n′ c w j (patternAt t l (namesIn t b i)) (rw (x, g .words, y, z) at p) q
 
 -- as many words as names
 module _ (t b : List ℕ) (i : ℕ) (k : Table t b i) (ws : List ℕ) (h : length ws ≡ 256) where
@@ -103,26 +99,19 @@ module _ (t b : List ℕ) (i : ℕ) (k : Table t b i) (ws : List ℕ) (h : lengt
   pub words-few : length (take i ws) ≤ 256
   words-few = omega (arith, words-counted, k .few)
 
--- the records at the front of the table
-module _ (buf : List ℕ) (end : ℕ) (es : List Transition) (h : Listed buf 0 end es) where
-  pub records-part : take end buf ≡ writeRecords es
-  records-part = let z : end - 0 ≡ end = omega arith in ap (λ (n : ℕ). take n buf) (sym z) ∙ h .words
-
-  pub records-counted : end ≡ length (take end buf)
-  records-counted = sym (length-take-le end buf (h .inside))
-
-  pub records-few : length es ≤ 2048 → length (take end buf) ≤ 10240
-  records-few f = omega (arith, records-counted, h .behind)
-
 -- 22, or the pattern
-module _ (t : List ℕ) (l : Layout) (ls : List (List ℕ)) (o n : List ℕ) (c : ℕ) (buf : List ℕ) (r : Recorded) (a : Recording (arrowsOf t l ls) buf r) where
-  pub over-22 : r ≡ RecordedFull → parsedOf (Refused (State Transitions)) o n ≡ parsed o n (fewTransitions (patternAt t l ls) c)
+module _ (t : List ℕ) (l : Layout) (ls : List (List ℕ)) (buf : List ℕ) (end : ℕ) (a : Collected buf end (map (transitionOf t ls) (transitions t (l .arrows .at) .items))) where
+  pub over-22 : 10240 < end → (o n : List ℕ) (c : ℕ) → parsedOf (Refused (State Transitions)) o n ≡ parsed o n (fewTransitions (patternAt t l ls) c)
   unfolding parsed fewTransitions automatonOf
-  over-22 e = sym (rw (lt-ltb 2048 (length (arrowsOf t l ls)) (recorded-full _ buf r a e)))
+  over-22 h o n c = sym (rw (lt-ltb 2048 (length (arrowsOf t l ls)) (a .over h)))
 
-  pub within-22 : (end : ℕ) → r ≡ RecordedKept end → (x : Output) → x ≡ parsed o n (given (record { pattern = patternAt t l ls; read = c })) → x ≡ parsed o n (fewTransitions (patternAt t l ls) c)
-  unfolding fewTransitions automatonOf
-  within-22 end e x q = q ∙ sym (rw (le-ltb 2048 (length (arrowsOf t l ls)) (recorded-few _ buf r a end e)))
+  module _ (h : end ≤ 10240) where
+    pub few-22 : Recorded (take (end - 0) (drop 0 buf)) (arrowsOf t l ls)
+    few-22 = record { words = a .listed h .words; few = simp (length-take, length-drop) (omega arith) }
+
+    pub within-22 : (o n : List ℕ) (c : ℕ) (x : Output) → x ≡ parsed o n (given (record { pattern = patternAt t l ls; read = c })) → x ≡ parsed o n (fewTransitions (patternAt t l ls) c)
+    unfolding fewTransitions automatonOf
+    within-22 o n c x q = q ∙ sym (rw (le-ltb 2048 (length (arrowsOf t l ls)) (omega (arith, a .listed h .behind))))
 
 -- 21, or what follows
 module _ (t : List ℕ) (l : Layout) (o n : List ℕ) (c : ℕ) (b : List ℕ) (r : Added) (a : Addition t (statesOf t (toldAt t l)) b r) where
@@ -166,7 +155,7 @@ module _ (t o n : List ℕ) (f : Bool) (room : f ≡ (ltb (length o) 10500 || lt
       unfolding parse
       text-read x q = q ∙ sym (ap (parsed o n) (room-enough o n (parse t) f room h ∙ ap (meaning t) whole))
 
-pub ruleset recordedLaws = (over-22, within-22, recorded-listed, recorded-few, records-part, records-few, needs)
+pub ruleset recordedLaws = (over-22, few-22, within-22, needs)
 
 pub ruleset addedLaws = (over-21, within-21, added-table, needs)
 

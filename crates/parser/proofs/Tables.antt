@@ -3,7 +3,7 @@ use Prim.Native.Nat.{ℕ, suc, _+_, _-_, _≤_, _<_}
 use mathlib.Core.Bool.{Bool, true, false, cond}
 use mathlib.Core.List.{List, [], _∷_, _++_, map}
 use mathlib.Core.Logic.{⊎-elim}
-use mathlib.Core.Path.{_≡_, refl, sym, _∙_, ap, ap₂, subst}
+use mathlib.Core.Path.{_≡_, sym, _∙_, ap, ap₂, subst}
 use native.Mathlib.Omega.{arith}
 use mir.Syntax.{w32}
 use mir.Val.{Fits}
@@ -12,13 +12,13 @@ use borrow.Author.Tests.{lt-ltb, le-ltb, eqb-true, eqb-false}
 use lib.Dec.{ltb, eqb}
 use lib.ListN.{length, getD, set, length-set, length-append, length-take, length-drop, length-map}
 use lib.Seq.{getD-set-same, getD-set-other}
-use Rattle.buckets.specs.Buckets.{Entered, entered}
+use Rattle.buckets.specs.Buckets.{Entered}
 use Rattle.buckets.proofs.Entering.{entered-none, entered-kept, entered-next, entered-behind, length-entered}
 use Rattle.grammar.specs.Places.{spelled, Spelt}
 use Rattle.grammar.specs.declared.tokens.Span.{Span}
 use Rattle.grammar.specs.declared.pieces.Arrow.{Arrow}
 use Rattle.labels.specs.Labels.{Label}
-use Rattle.lists.specs.Lists.{tabulate, Distinct, none}
+use Rattle.lists.specs.Lists.{tabulate, none}
 use Rattle.lists.proofs.Lists.{tabulate-ext, tabulate-end, map-append}
 use Rattle.lists.proofs.Tests.{test}
 use Rattle.parser.specs.Memory.{Zeros}

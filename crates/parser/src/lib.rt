@@ -3,7 +3,6 @@ ghost use mathlib.Core.List.{_∷_, _++_};
 ghost use mathlib.Core.Path.{_≡_};
 ghost use Prim.Native.Nat.{_+_, _/_, _≤_, _<_};
 ghost use lib.ListN.{length};
-ghost use Rattle.automata.specs.Records.{writeRecords};
 ghost use Rattle.labels.specs.Labels.{entry, writeLabels};
 ghost use Rattle.lists.specs.Written.{Written};
 ghost use Rattle.output.specs.Output.{roomFirst};
@@ -12,13 +11,13 @@ ghost use Rattle.grammar.specs.Places.{spelled, Spelt, toldAt, Laid};
 ghost use Rattle.parser.specs.Layout.{arrowsOf, patternAt};
 ghost use Rattle.parser.specs.Memory.{Zeros};
 ghost use Rattle.parser.specs.Names.{spanAt, namesIn, Table, Addition};
+ghost use Rattle.parser.specs.Records.{Recorded};
 ghost use Rattle.parser.specs.Parsed.{parsedOf, parsed};
 ghost use Rattle.parser.specs.Pattern.{statesOf, fewTransitions, fewStates, parse};
 use grammar::Cursor;
 use grammar::Layout;
 use grammar::TextPiece;
 use names::Added;
-use records::Recorded;
 use refusal::InputRefusal;
 use refusal::Refusal;
 use refusal::StateRefusal;
@@ -92,7 +91,7 @@ fn write_pattern(
     names: &mut [u8],
 ) -> Parsed
     requires { ⌜ Table (now text) (now t) n × Laid (now text) l ⌝ }
-    requires { ⌜ (now records ≡ writeRecords (arrowsOf (now text) l (namesIn (now text) (now t) n))) × (length (now records) ≤ 10240) × Zeros 256 (now words) ⌝ }
+    requires { ⌜ Recorded (now records) (arrowsOf (now text) l (namesIn (now text) (now t) n)) × Zeros 256 (now words) ⌝ }
     requires { ⌜ (10500 ≤ length (now out)) × (16642 ≤ length (now names)) ⌝ }
     ensures { λ r. ⌜ parsedOf r (now (out .exit)) (now (names .exit)) ≡ parsed (now (out .entry)) (now (names .entry)) (given (record { pattern = patternAt (now (text .entry)) l (namesIn (now (text .entry)) (now (t .entry)) n); read = c .at })) ⌝ }
 {
@@ -115,14 +114,15 @@ fn with_names(
     names: &mut [u8],
 ) -> Parsed
     requires { ⌜ Table (now text) (now t) n × Laid (now text) l ⌝ }
-    requires { ⌜ (length (now buf) ≡ 10245) × Zeros 256 (now words) ⌝ }
+    requires { ⌜ (length (now buf) ≡ 20480) × Zeros 256 (now words) ⌝ }
     requires { ⌜ (10500 ≤ length (now out)) × (16642 ≤ length (now names)) ⌝ }
     ensures { λ r. ⌜ parsedOf r (now (out .exit)) (now (names .exit)) ≡ parsed (now (out .entry)) (now (names .entry)) (fewTransitions (patternAt (now (text .entry)) l (namesIn (now (text .entry)) (now (t .entry)) n)) (c .at)) ⌝ }
 {
-    let Recorded::Kept(end) = records::add_records(text, l.arrows, t, n, buf) else {
+    let end = records::collect(text, l.arrows, t, n, buf);
+    if 10240 < end {
         return Parsed::Refused(Refusal::State(StateRefusal::Transitions));
-    };
-    write_pattern(text, l, c, t, n, &buf[..end], words, out, names)
+    }
+    write_pattern(text, l, c, t, n, &buf[0..end], words, out, names)
 }
 
 // The outputs of a text of the grammar, or 21 or 22, by tables that are lent.
@@ -136,7 +136,7 @@ fn with_tables(
     out: &mut [u32],
     names: &mut [u8],
 ) -> Parsed
-    requires { ⌜ Laid (now text) l × Zeros 1024 (now t) × (length (now buf) ≡ 10245) × Zeros 256 (now words) ⌝ }
+    requires { ⌜ Laid (now text) l × Zeros 1024 (now t) × (length (now buf) ≡ 20480) × Zeros 256 (now words) ⌝ }
     requires { ⌜ (10500 ≤ length (now out)) × (16642 ≤ length (now names)) ⌝ }
     ensures { λ r. ⌜ parsedOf r (now (out .exit)) (now (names .exit)) ≡ parsed (now (out .entry)) (now (names .entry)) (fewStates (now (text .entry)) (toldAt (now (text .entry)) l) (c .at) (statesOf (now (text .entry)) (toldAt (now (text .entry)) l))) ⌝ }
 {
@@ -153,7 +153,7 @@ fn with_layout(text: &[u8], l: Layout, c: Cursor, out: &mut [u32], names: &mut [
     ensures { λ r. ⌜ parsedOf r (now (out .exit)) (now (names .exit)) ≡ parsed (now (out .entry)) (now (names .entry)) (fewStates (now (text .entry)) (toldAt (now (text .entry)) l) (c .at) (statesOf (now (text .entry)) (toldAt (now (text .entry)) l))) ⌝ }
 {
     let mut t = [0usize; 1024];
-    let mut buf = [0u32; 10245];
+    let mut buf = [0u32; 20480];
     let mut words = [0u32; 256];
     with_tables(text, l, c, &mut t, &mut buf, &mut words, out, names)
 }

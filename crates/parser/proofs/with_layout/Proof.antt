@@ -11,4 +11,4 @@ with-layout-spec =
     tie.close
     (tie.spec (λ c. search needs) (λ c. search needs) (λ c. search needs)
     (λ c κs. let p = c .before .before .before .before .before .before .before .before .pre in
-    ((p .0, zeros 1024, length-replicate {A = ℕ} 10245 0, zeros 256), p .1)) (λ c. search needs) (λ c. search needs) (λ c. search needs))
+    ((p .0, zeros 1024, length-replicate {A = ℕ} 20480 0, zeros 256), p .1)) (λ c. search needs) (λ c. search needs) (λ c. search needs))
