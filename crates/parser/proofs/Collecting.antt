@@ -6,16 +6,16 @@ use native.Mathlib.Omega.{arith}
 use borrow.Author.Needs.{needs}
 use lib.ListN.{length}
 use Rattle.grammar.specs.Grammar.{space, transition, Items, transitions}
-use Rattle.parser.specs.Names.{Table, namesIn, Addition, kept, full}
 use Rattle.grammar.specs.Places.{spelled}
-use Rattle.parser.specs.Pattern.{addName, addNames}
 use Rattle.grammar.specs.Pieces.{arrowOf}
 use Rattle.grammar.specs.declared.pieces.Arrow.{Arrow}
 use Rattle.grammar.specs.declared.pieces.ArrowPiece.{ArrowPiece}
 use Rattle.grammar.specs.declared.pieces.ArrowPiece.the-variants.{Read as ArrowRead, Nothing as NoArrow}
+use Rattle.grammar.proofs.Many.{arrows-ended, arrows-more, arrows-less, arrow-drawn}
+use Rattle.parser.specs.Names.{Table, namesIn, Addition, kept, full}
+use Rattle.parser.specs.Pattern.{addName, addNames}
 use Rattle.parser.specs.declared.names.Added.{Added}
 use Rattle.parser.specs.declared.names.Added.the-variants.{Kept, Full}
-use Rattle.grammar.proofs.Many.{arrows-ended, arrows-more, arrows-less, arrow-drawn}
 use Rattle.parser.proofs.Tables.{added-table, added-names, added-full, names-longer}
 
 -- the table b has the names up to the place, and p is what is read there

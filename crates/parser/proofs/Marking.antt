@@ -10,20 +10,20 @@ use borrow.Author.Tests.{lt-ltb, le-ltb, eqb-true, eqb-false}
 use lib.Dec.{ltb, eqb}
 use lib.ListN.{length, getD, take, set, length-set, length-map}
 use lib.Seq.{getD-set-same, getD-set-other, getD-take, ext-getD, length-take-le}
-use Rattle.lists.specs.Lists.{any, Distinct}
-use Rattle.lists.proofs.Tests.{test}
-use Rattle.labels.specs.Labels.{sameLabel}
-use Rattle.parser.specs.Accepts.{markOne, markAll}
 use Rattle.grammar.specs.Grammar.{Items, nextName, nextNames}
-use Rattle.parser.specs.Memory.{Zeros}
-use Rattle.parser.specs.Names.{Table, namesIn}
 use Rattle.grammar.specs.Places.{spelled}
-use Rattle.parser.specs.Pattern.{indexOf, acceptWord}
 use Rattle.grammar.specs.Pieces.{nameOf}
 use Rattle.grammar.specs.declared.tokens.Span.{Span}
 use Rattle.grammar.specs.declared.tokens.NamePiece.{NamePiece}
 use Rattle.grammar.specs.declared.tokens.NamePiece.the-variants.{Read as NameRead, Nothing as NoName}
 use Rattle.grammar.proofs.Many.{names-ended, names-more, names-less, name-spelt}
+use Rattle.lists.specs.Lists.{any, Distinct}
+use Rattle.lists.proofs.Tests.{test}
+use Rattle.labels.specs.Labels.{sameLabel}
+use Rattle.parser.specs.Accepts.{markOne, markAll}
+use Rattle.parser.specs.Memory.{Zeros}
+use Rattle.parser.specs.Names.{Table, namesIn}
+use Rattle.parser.specs.Pattern.{indexOf, acceptWord}
 use Rattle.parser.proofs.Finding.{names-count}
 use Rattle.parser.proofs.Indexing.{index-same}
 

@@ -9,6 +9,14 @@ use borrow.Author.Tests.{le-ltb, lt-ltb}
 use lib.Dec.{ltb}
 use lib.ListN.{length, take, drop, length-map, length-take, length-drop}
 use lib.Seq.{length-take-le}
+use Rattle.grammar.specs.Grammar.{found, transitions, nextNames, wholeText}
+use Rattle.grammar.specs.Places.{spelled, Spelt, toldAt, Laid}
+use Rattle.grammar.specs.Pieces.{textOf}
+use Rattle.grammar.specs.declared.tokens.Cursor.{Cursor}
+use Rattle.grammar.specs.declared.text.Layout.{Layout}
+use Rattle.grammar.specs.declared.text.TextPiece.{TextPiece}
+use Rattle.grammar.specs.declared.text.TextPiece.the-variants.{Read as TextRead, Nothing as NoText}
+use Rattle.grammar.proofs.Progress.{FirstSpelt, leads, holds-found, text-holds}
 use Rattle.lists.specs.Lists.{tabulate}
 use Rattle.lists.specs.Written.{Written}
 use Rattle.lists.proofs.Written.{written-append}
@@ -24,23 +32,15 @@ use Rattle.refusal.specs.declared.StateRefusal.the-variants.{OutputLength, Stat
 use Rattle.refusal.specs.declared.Refusal.the-variants.{Input, State}
 use Rattle.sheets.specs.Sheet.{write}
 use Rattle.parser.specs.Accepts.{markAll}
-use Rattle.grammar.specs.Grammar.{found, transitions, nextNames, wholeText}
-use Rattle.grammar.specs.Places.{spelled, Spelt, toldAt, Laid}
 use Rattle.parser.specs.Layout.{arrowsOf, patternAt}
 use Rattle.parser.specs.Memory.{Zeros}
 use Rattle.parser.specs.Names.{Table, namesIn, Addition}
 use Rattle.parser.specs.Parsed.{Output, parsed, parsedOf}
-use Rattle.grammar.specs.Pieces.{textOf}
 use Rattle.parser.specs.Records.{Recorded}
 use Rattle.parser.specs.Pattern.{indexOf, addName, addNames, statesOf, transitionOf, acceptWord, automatonOf, fewTransitions, fewStates, meaning, parse}
 use Rattle.parser.specs.declared.Parsed.the-variants.{Read, Refused}
-use Rattle.grammar.specs.declared.tokens.Cursor.{Cursor}
-use Rattle.grammar.specs.declared.text.Layout.{Layout}
-use Rattle.grammar.specs.declared.text.TextPiece.{TextPiece}
-use Rattle.grammar.specs.declared.text.TextPiece.the-variants.{Read as TextRead, Nothing as NoText}
 use Rattle.parser.specs.declared.names.Added.{Added}
 use Rattle.parser.specs.declared.names.Added.the-variants.{Kept, Full}
-use Rattle.grammar.proofs.Progress.{FirstSpelt, leads, holds-found, text-holds}
 use Rattle.parser.proofs.Finding.{names-count}
 use Rattle.parser.proofs.Marking.{marks-words}
 use Rattle.parser.proofs.Tables.{table-none, added-table, added-names, added-full}

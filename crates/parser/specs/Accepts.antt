@@ -5,8 +5,8 @@ use mathlib.Core.List.{List, [], _∷_}
 use lib.Dec.{ltb}
 use lib.ListN.{length, set}
 use Rattle.grammar.specs.Places.{spelled}
-use Rattle.parser.specs.Pattern.{indexOf}
 use Rattle.grammar.specs.declared.tokens.Span.{Span}
+use Rattle.parser.specs.Pattern.{indexOf}
 
 -- 1 for the state with the name x, where there is one
 unfoldable pub markOne : List ℕ → List (List ℕ) → List ℕ → Span → List ℕ

@@ -7,14 +7,14 @@ use lib.Dec.{ltb}
 use lib.ListN.{length}
 use Rattle.automata.specs.Automaton.{Transition, Automaton}
 use Rattle.automata.specs.Ordered.{inOrder}
-use Rattle.labels.specs.Labels.{sameLabel}
-use Rattle.lists.specs.Lists.{any}
-use Rattle.output.specs.Output.{Pattern}
-use Rattle.refusal.specs.Answer.{Answer, refused, given}
 use Rattle.grammar.specs.Places.{spelled}
 use Rattle.grammar.specs.Grammar.{Found, nothing, found, Told, wholeText}
 use Rattle.grammar.specs.declared.tokens.Span.{Span}
 use Rattle.grammar.specs.declared.pieces.Arrow.{Arrow}
+use Rattle.labels.specs.Labels.{sameLabel}
+use Rattle.lists.specs.Lists.{any}
+use Rattle.output.specs.Output.{Pattern}
+use Rattle.refusal.specs.Answer.{Answer, refused, given}
 
 -- the number of the name x: the first of the names that is x; as many as there are where none is
 unfoldable pub indexOf : List ℕ → List (List ℕ) → ℕ

@@ -2,9 +2,9 @@
 ghost use mathlib.Core.List.{_∷_};
 ghost use mathlib.Core.Path.{_≡_};
 ghost use lib.ListN.{length};
-ghost use Rattle.parser.specs.Accepts.{markOne, markAll};
 ghost use Rattle.grammar.specs.Grammar.{nextNames};
 ghost use Rattle.grammar.specs.Places.{Spelt};
+ghost use Rattle.parser.specs.Accepts.{markOne, markAll};
 ghost use Rattle.parser.specs.Names.{Table, namesIn};
 use grammar::Cursor;
 use grammar::NamePiece;

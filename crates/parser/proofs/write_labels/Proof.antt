@@ -16,4 +16,5 @@ abbrev μ-loop : tie.MeasureT-loop
 pub write-labels-spec : {M : Type 1} → statement M
 write-labels-spec =
     tie.close
-    (tie.spec Inv-loop μ-loop (λ c κs. search labelLaws) (λ c. search labelLaws) (λ c κs. search labelLaws) (λ c. search labelLaws) (λ c. search labelLaws) (λ c. search labelLaws) (λ c. search labelLaws) (λ c. search labelLaws))
+    (tie.spec Inv-loop μ-loop (λ c κs. search labelLaws) (λ c. search labelLaws) (λ c κs. search labelLaws) (λ c. search labelLaws) (λ c. search labelLaws)
+    (λ c. search labelLaws) (λ c. search labelLaws) (λ c. search labelLaws))

@@ -6,4 +6,6 @@ use Rattle.parser.proofs.names.add_name.Tie as tie
 pub add-name-spec : {M : Type 1} → statement M
 add-name-spec =
     tie.close
-    (tie.spec (λ c. search addLaws) (λ c. search addLaws) (λ c. search addLaws) (λ c κs. search addLaws) (λ c. search addLaws) (λ c. search addLaws) (λ c. search addLaws) (λ c κs. search addLaws) (λ c. search addLaws) (λ c. search addLaws) (λ c. search addLaws) (λ c. search addLaws) (λ c κs. search addLaws) (λ c. search addLaws) (λ c. search addLaws) (λ c. search addLaws))
+    (tie.spec (λ c. search addLaws) (λ c. search addLaws) (λ c. search addLaws) (λ c κs. search addLaws) (λ c. search addLaws) (λ c. search addLaws)
+    (λ c. search addLaws) (λ c κs. search addLaws) (λ c. search addLaws) (λ c. search addLaws) (λ c. search addLaws) (λ c. search addLaws)
+    (λ c κs. search addLaws) (λ c. search addLaws) (λ c. search addLaws) (λ c. search addLaws))

@@ -15,4 +15,5 @@ abbrev μ-loop : tie.MeasureT-loop
 pub find-spec : {M : Type 1} → statement M
 find-spec =
     tie.close
-    (tie.spec Inv-loop μ-loop (λ c κs. search findLaws) (λ c. search findLaws) (λ c. search findLaws) (λ c κs. search findLaws) (λ c. search findLaws) (λ c κs. search findLaws) (λ c. search findLaws) (λ c. search findLaws) (λ c. search findLaws))
+    (tie.spec Inv-loop μ-loop (λ c κs. search findLaws) (λ c. search findLaws) (λ c. search findLaws) (λ c κs. search findLaws) (λ c. search findLaws)
+    (λ c κs. search findLaws) (λ c. search findLaws) (λ c. search findLaws) (λ c. search findLaws))

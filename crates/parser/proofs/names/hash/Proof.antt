@@ -16,4 +16,5 @@ abbrev μ-loop : tie.MeasureT-loop
 pub hash-spec : {M : Type 1} → statement M
 hash-spec =
     tie.close
-    (tie.spec Inv-loop μ-loop (λ c. search hashLaws) (λ c. search hashLaws) (λ c κs. search hashLaws) (λ c. search hashLaws) (λ c. search hashLaws) (λ c. search hashLaws) (λ c. search hashLaws))
+    (tie.spec Inv-loop μ-loop (λ c. search hashLaws) (λ c. search hashLaws) (λ c κs. search hashLaws) (λ c. search hashLaws) (λ c. search hashLaws)
+    (λ c. search hashLaws) (λ c. search hashLaws))

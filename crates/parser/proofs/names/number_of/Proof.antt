@@ -6,4 +6,5 @@ use Rattle.parser.proofs.names.number_of.Tie as tie
 pub number-of-spec : {M : Type 1} → statement M
 number-of-spec =
     tie.close
-    (tie.spec (λ c. search numberLaws) (λ c. search numberLaws) (λ c. search numberLaws) (λ c κs. search numberLaws) (λ c. search numberLaws) (λ c. search numberLaws) (λ c. search numberLaws) (λ c κs. search numberLaws) (λ c. search numberLaws) (λ c. search numberLaws))
+    (tie.spec (λ c. search numberLaws) (λ c. search numberLaws) (λ c. search numberLaws) (λ c κs. search numberLaws) (λ c. search numberLaws)
+    (λ c. search numberLaws) (λ c. search numberLaws) (λ c κs. search numberLaws) (λ c. search numberLaws) (λ c. search numberLaws))

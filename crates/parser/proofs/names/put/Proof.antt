@@ -11,4 +11,5 @@ pub put-spec : {M : Type 1} → statement M
 unfolding stored
 put-spec =
     tie.close
-    (tie.spec (λ c. search needs) (λ c. search needs) (λ c. search needs) (λ c. search needs) (λ c. search needs) (λ c. simp length-set (omega arith)) (λ c κs. (search needs, search needs, simp length-set (omega arith))) (λ c. c .before .before .enter .kept .0 ∙ simp length-set) (λ c. search needs))
+    (tie.spec (λ c. search needs) (λ c. search needs) (λ c. search needs) (λ c. search needs) (λ c. search needs) (λ c. simp length-set (omega arith))
+    (λ c κs. (search needs, search needs, simp length-set (omega arith))) (λ c. c .before .before .enter .kept .0 ∙ simp length-set) (λ c. search needs))

@@ -20,4 +20,6 @@ abbrev μ-loop : tie.MeasureT-loop
 pub add-records-spec : {M : Type 1} → statement M
 add-records-spec =
     tie.close
-    (tie.spec Inv-loop μ-loop (λ c. search recordLaws) (λ c κs. search recordLaws) (λ c. search recordLaws) (λ c. search recordLaws) (λ c. search recordLaws) (λ c. search recordLaws) (λ c κs. search recordLaws) (λ c. search recordLaws) (λ c. search recordLaws) (λ c. search recordLaws) (λ c. (search recordLaws, search recordLaws)))
+    (tie.spec Inv-loop μ-loop (λ c. search recordLaws) (λ c κs. search recordLaws) (λ c. search recordLaws) (λ c. search recordLaws) (λ c. search recordLaws)
+    (λ c. search recordLaws) (λ c κs. search recordLaws) (λ c. search recordLaws) (λ c. search recordLaws) (λ c. search recordLaws)
+    (λ c. (search recordLaws, search recordLaws)))
