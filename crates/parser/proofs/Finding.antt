@@ -1,91 +1,128 @@
--- Laws of finding a name among names that stand one behind the other, each after its length.
-use Prim.Native.Nat.{ℕ, suc, _+_, _-_, _≤_, _<_}
-use mathlib.Core.Bool.{Bool, true, false, cond, false≢true}
-use mathlib.Core.List.{List, [], _∷_}
+-- Laws of finding a name: its bucket, and the walk through the names of the bucket.
+use Prim.Native.Nat.{ℕ, _+_, _-_, _*_, _%_, _≤_, _<_}
+use mathlib.Core.Bool.{Bool, true, false, true≢false}
+use mathlib.Core.List.{List, [], _∷_, map}
+use mathlib.Core.Logic.{⊎-elim}
 use mathlib.Core.Path.{_≡_, refl, sym, _∙_, ap}
 use native.Mathlib.Omega.{arith}
 use borrow.Author.Needs.{needs}
-use lib.ListN.{length, getD, take, drop, length-drop}
-use lib.Seq.{drop-drop}
+use borrow.Author.Tests.{eq-eqb, eqb-true, ltb-true, ltb-false}
+use lib.Dec.{eqb, ltb}
+use lib.ListN.{length, getD, drop, length-map, drop-of-length-le}
+use Rattle.buckets.specs.Buckets.{inBucket}
+use Rattle.buckets.proofs.Walking.{Walk, walk-begin, walk-next, walk-less, walk-ended}
+use Rattle.grammar.specs.Places.{spelled, Spelt}
+use Rattle.labels.specs.Labels.{sameLabel}
+use Rattle.labels.proofs.Same.{same-equal}
+use Rattle.lists.proofs.Lists.{tabulate-at, length-tabulate, map-tabulate}
 use Rattle.lists.proofs.Parts.{drop-at}
-use Rattle.labels.specs.Labels.{entriesOk, readEntries, sameLabel}
-use Rattle.labels.proofs.Labels.{first}
+use Rattle.lists.proofs.Tests.{test}
+use Rattle.parser.specs.Names.{hashFrom, hashOf, spanAt, namesIn, isName, Table}
 use Rattle.parser.specs.Pattern.{indexOf}
+use Rattle.parser.proofs.Indexing.{index-most, index-same}
 
--- some names are left from at on
-module _ (b : List ℕ) (at j : ℕ) (e : entriesOk (suc j) (drop at b) ≡ true) where
-  inside : at < length b
-  unfolding entriesOk
-  inside = within (drop at b) refl e
-    where
-      within : (d : List ℕ) → drop at b ≡ d → entriesOk (suc j) d ≡ true → at < length b
-      within [] q h = absurd (false≢true h)
-      within (x ∷ d) q h = omega (arith, length-drop at b, ap length q)
+-- the bucket of a name is below 256
+hash-from : (h : ℕ) (x : List ℕ) → h < 256 → hashFrom h x < 256
+unfolding hashFrom
+hash-from h [] l = l
+hash-from h (b ∷ x) l = hash-from ((31 * h + b) % 256) x (omega arith)
 
-  behind : drop (getD b at 0) (drop (at + 1) b) ≡ drop (at + 1 + getD b at 0) b
-  behind = drop-drop (getD b at 0) (at + 1) b
+pub hash-low : (x : List ℕ) → hashOf x < 256
+unfolding hashOf
+hash-low x = hash-from 0 x (omega arith)
 
-  here : entriesOk (suc j) (getD b at 0 ∷ drop (at + 1) b) ≡ true
-  here = ap (entriesOk (suc j)) (sym (drop-at b at inside)) ∙ e
+-- the bytes of x before i gave h
+pub hash-begin : (x : List ℕ) → hashOf x ≡ hashFrom 0 (drop 0 x)
+unfolding hashOf
+hash-begin x = refl
 
-  entry-whole : at + 1 + getD b at 0 ≤ length b
-  entry-whole = omega (arith, first j (getD b at 0) (drop (at + 1) b) here .whole, length-drop (at + 1) b, inside)
+module _ (x : List ℕ) (h i : ℕ) (e : hashOf x ≡ hashFrom h (drop i x)) where
+  pub hash-ended : length x ≤ i → h ≡ hashOf x
+  unfolding hashFrom
+  hash-ended l = sym (e ∙ rw (drop-of-length-le x l))
 
-  entry-rest : entriesOk j (drop (at + 1 + getD b at 0) b) ≡ true
-  entry-rest = ap (entriesOk j) (sym behind) ∙ first j (getD b at 0) (drop (at + 1) b) here .rest
+  module _ (l : i < length x) (r : ℕ) (q : r ≡ (31 * h + getD x i 0) % 256) where
+    pub hash-next : hashOf x ≡ hashFrom r (drop (i + 1) x)
+    unfolding hashFrom
+    hash-next = e ∙ rw (drop-at x i l, q)
 
-  entry-read : readEntries (suc j) (drop at b) ≡ take (getD b at 0) (drop (at + 1) b) ∷ readEntries j (drop (at + 1 + getD b at 0) b)
-  unfolding readEntries
-  entry-read = ap (readEntries (suc j)) (drop-at b at inside) ∙ ap (λ (d : List ℕ). take (getD b at 0) (drop (at + 1) b) ∷ readEntries j d) behind
+    pub hash-less : r < 256
+    hash-less = omega arith
 
-pub find-begin : (b : List ℕ) (n : ℕ) → entriesOk n b ≡ true → entriesOk (n - 0) (drop 0 b) ≡ true
-find-begin b n h = let z : n - 0 ≡ n = omega arith in rw z h
+pub ruleset hashLaws = (hash-begin, hash-ended, hash-next, hash-less, needs)
 
-pub find-start : (b x : List ℕ) (n : ℕ) → indexOf x (readEntries n b) ≡ 0 + indexOf x (readEntries (n - 0) (drop 0 b))
-find-start b x n = let z : n - 0 ≡ n = omega arith in rw z (omega arith)
+pub names-count : (text t : List ℕ) (n : ℕ) → length (namesIn text t n) ≡ n
+unfolding namesIn
+names-count text t n = length-tabulate n _
 
--- the names before k are not x
-module _ (b x : List ℕ) (n at k : ℕ) (o : entriesOk (n - k) (drop at b) ≡ true) where
-  step : k < n → n - k ≡ suc (n - (k + 1))
-  step h = omega arith
+pub names-at : (text t : List ℕ) (n j : ℕ) → j < n → getD (namesIn text t n) j [] ≡ spelled text (spanAt t j)
+unfolding namesIn
+names-at text t n j h = tabulate-at n (λ j. spelled text (spanAt t j)) j [] h
 
-  ok : k < n → entriesOk (suc (n - (k + 1))) (drop at b) ≡ true
-  ok h = ap (λ (m : ℕ). entriesOk m (drop at b)) (sym (step h)) ∙ o
+-- the buckets of the names
+buckets-count : (text t : List ℕ) (n : ℕ) → length (map hashOf (namesIn text t n)) ≡ n
+buckets-count text t n = length-map (namesIn text t n) hashOf ∙ names-count text t n
 
-  pub find-whole : k < n → at + 1 + getD b at 0 ≤ length b
-  find-whole h = entry-whole b at (n - (k + 1)) (ok h)
+buckets-at : (text t : List ℕ) (n j : ℕ) → j < n → getD (map hashOf (namesIn text t n)) j 0 ≡ hashOf (spelled text (spanAt t j))
+unfolding namesIn
+buckets-at text t n j h = ap (λ (l : List ℕ). getD l j 0) (map-tabulate hashOf n (λ j. spelled text (spanAt t j))) ∙ tabulate-at n (λ j. hashOf (spelled text (spanAt t j))) j 0 h
 
-  pub find-inside : k < n → at < length b
-  find-inside h = inside b at (n - (k + 1)) (ok h)
+-- the walk through the bucket of x in a table of n names
+module _ (text t : List ℕ) (n : ℕ) (k : Table text t n) (x : List ℕ) where
+  -- a name that is x is in the bucket of x
+  right-bucket : (j : ℕ) → j < length (map hashOf (namesIn text t n)) → isName text t x j ≡ true → inBucket (map hashOf (namesIn text t n)) (hashOf x) j ≡ true
+  unfolding isName inBucket
+  right-bucket j h e = eq-eqb _ _ (buckets-at text t n j (omega (arith, buckets-count text t n)) ∙ ap hashOf (same-equal _ x e))
 
-  pub find-rest : k < n → (q : ℕ) → q ≡ at + 1 + getD b at 0 → entriesOk (n - (k + 1)) (drop q b) ≡ true
-  find-rest h q e = ap (λ (i : ℕ). entriesOk (n - (k + 1)) (drop i b)) e ∙ entry-rest b at (n - (k + 1)) (ok h)
+  pub find-begin : (h : ℕ) → h ≡ hashOf x → (i : ℕ) → i ≡ getD t h 0 → Walk (map hashOf (namesIn text t n)) (hashOf x) (isName text t x) i
+  find-begin h e i q = rw (q, e) (walk-begin (map hashOf (namesIn text t n)) t (hashOf x) (isName text t x) (k .found) right-bucket (hash-low x))
 
-  module _ (i : indexOf x (readEntries n b) ≡ k + indexOf x (readEntries (n - k) (drop at b))) where
-    pub find-none : k ≤ n → n ≤ k → k ≡ indexOf x (readEntries n b)
-    unfolding indexOf readEntries
-    find-none g h = let z : n - k ≡ 0 = omega arith in sym (i ∙ rw z (omega arith))
+  -- the number of the name that is met
+  same-index : (j : ℕ) → j < n → isName text t x j ≡ eqb (indexOf x (namesIn text t n)) j
+  unfolding isName
+  same-index j h = ap (λ (l : List ℕ). sameLabel l x) (sym (names-at text t n j h)) ∙ index-same x j (k .distinct) (omega (arith, names-count text t n))
 
-    module _ (l : List ℕ) (e : l ≡ take (getD b at 0) (drop (at + 1) b)) (r : Bool) (s : r ≡ sameLabel l x) (h : k < n) where
-      read : readEntries (n - k) (drop at b) ≡ l ∷ readEntries (n - (k + 1)) (drop (at + 1 + getD b at 0) b)
-      read = ap (λ (m : ℕ). readEntries m (drop at b)) (step h) ∙ entry-read b at (n - (k + 1)) (ok h) ∙ ap (λ (d : List ℕ). d ∷ readEntries (n - (k + 1)) (drop (at + 1 + getD b at 0) b)) (sym e)
+  module _ (i : ℕ) (w : Walk (map hashOf (namesIn text t n)) (hashOf x) (isName text t x) i) where
+    low : i ≤ n
+    low = omega (arith, w .within, buckets-count text t n)
 
-      pub find-here : r ≡ true → k ≡ indexOf x (readEntries n b)
-      unfolding indexOf
-      find-here t = sym (i ∙ rw (read, sym s ∙ t) (omega arith))
+    pub find-none : i ≤ 0 → n ≡ indexOf x (namesIn text t n)
+    find-none l =
+        ⊎-elim
+        (λ (q : ltb (indexOf x (namesIn text t n)) n ≡ true).
+        let h : indexOf x (namesIn text t n) < n = ltb-true _ n q in
+        let a : isName text t x (indexOf x (namesIn text t n)) ≡ true = same-index _ h ∙ eq-eqb (indexOf x (namesIn text t n)) (indexOf x (namesIn text t n)) refl in
+        absurd (true≢false (sym a ∙ walk-ended _ _ _ i w l (indexOf x (namesIn text t n)) (omega (arith, buckets-count text t n)))))
+        (λ (q : ltb (indexOf x (namesIn text t n)) n ≡ false).
+        let h : n ≤ indexOf x (namesIn text t n) = ltb-false _ n q in
+        omega (arith, index-most x (namesIn text t n), names-count text t n))
+        (test (ltb (indexOf x (namesIn text t n)) n))
 
-      pub find-next : r ≡ false → (q : ℕ) → q ≡ at + 1 + getD b at 0 → indexOf x (readEntries n b) ≡ k + 1 + indexOf x (readEntries (n - (k + 1)) (drop q b))
-      unfolding indexOf
-      find-next t q f = i ∙ rw (read, sym s ∙ t, f) (omega arith)
+    module _ (l : 0 < i) where
+      pub find-inside : i - 1 < 256
+      find-inside = omega (arith, low, k .few)
 
-pub ruleset findLaws = (find-begin, find-start, find-whole, find-inside, find-rest, find-none, find-here, needs)
+      pub find-spelt : Spelt text (spanAt t (i - 1))
+      find-spelt = k .spelt (i - 1) (omega (arith, low))
 
--- an index is at most the number of names
-pub index-most : (x : List ℕ) (ls : List (List ℕ)) → indexOf x ls ≤ length ls
-unfolding indexOf
-index-most x [] = omega arith
-index-most x (l ∷ ls) = go (sameLabel l x) (index-most x ls)
-  where
-    go : (c : Bool) → indexOf x ls ≤ length ls → cond c 0 (suc (indexOf x ls)) ≤ suc (length ls)
-    go true h = omega arith
-    go false h = omega arith
+      module _ (r : Bool) (e : r ≡ isName text t x (i - 1)) where
+        pub find-found : r ≡ true → i - 1 ≡ indexOf x (namesIn text t n)
+        find-found q = sym (eqb-true _ _ (sym (same-index (i - 1) (omega (arith, low))) ∙ sym e ∙ q))
+
+        module _ (f : r ≡ false) (q : ℕ) (m : q ≡ getD t (256 + (i - 1)) 0) where
+          pub find-next : Walk (map hashOf (namesIn text t n)) (hashOf x) (isName text t x) q
+          find-next = rw m (walk-next _ t (hashOf x) (isName text t x) (k .found) right-bucket i w l (sym e ∙ f))
+
+          pub find-less : q < i
+          find-less = omega (arith, m, walk-less _ t (hashOf x) (isName text t x) (k .found) right-bucket i w l)
+
+pub find-low : (x : List ℕ) (h : ℕ) → h ≡ hashOf x → h < 256
+find-low x h e = omega (arith, e, hash-low x)
+
+pub find-room : (text t : List ℕ) (n : ℕ) → Table text t n → 512 ≤ length t
+find-room text t n k = omega (arith, k .room)
+
+pub find-long : (text t : List ℕ) (n : ℕ) → Table text t n → length t ≡ 1024
+find-long text t n k = k .room
+
+pub ruleset findLaws = (find-begin, find-none, find-inside, find-spelt, find-found, find-next, find-less, find-low, find-room, find-long, needs)

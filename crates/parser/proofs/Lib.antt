@@ -1,14 +1,9 @@
--- The laws of the grammar and of what a text means.
-pub mod Bytes
-pub mod Runs
-pub mod Tokens
-pub mod Numbers
-pub mod Spelling
-pub mod Pieces
-pub mod Progress
-pub mod Many
+-- The laws of what a text means.
+pub mod Memory
+pub mod Indexing
 pub mod Finding
 pub mod Tables
+pub mod Labelling
 pub mod Collecting
 pub mod Recording
 pub mod Marking

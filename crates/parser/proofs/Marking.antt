@@ -1,43 +1,43 @@
 -- Laws of the accept words: how they are filled, and that they are those of the states.
 use Prim.Native.Nat.{ℕ, zero, suc, _≤_, _<_}
 use mathlib.Core.Bool.{Bool, true, false, cond, _||_}
-use mathlib.Core.List.{List, [], _∷_, _++_, map, List·Memᴰ·head, List·Memᴰ·tail, List·Memᴰ·append-cases, List·Memᴰ·eq-of-singleton}
+use mathlib.Core.List.{List, [], _∷_, map}
 use mathlib.Core.Logic.{⊎-elim}
-use mathlib.Core.Path.{_≡_, refl, sym, _∙_, ap, subst}
+use mathlib.Core.Path.{_≡_, refl, sym, _∙_, ap}
 use native.Mathlib.Omega.{arith}
 use borrow.Author.Needs.{needs}
-use borrow.Author.Tests.{lt-ltb, le-ltb, ltb-false, eq-eqb, ne-eqb, eqb-true, eqb-false}
+use borrow.Author.Tests.{lt-ltb, le-ltb, eqb-true, eqb-false}
 use lib.Dec.{ltb, eqb}
-use lib.ListN.{length, getD, take, set, replicate, length-set, length-map, length-replicate}
+use lib.ListN.{length, getD, take, set, length-set, length-map}
 use lib.Seq.{getD-set-same, getD-set-other, getD-take, ext-getD, length-take-le}
-use Rattle.lists.specs.Lists.{_∈_, any, Distinct, none, more}
+use Rattle.grammar.specs.Grammar.{Items, nextName, nextNames}
+use Rattle.grammar.specs.Places.{spelled}
+use Rattle.grammar.specs.Pieces.{nameOf}
+use Rattle.grammar.specs.declared.tokens.Span.{Span}
+use Rattle.grammar.specs.declared.tokens.NamePiece.{NamePiece}
+use Rattle.grammar.specs.declared.tokens.NamePiece.the-variants.{Read as NameRead, Nothing as NoName}
+use Rattle.grammar.proofs.Many.{names-ended, names-more, names-less, name-spelt}
+use Rattle.lists.specs.Lists.{any, Distinct}
 use Rattle.lists.proofs.Tests.{test}
 use Rattle.labels.specs.Labels.{sameLabel}
-use Rattle.labels.proofs.Same.{same-equal, equal-same}
-use Rattle.parser.specs.Accepts.{Zeros, markOne, markAll}
-use Rattle.parser.specs.Grammar.{Items, nextName, nextNames, Told}
+use Rattle.parser.specs.Accepts.{markOne, markAll}
+use Rattle.parser.specs.Memory.{Zeros}
 use Rattle.parser.specs.Names.{Table, namesIn}
-use Rattle.parser.specs.Pattern.{spelled, indexOf, addName, addNames, statesOf, acceptWord}
-use Rattle.parser.specs.Pieces.{nameOf}
-use Rattle.parser.specs.declared.grammar.Span.{Span}
-use Rattle.parser.specs.declared.grammar.Arrow.{Arrow}
-use Rattle.parser.specs.declared.grammar.NamePiece.{NamePiece}
-use Rattle.parser.specs.declared.grammar.NamePiece.the-variants.{Read as NameRead, Nothing as NoName}
-use Rattle.parser.specs.declared.names.Names.{Names}
-use Rattle.parser.proofs.Many.{names-ended, names-more, names-less, name-spelt}
-use Rattle.parser.proofs.Tables.{table-count}
+use Rattle.parser.specs.Pattern.{indexOf, acceptWord}
+use Rattle.parser.proofs.Finding.{names-count}
+use Rattle.parser.proofs.Indexing.{index-same}
 
 -- the state's word is marked, or there is none
-module _ (t b : List ℕ) (s : Names) (k : Table b s) (x : Span) (ws : List ℕ) (i : ℕ) (e : i ≡ indexOf (spelled t x) (namesIn b s)) where
-  pub mark-none : s .n ≤ i → ws ≡ markOne t (namesIn b s) ws x
+module _ (t b : List ℕ) (n : ℕ) (k : Table t b n) (x : Span) (ws : List ℕ) (i : ℕ) (e : i ≡ indexOf (spelled t x) (namesIn t b n)) where
+  pub mark-none : n ≤ i → ws ≡ markOne t (namesIn t b n) ws x
   unfolding markOne
-  mark-none h = sym (rw (← e, table-count b s k, le-ltb i (s .n) h))
+  mark-none h = sym (rw (← e, names-count t b n, le-ltb i n h))
 
-  pub mark-set : i < s .n → set ws i 1 ≡ markOne t (namesIn b s) ws x
+  pub mark-set : i < n → set ws i 1 ≡ markOne t (namesIn t b n) ws x
   unfolding markOne
-  mark-set h = sym (rw (← e, table-count b s k, lt-ltb i (s .n) h))
+  mark-set h = sym (rw (← e, names-count t b n, lt-ltb i n h))
 
-  pub mark-room : length ws ≡ 256 → i < s .n → i < length ws
+  pub mark-room : length ws ≡ 256 → i < n → i < length ws
   mark-room g h = omega (arith, k .few)
 
 pub ruleset markLaws = (mark-none, mark-set, mark-room, length-set, needs)
@@ -58,70 +58,6 @@ pub ruleset marksLaws = (marks-ended, names-less, name-spelt, needs)
 pub marks-first : (t : List ℕ) (ls : List (List ℕ)) (ws m n : List ℕ) (x : Span) (xs : List Span) → m ≡ markOne t ls ws x → n ≡ markAll t ls m xs → n ≡ markAll t ls ws (x ∷ xs)
 unfolding markAll
 marks-first t ls ws m n x xs p q = q ∙ ap (λ (v : List ℕ). markAll t ls v xs) p
-
--- the names of the states are different
-pub index-in : (x : List ℕ) {ls : List (List ℕ)} → x ∈ ls → indexOf x ls < length ls
-unfolding indexOf
-index-in x {ls = l ∷ ls} (List·Memᴰ·head q) = rw (equal-same l x (sym q)) (omega arith)
-index-in x {ls = l ∷ ls} (List·Memᴰ·tail m) = go (sameLabel l x) (index-in x m)
-  where
-    go : (c : Bool) → indexOf x ls < length ls → cond c 0 (suc (indexOf x ls)) < suc (length ls)
-    go true h = omega arith
-    go false h = omega arith
-
-distinct-more : {ls : List (List ℕ)} (x : List ℕ) → Distinct ls → (x ∈ ls → ⊥) → Distinct (ls ++ x ∷ [])
-distinct-more x none h = more {x = x} {l = []} (λ m. elim m [ ]) none
-distinct-more x (more {x = l} {l = ls} f d) h =
-    more {x = l} {l = ls ++ x ∷ []} (λ m. ⊎-elim f (λ n. h (List·Memᴰ·head (sym (List·Memᴰ·eq-of-singleton n)))) (List·Memᴰ·append-cases ls m)) (distinct-more x d (λ m. h (List·Memᴰ·tail m)))
-
-distinct-add : (ls : List (List ℕ)) (x : List ℕ) → Distinct ls → Distinct (addName ls x)
-unfolding addName
-distinct-add ls x d = go (ltb (indexOf x ls) (length ls)) refl
-  where
-    go : (c : Bool) → ltb (indexOf x ls) (length ls) ≡ c → Distinct (cond c ls (ls ++ x ∷ []))
-    go true e = d
-    go false e = distinct-more x d (λ m. let h = index-in x m in let g = ltb-false (indexOf x ls) (length ls) e in omega arith)
-
-distinct-names : (t : List ℕ) (ls : List (List ℕ)) (es : List Arrow) → Distinct ls → Distinct (addNames t ls es)
-unfolding addNames
-distinct-names t ls [] d = d
-distinct-names t ls (e ∷ es) d = distinct-names t (addName (addName ls (spelled t (e .from))) (spelled t (e .to))) es (distinct-add _ _ (distinct-add _ _ d))
-
-pub states-distinct : (t : List ℕ) (g : Told) → Distinct (statesOf t g)
-unfolding statesOf
-states-distinct t g = distinct-names t (spelled t (g .start) ∷ []) (g .arrows) (more {x = spelled t (g .start)} {l = []} (λ m. elim m [ ]) none)
-
--- of different names just one has the number that is found
-at-in : (ls : List (List ℕ)) (j : ℕ) → j < length ls → getD ls j [] ∈ ls
-at-in [] j h = absurd (omega arith)
-at-in (l ∷ ls) zero h = List·Memᴰ·head refl
-at-in (l ∷ ls) (suc j) h = List·Memᴰ·tail (at-in ls j (omega arith))
-
-eqb-suc : (i j : ℕ) → eqb i j ≡ eqb (suc i) (suc j)
-eqb-suc i j =
-    ⊎-elim (λ (e : eqb i j ≡ true). let q : i ≡ j = eqb-true i j e in e ∙ sym (eq-eqb (suc i) (suc j) (omega arith)))
-    (λ (e : eqb i j ≡ false). let q : i ≡ j → ⊥ = eqb-false i j e in e ∙ sym (ne-eqb (suc i) (suc j) (λ z. q (omega arith))))
-    (test (eqb i j))
-
-index-same : {ls : List (List ℕ)} (x : List ℕ) (j : ℕ) → Distinct ls → j < length ls → sameLabel (getD ls j []) x ≡ eqb (indexOf x ls) j
-unfolding indexOf
-index-same x j none h = absurd (omega arith)
-index-same x zero (more {x = l} {l = ls} f d) h = go (sameLabel l x)
-  where
-    go : (c : Bool) → c ≡ eqb (cond c 0 (suc (indexOf x ls))) 0
-    go true = refl
-    go false = sym (ne-eqb (suc (indexOf x ls)) 0 (λ z. omega arith))
-index-same x (suc j) (more {x = l} {l = ls} f d) h = go (sameLabel l x) refl (index-same x j d (omega arith))
-  where
-    other : sameLabel l x ≡ true → (c : Bool) → sameLabel (getD ls j []) x ≡ c → c ≡ false
-    other e true q =
-        let m : getD ls j [] ≡ l = same-equal _ _ q ∙ sym (same-equal _ _ e) in
-        absurd (f (subst (λ (y : List ℕ). y ∈ ls) m (at-in ls j (omega arith))))
-    other e false q = refl
-
-    go : (c : Bool) → sameLabel l x ≡ c → sameLabel (getD ls j []) x ≡ eqb (indexOf x ls) j → sameLabel (getD ls j []) x ≡ eqb (cond c 0 (suc (indexOf x ls))) (suc j)
-    go true e ih = other e (sameLabel (getD ls j []) x) refl ∙ sym (ne-eqb 0 (suc j) (λ z. omega arith))
-    go false e ih = ih ∙ eqb-suc (indexOf x ls) j
 
 module _ (t : List ℕ) (ls : List (List ℕ)) (d : Distinct ls) where
   -- one name marks the word of its state and no other
@@ -171,7 +107,7 @@ module _ (t : List ℕ) (ls : List (List ℕ)) (d : Distinct ls) where
   map-at f (k ∷ ks) (suc j) h = map-at f ks j (omega arith)
 
   -- the words are those of the states
-  pub marks-words : (ws : List ℕ) (xs : List Span) → Zeros ws → length ls ≤ 256 → take (length ls) (markAll t ls ws xs) ≡ map (acceptWord t xs) ls
+  pub marks-words : (ws : List ℕ) (xs : List Span) → Zeros 256 ws → length ls ≤ 256 → take (length ls) (markAll t ls ws xs) ≡ map (acceptWord t xs) ls
   unfolding acceptWord
   marks-words ws xs z g =
       let l : length (markAll t ls ws xs) ≡ 256 = marks-length ws xs ∙ z .long in
@@ -180,12 +116,3 @@ module _ (t : List ℕ) (ls : List (List ℕ)) (d : Distinct ls) where
       let k : j < length ls = omega arith in
       getD-take (length ls) (markAll t ls ws xs) j 0 k ∙ all-marks ws xs j (omega (arith, z .long)) k
       ∙ ap (cond (any (λ s. sameLabel (getD ls j []) (spelled t s)) xs) 1) (z .zero j) ∙ sym (map-at (acceptWord t xs) ls j k)
-
--- an array of zeros
-zero-at : (n j : ℕ) → _≡_ {A = ℕ} (getD (replicate n 0) j 0) 0
-zero-at zero j = refl
-zero-at (suc n) zero = refl
-zero-at (suc n) (suc j) = zero-at n j
-
-pub zeros : Zeros (replicate 256 0)
-zeros = record { long = length-replicate {A = ℕ} 256 0; zero = zero-at 256 }

@@ -7,6 +7,11 @@ use native.Mathlib.Omega.{arith}
 use borrow.Author.Tests.{ltb-true, ltb-false}
 use lib.Dec.{ltb}
 use lib.ListN.{length, getD, length-map}
+use Rattle.grammar.specs.Grammar.{Found, nothing, found, Told, transitions, wholeText}
+use Rattle.grammar.specs.Places.{spelled, Spelt, Drawn}
+use Rattle.grammar.specs.declared.pieces.Arrow.{Arrow}
+use Rattle.grammar.proofs.Many.{text-drawn}
+use Rattle.grammar.proofs.Progress.{holds-found}
 use Rattle.lists.specs.Lists.{_∈_, any}
 use Rattle.automata.specs.Automaton.{Transition}
 use Rattle.automata.specs.Ordered.{inOrder}
@@ -20,13 +25,8 @@ use Rattle.refusal.specs.Answer.{refused, given}
 use Rattle.sheets.specs.Fault.{fault}
 use Rattle.sheets.specs.Sheet.{write}
 use Rattle.sheets.proofs.Meaning.{write-accepted}
-use Rattle.parser.specs.Grammar.{Found, nothing, found, Told, transitions, wholeText}
-use Rattle.parser.specs.Names.{Spelt, Drawn}
-use Rattle.parser.specs.Pattern.{spelled, indexOf, addName, addNames, statesOf, transitionOf, acceptWord, automatonOf, Reading, fewTransitions, fewStates, meaning, parse}
-use Rattle.parser.specs.declared.grammar.Arrow.{Arrow}
-use Rattle.parser.proofs.Marking.{index-in}
-use Rattle.parser.proofs.Many.{text-drawn}
-use Rattle.parser.proofs.Progress.{holds-found}
+use Rattle.parser.specs.Pattern.{indexOf, addName, addNames, statesOf, transitionOf, acceptWord, automatonOf, Reading, fewTransitions, fewStates, meaning, parse}
+use Rattle.parser.proofs.Indexing.{index-in}
 use Rattle.parser.proofs.Tables.{spelt-label}
 
 -- what stands in a list of names stays there, and a name that is added is there

@@ -1,110 +1,152 @@
 -- Laws of the table of names: one more name behind the others, and how many there are.
-use Prim.Native.Nat.{ℕ, zero, suc, _+_, _-_, _≤_, _<_}
-use mathlib.Core.Bool.{Bool, true, false, cond, false≢true}
-use mathlib.Core.List.{List, [], _∷_, _++_}
-use mathlib.Core.Path.{_≡_, refl, sym, _∙_, ap, ap₂, subst}
+use Prim.Native.Nat.{ℕ, suc, _+_, _-_, _≤_, _<_}
+use mathlib.Core.Bool.{Bool, true, false, cond}
+use mathlib.Core.List.{List, [], _∷_, _++_, map}
+use mathlib.Core.Logic.{⊎-elim}
+use mathlib.Core.Path.{_≡_, sym, _∙_, ap, ap₂, subst}
 use native.Mathlib.Omega.{arith}
 use mir.Syntax.{w32}
 use mir.Val.{Fits}
 use borrow.Author.Needs.{needs}
-use borrow.Author.Tests.{le-leb, lt-ltb, le-ltb}
-use lib.Dec.{ltb}
-use lib.ListN.{length, take, drop, length-append, length-take, length-drop}
-use lib.Seq.{sets-eq, take-at, length-take-le, take-append-le, drop-append-le, drop-length, take-length}
-use Rattle.lists.specs.Written.{Written}
-use Rattle.lists.proofs.Tests.{and-both}
-use Rattle.lists.proofs.Written.{written-length}
-use Rattle.labels.specs.Labels.{entry, entriesOk, readEntries, Label}
-use Rattle.labels.proofs.Labels.{first}
-use Rattle.parser.specs.Names.{Spelt, Table, namesIn, Addition, kept, full}
-use Rattle.parser.specs.Pattern.{spelled, indexOf, addName, addNames}
-use Rattle.parser.specs.declared.grammar.Span.{Span}
-use Rattle.parser.specs.declared.grammar.Arrow.{Arrow}
-use Rattle.parser.specs.declared.names.Names.{Names}
+use borrow.Author.Tests.{lt-ltb, le-ltb, eqb-true, eqb-false}
+use lib.Dec.{ltb, eqb}
+use lib.ListN.{length, getD, set, length-set, length-append, length-take, length-drop, length-map}
+use lib.Seq.{getD-set-same, getD-set-other}
+use Rattle.buckets.specs.Buckets.{Entered}
+use Rattle.buckets.proofs.Entering.{entered-none, entered-kept, entered-next, entered-behind, length-entered}
+use Rattle.grammar.specs.Places.{spelled, Spelt}
+use Rattle.grammar.specs.declared.tokens.Span.{Span}
+use Rattle.grammar.specs.declared.pieces.Arrow.{Arrow}
+use Rattle.labels.specs.Labels.{Label}
+use Rattle.lists.specs.Lists.{tabulate, none}
+use Rattle.lists.proofs.Lists.{tabulate-ext, tabulate-end, map-append}
+use Rattle.lists.proofs.Tests.{test}
+use Rattle.parser.specs.Memory.{Zeros}
+use Rattle.parser.specs.Names.{hashOf, spanAt, namesIn, stored, Table, Addition, kept, full}
+use Rattle.parser.specs.Pattern.{indexOf, addName, addNames}
 use Rattle.parser.specs.declared.names.Added.{Added}
 use Rattle.parser.specs.declared.names.Added.the-variants.{Kept, Full}
-use Rattle.parser.proofs.Finding.{index-most}
+use Rattle.parser.proofs.Indexing.{index-most, index-in, distinct-more}
+use Rattle.parser.proofs.Finding.{hash-low, names-count}
 
--- one label more behind n of them
-entries-ok : (n : ℕ) (p x : List ℕ) → entriesOk n p ≡ true → Label x → entriesOk (suc n) (p ++ entry x) ≡ true
-unfolding entriesOk
-entries-ok zero [] x h l =
-    and-both _ _ (le-leb 1 (length x) (l .some))
-    (and-both _ _ (le-leb (length x) 64 (l .short)) (and-both _ _ (le-leb (length x) (length x) (omega arith)) (ap (entriesOk 0) (drop-length x))))
-entries-ok zero (y ∷ p) x h l = absurd (false≢true h)
-entries-ok (suc n) [] x h l = absurd (false≢true h)
-entries-ok (suc n) (y ∷ p) x h l =
-    let f = first n y p h in
-    and-both _ _ (le-leb 1 y (f .some))
-    (and-both _ _ (le-leb y 64 (f .short))
-    (and-both _ _ (le-leb y (length (p ++ entry x)) (omega (arith, f .whole, length-append p (entry x))))
-    (ap (entriesOk (suc n)) (drop-append-le y p (entry x) (f .whole)) ∙ entries-ok n (drop y p) x (f .rest) l)))
+-- a table without names
+pub table-none : (text t : List ℕ) → Zeros 1024 t → Table text t 0
+unfolding namesIn tabulate
+table-none text t e =
+    record {
+      room = e .long;
+      few = omega arith;
+      spelt = λ j h. absurd (omega arith);
+      distinct = none;
+      found = entered-none t (omega (arith, e .long)) (λ i h. e .zero i);
+    }
 
-entries-read : (n : ℕ) (p x : List ℕ) → entriesOk n p ≡ true → readEntries (suc n) (p ++ entry x) ≡ readEntries n p ++ x ∷ []
-unfolding entriesOk readEntries
-entries-read zero [] x h = ap (λ (l : List ℕ). l ∷ []) (take-length x)
-entries-read zero (y ∷ p) x h = absurd (false≢true h)
-entries-read (suc n) [] x h = absurd (false≢true h)
-entries-read (suc n) (y ∷ p) x h =
-    let f = first n y p h in
-    ap₂ _∷_ (take-append-le y p (entry x) (f .whole)) (ap (readEntries (suc n)) (drop-append-le y p (entry x) (f .whole)) ∙ entries-read n (drop y p) x (f .rest))
+-- the table after a name is put
+module _ (t : List ℕ) (n a b h : ℕ) (r : length t ≡ 1024) (f : n < 256) (g : h < 256) where
+  long : length (set t (512 + n) a) ≡ 1024
+  long = length-set t (512 + n) a ∙ r
 
-pub entries-count : (n : ℕ) (p : List ℕ) → entriesOk n p ≡ true → length (readEntries n p) ≡ n
-unfolding entriesOk readEntries
-entries-count zero p h = refl
-entries-count (suc n) [] h = absurd (false≢true h)
-entries-count (suc n) (y ∷ p) h = ap suc (entries-count n (drop y p) (first n y p h .rest))
+  stored-length : length (stored t n a b h) ≡ 1024
+  unfolding stored
+  stored-length = length-entered (set (set t (512 + n) a) (768 + n) b) n h ∙ length-set (set t (512 + n) a) (768 + n) b ∙ long
 
-module _ (b : List ℕ) (s : Names) (t : Table b s) where
-  pub table-inside : s .end ≤ length b
-  table-inside = omega (arith, t .few, t .size, t .room)
+  stored-start : getD (stored t n a b h) (512 + n) 0 ≡ a
+  unfolding stored
+  stored-start =
+      entered-behind (set (set t (512 + n) a) (768 + n) b) n h (512 + n) f g (omega arith)
+      ∙ getD-set-other (set t (512 + n) a) (768 + n) (512 + n) b 0 (λ z. omega arith) ∙ getD-set-same t (512 + n) a 0 (omega arith)
 
-  pub table-counted : s .end ≡ length (take (s .end) b)
-  table-counted = sym (length-take-le (s .end) b table-inside)
+  stored-end : getD (stored t n a b h) (768 + n) 0 ≡ b
+  unfolding stored
+  stored-end = entered-behind (set (set t (512 + n) a) (768 + n) b) n h (768 + n) f g (omega arith) ∙ getD-set-same (set t (512 + n) a) (768 + n) b 0 (omega (arith, long))
 
-  pub table-whole : entriesOk (s .n) (take (s .end) b) ≡ true
-  table-whole = t .whole
+  module _ (j : ℕ) (l : j < n) where
+    old-start : getD (stored t n a b h) (512 + j) 0 ≡ getD t (512 + j) 0
+    unfolding stored
+    old-start =
+        entered-behind (set (set t (512 + n) a) (768 + n) b) n h (512 + j) f g (omega arith)
+        ∙ getD-set-other (set t (512 + n) a) (768 + n) (512 + j) b 0 (λ z. omega arith) ∙ getD-set-other t (512 + n) (512 + j) a 0 (λ z. omega arith)
 
-  pub table-count : length (namesIn b s) ≡ s .n
+    old-end : getD (stored t n a b h) (768 + j) 0 ≡ getD t (768 + j) 0
+    unfolding stored
+    old-end =
+        entered-behind (set (set t (512 + n) a) (768 + n) b) n h (768 + j) f g (omega arith)
+        ∙ getD-set-other (set t (512 + n) a) (768 + n) (768 + j) b 0 (λ z. omega arith) ∙ getD-set-other t (512 + n) (768 + j) a 0 (λ z. omega arith)
+
+    stored-old : spanAt (stored t n a b h) j ≡ spanAt t j
+    stored-old = ap₂ (λ (s e : ℕ). record { start = s; end = e }) old-start old-end
+
+  stored-new : spanAt (stored t n a b h) n ≡ record { start = a; end = b }
+  stored-new = ap₂ (λ (s e : ℕ). record { start = s; end = e }) stored-start stored-end
+
+  -- the names of the table are those before and the new one
+  stored-names : (text : List ℕ) → namesIn text (stored t n a b h) (suc n) ≡ namesIn text t n ++ spelled text (record { start = a; end = b }) ∷ []
   unfolding namesIn
-  table-count = entries-count (s .n) (take (s .end) b) (t .whole)
+  stored-names text =
+      tabulate-end n (λ j. spelled text (spanAt (stored t n a b h) j))
+      ∙ ap₂ (λ (ls : List (List ℕ)) (x : List ℕ). ls ++ x ∷ [])
+      (tabulate-ext n (λ j. spelled text (spanAt (stored t n a b h) j)) (λ j. spelled text (spanAt t j)) (λ j l. ap (spelled text) (stored-old j l)))
+      (ap (spelled text) stored-new)
 
-  module _ (x : List ℕ) (i : ℕ) (e : i ≡ indexOf x (readEntries (s .n) (take (s .end) b))) where
-    pub table-known : i < s .n → Addition (addName (namesIn b s) x) b (Kept s)
-    unfolding addName namesIn
-    table-known h = kept t (sym (rw (← e, entries-count (s .n) (take (s .end) b) (t .whole), lt-ltb i (s .n) h)))
+  -- and its bucket has entered
+  stored-found : (bs : List ℕ) → length bs ≡ n → Entered bs t → Entered (bs ++ h ∷ []) (stored t n a b h)
+  unfolding stored
+  stored-found bs q e =
+      entered-next bs (set (set t (512 + n) a) (768 + n) b) n h
+      (entered-kept (set (set t (512 + n) a) (768 + n) b) e (omega (arith, length-set (set t (512 + n) a) (768 + n) b, long)) (omega arith)
+      (λ i l. getD-set-other (set t (512 + n) a) (768 + n) i b 0 (λ z. omega arith) ∙ getD-set-other t (512 + n) i a 0 (λ z. omega arith)))
+      q f g
 
-    pub table-new : s .n ≤ i → addName (namesIn b s) x ≡ namesIn b s ++ x ∷ []
-    unfolding addName namesIn
-    table-new h = rw (← e, entries-count (s .n) (take (s .end) b) (t .whole), le-ltb i (s .n) h)
+module _ (text t : List ℕ) (n : ℕ) (k : Table text t n) (x : Span) (i : ℕ) (e : i ≡ indexOf (spelled text x) (namesIn text t n)) where
+  pub table-known : i < n → Addition text (addName (namesIn text t n) (spelled text x)) t (Kept n)
+  unfolding addName
+  table-known h = kept k (sym (rw (← e, names-count text t n, lt-ltb i n h)))
 
-    pub table-full : s .n ≤ i → 256 ≤ s .n → Addition (addName (namesIn b s) x) b Full
-    table-full h g = full (omega (arith, ap length (table-new h), length-append (namesIn b s) (x ∷ []), table-count))
+  table-new : n ≤ i → addName (namesIn text t n) (spelled text x) ≡ namesIn text t n ++ spelled text x ∷ []
+  unfolding addName
+  table-new h = rw (← e, names-count text t n, le-ltb i n h)
 
-    pub table-more : Label x → s .n ≤ i → s .n < 256 → (m : List ℕ) (r : ℕ) → Written b (s .end) (entry x) m r → Addition (addName (namesIn b s) x) m (Kept (record { n = s .n + 1; end = r }))
-    unfolding namesIn
-    table-more l h g m r w =
-        let k : s .n + 1 ≡ suc (s .n) = omega arith in
-        let c : length (take (s .end) b) ≡ s .end = length-take-le (s .end) b table-inside in
-        let f : s .end + length (entry x) ≤ length b = omega (arith, l .short, t .size, t .room) in
-        let p : take r m ≡ take (s .end) b ++ entry x =
-        ap₂ take (w .behind) (w .stored ∙ sets-eq (entry x) b (s .end) f) ∙ take-at (take (s .end) b ++ entry x) _ (s .end + length (entry x)) (omega (arith, length-append (take (s .end) b) (entry x))) in
-        kept {s = record { n = s .n + 1; end = r }}
-        (record {
-          whole = rw (k, p) (entries-ok (s .n) (take (s .end) b) x (t .whole) l);
+  pub table-full : n ≤ i → 256 ≤ n → Addition text (addName (namesIn text t n) (spelled text x)) t Full
+  table-full h g = full (omega (arith, ap length (table-new h), length-append (namesIn text t n) (spelled text x ∷ []), names-count text t n))
+
+  module _ (p : Spelt text x) (h : n ≤ i) (g : n < 256) (v : ℕ) (d : v ≡ hashOf (spelled text x)) where
+    pub table-hash : v < 256
+    table-hash = omega (arith, d, hash-low (spelled text x))
+
+    more : namesIn text (stored t n (x .start) (x .end) v) (suc n) ≡ namesIn text t n ++ spelled text x ∷ []
+    more = stored-names t n (x .start) (x .end) v (k .room) g table-hash text
+
+    each : (j : ℕ) → j < suc n → Spelt text (spanAt (stored t n (x .start) (x .end) v) j)
+    each j l =
+        ⊎-elim
+        (λ (q : eqb j n ≡ true).
+        subst (λ (s : Span). Spelt text s) (sym (ap (spanAt (stored t n (x .start) (x .end) v)) (eqb-true j n q) ∙ stored-new t n (x .start) (x .end) v (k .room) g table-hash)) p)
+        (λ (q : eqb j n ≡ false).
+        let y : j < n = lower (eqb-false j n q) in
+        subst (λ (s : Span). Spelt text s) (sym (stored-old t n (x .start) (x .end) v (k .room) g table-hash j y)) (k .spelt j y))
+        (test (eqb j n))
+      where
+        lower : (j ≡ n → ⊥) → j < n
+        lower y = omega arith
+
+    buckets : map hashOf (namesIn text t n) ++ v ∷ [] ≡ map hashOf (namesIn text (stored t n (x .start) (x .end) v) (suc n))
+    buckets = ap (λ (b : ℕ). map hashOf (namesIn text t n) ++ b ∷ []) d ∙ sym (ap (map hashOf) more ∙ map-append hashOf (namesIn text t n) (spelled text x ∷ []))
+
+    grown : Table text (stored t n (x .start) (x .end) v) (suc n)
+    grown =
+        record {
+          room = stored-length t n (x .start) (x .end) v (k .room) g table-hash;
           few = omega arith;
-          size = omega (arith, w .behind, l .short, t .size);
-          room = written-length b m (entry x) (s .end) r w ∙ t .room;
-        })
-        (rw (k, p) (entries-read (s .n) (take (s .end) b) x (t .whole)) ∙ sym (table-new h))
+          spelt = each;
+          distinct = rw more (distinct-more (spelled text x) (k .distinct) (λ m. let y = index-in (spelled text x) m in omega (arith, names-count text t n)));
+          found = rw (← buckets) (stored-found t n (x .start) (x .end) v (k .room) g table-hash (map hashOf (namesIn text t n)) (length-map (namesIn text t n) hashOf ∙ names-count text t n) (k .found));
+        }
 
-    pub table-room : Label x → s .n < 256 → s .end + 1 + length x ≤ length b
-    table-room l g = omega (arith, l .short, t .size, t .room)
+    pub table-more : (m : List ℕ) → m ≡ stored t n (x .start) (x .end) v → Addition text (addName (namesIn text t n) (spelled text x)) m (Kept (n + 1))
+    table-more m q = let z : n + 1 ≡ suc n = omega arith in rw (z, q) (kept grown (more ∙ sym (table-new h)))
 
-pub label-short : (x : List ℕ) → Label x → length x < 256
-label-short x l = omega (arith, l .short)
-
-pub ruleset addLaws = (table-inside, table-whole, table-known, table-full, table-more, table-room, label-short, needs)
+pub table-long : (text t : List ℕ) (n : ℕ) → Table text t n → length t ≡ 1024
+table-long text t n k = k .room
 
 -- a name of a text is a label
 module _ (t : List ℕ) (x : Span) (p : Spelt t x) where
@@ -119,38 +161,35 @@ module _ (t : List ℕ) (x : Span) (p : Spelt t x) where
   pub spelt-inside : x .end ≤ length t
   spelt-inside = p .inside
 
+pub ruleset addLaws = (table-known, table-full, table-hash, table-more, table-long, spelt-order, spelt-inside, needs)
+
 -- the number of a name fits a word
-module _ (b : List ℕ) (s : Names) (t : Table b s) (x : List ℕ) (i : ℕ) (e : i ≡ indexOf x (readEntries (s .n) (take (s .end) b))) where
-  pub number-fits : Fits w32 i
-  number-fits = record { fits = omega (arith, e, index-most x (readEntries (s .n) (take (s .end) b)), entries-count (s .n) (take (s .end) b) (t .whole), t .few) }
+pub number-fits : (text t : List ℕ) (n : ℕ) → Table text t n → (x : List ℕ) (i : ℕ) → i ≡ indexOf x (namesIn text t n) → Fits w32 i
+number-fits text t n k x i e = record { fits = omega (arith, e, index-most x (namesIn text t n), names-count text t n, k .few) }
 
-  pub number-given : i ≡ indexOf x (namesIn b s)
-  unfolding namesIn
-  number-given = e
-
-pub ruleset numberLaws = (table-inside, table-whole, number-fits, number-given, spelt-order, spelt-inside, needs)
+pub ruleset numberLaws = (number-fits, spelt-order, spelt-inside, needs)
 
 -- what an addition says by its answer
-module _ (ls : List (List ℕ)) (b : List ℕ) (r : Added) (a : Addition ls b r) where
-  pub added-table : (s : Names) → r ≡ Kept s → Table b s
-  added-table s e = elim-kept a e
+module _ (text : List ℕ) (ls : List (List ℕ)) (t : List ℕ) (r : Added) (a : Addition text ls t r) where
+  pub added-table : (n : ℕ) → r ≡ Kept n → Table text t n
+  added-table n e = elim-kept a e
     where
-      elim-kept : {r : Added} → Addition ls b r → r ≡ Kept s → Table b s
-      elim-kept (kept {s = u} t h) e = let q : u ≡ s = cc in subst (Table b) q t
+      elim-kept : {r : Added} → Addition text ls t r → r ≡ Kept n → Table text t n
+      elim-kept (kept {n = u} k h) e = let q : u ≡ n = cc in subst (Table text t) q k
       elim-kept (full h) e = let z : _≡_ {A = ℕ} 0 1 = cc in absurd (omega arith)
 
-  pub added-names : (s : Names) → r ≡ Kept s → namesIn b s ≡ ls
-  added-names s e = elim-kept a e
+  pub added-names : (n : ℕ) → r ≡ Kept n → namesIn text t n ≡ ls
+  added-names n e = elim-kept a e
     where
-      elim-kept : {r : Added} → Addition ls b r → r ≡ Kept s → namesIn b s ≡ ls
-      elim-kept (kept {s = u} t h) e = let q : u ≡ s = cc in subst (λ (v : Names). namesIn b v ≡ ls) q h
+      elim-kept : {r : Added} → Addition text ls t r → r ≡ Kept n → namesIn text t n ≡ ls
+      elim-kept (kept {n = u} k h) e = let q : u ≡ n = cc in subst (λ (v : ℕ). namesIn text t v ≡ ls) q h
       elim-kept (full h) e = let z : _≡_ {A = ℕ} 0 1 = cc in absurd (omega arith)
 
   pub added-full : r ≡ Full → 256 < length ls
   added-full e = elim-full a e
     where
-      elim-full : {r : Added} → Addition ls b r → r ≡ Full → 256 < length ls
-      elim-full (kept t h) e = let z : _≡_ {A = ℕ} 0 1 = cc in absurd (omega arith)
+      elim-full : {r : Added} → Addition text ls t r → r ≡ Full → 256 < length ls
+      elim-full (kept k h) e = let z : _≡_ {A = ℕ} 0 1 = cc in absurd (omega arith)
       elim-full (full h) e = h
 
 -- names are only added
@@ -172,11 +211,11 @@ names-longer t ls (e ∷ es) =
     omega arith
 
 -- the first of two names, and then the second
-module _ (ls : List (List ℕ)) (x y b m : List ℕ) (r : Added) (a : Addition (addName ls x) b r) where
-  pub two-full : r ≡ Full → Addition (addName (addName ls x) y) b Full
-  two-full e = full (omega (arith, added-full _ _ r a e, add-longer (addName ls x) y))
+module _ (text : List ℕ) (ls : List (List ℕ)) (x y t m : List ℕ) (r : Added) (a : Addition text (addName ls x) t r) where
+  pub two-full : r ≡ Full → Addition text (addName (addName ls x) y) t Full
+  two-full e = full (omega (arith, added-full _ _ _ r a e, add-longer (addName ls x) y))
 
-  pub two-kept : (s : Names) → r ≡ Kept s → (q : Added) → Addition (addName (namesIn b s) y) m q → Addition (addName (addName ls x) y) m q
-  two-kept s e q h = subst (λ (k : List (List ℕ)). Addition (addName k y) m q) (added-names _ _ r a s e) h
+  pub two-kept : (n : ℕ) → r ≡ Kept n → (q : Added) → Addition text (addName (namesIn text t n) y) m q → Addition text (addName (addName ls x) y) m q
+  two-kept n e q h = subst (λ (k : List (List ℕ)). Addition text (addName k y) m q) (added-names _ _ _ r a n e) h
 
 pub ruleset twoLaws = (added-table, two-full, two-kept, needs)

@@ -2,16 +2,11 @@
 use Prim.Native.Nat.{ℕ}
 use mathlib.Core.Bool.{cond}
 use mathlib.Core.List.{List, [], _∷_}
-use mathlib.Core.Path.{_≡_}
 use lib.Dec.{ltb}
-use lib.ListN.{length, getD, set}
-use Rattle.parser.specs.Pattern.{spelled, indexOf}
-use Rattle.parser.specs.declared.grammar.Span.{Span}
-
--- 256 words 0
-pub record Zeros (ws : List ℕ) : Type 0 where
-  pub long : length ws ≡ 256
-  pub zero : (j : ℕ) → getD ws j 0 ≡ 0
+use lib.ListN.{length, set}
+use Rattle.grammar.specs.Places.{spelled}
+use Rattle.grammar.specs.declared.tokens.Span.{Span}
+use Rattle.parser.specs.Pattern.{indexOf}
 
 -- 1 for the state with the name x, where there is one
 unfoldable pub markOne : List ℕ → List (List ℕ) → List ℕ → Span → List ℕ

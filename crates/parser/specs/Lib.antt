@@ -1,8 +1,6 @@
--- The grammar of patterns and what a text means.
-pub mod Bytes
-pub mod Grammar
-pub mod Pieces
+-- What a text means, and the tables that the code fills.
 pub mod Pattern
+pub mod Memory
 pub mod Names
 pub mod Records
 pub mod Accepts

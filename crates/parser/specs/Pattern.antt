@@ -1,23 +1,20 @@
 -- What a text means (document 01, "Beside the equality"): states number by appearance, the initial one first; a repeated transition counts once;
 -- accepting names that no state has are dropped; the automaton's name is not kept.
-use Prim.Native.Nat.{ℕ, suc, _-_}
+use Prim.Native.Nat.{ℕ, suc}
 use mathlib.Core.Bool.{cond}
 use mathlib.Core.List.{List, [], _∷_, _++_, map}
 use lib.Dec.{ltb}
-use lib.ListN.{length, take, drop}
+use lib.ListN.{length}
 use Rattle.automata.specs.Automaton.{Transition, Automaton}
 use Rattle.automata.specs.Ordered.{inOrder}
+use Rattle.grammar.specs.Places.{spelled}
+use Rattle.grammar.specs.Grammar.{Found, nothing, found, Told, wholeText}
+use Rattle.grammar.specs.declared.tokens.Span.{Span}
+use Rattle.grammar.specs.declared.pieces.Arrow.{Arrow}
 use Rattle.labels.specs.Labels.{sameLabel}
 use Rattle.lists.specs.Lists.{any}
 use Rattle.output.specs.Output.{Pattern}
 use Rattle.refusal.specs.Answer.{Answer, refused, given}
-use Rattle.parser.specs.Grammar.{Found, nothing, found, Told, wholeText}
-use Rattle.parser.specs.declared.grammar.Span.{Span}
-use Rattle.parser.specs.declared.grammar.Arrow.{Arrow}
-
--- the bytes of a name
-abbrev pub spelled : List ℕ → Span → List ℕ
-spelled t s = take (s .end - s .start) (drop (s .start) t)
 
 -- the number of the name x: the first of the names that is x; as many as there are where none is
 unfoldable pub indexOf : List ℕ → List (List ℕ) → ℕ

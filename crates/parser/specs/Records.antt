@@ -1,13 +1,12 @@
--- The table of records that the code fills.
-use Prim.Native.Nat.{ℕ, _≤_, _<_}
+-- The records of the transitions as a sheet has them.
+use Prim.Native.Nat.{ℕ, _≤_}
 use mathlib.Core.List.{List}
+use mathlib.Core.Path.{_≡_}
 use lib.ListN.{length}
 use Rattle.automata.specs.Automaton.{Transition}
-use Rattle.output.specs.Ordered.{Listed}
-use Rattle.parser.specs.declared.records.Recorded.{Recorded}
-use Rattle.parser.specs.declared.records.Recorded.the-variants.{Kept, Full}
+use Rattle.automata.specs.Records.{writeRecords}
 
--- the table b has the transitions es at its front, or these are over 2,048
-pub data Recording (es : List Transition) (b : List ℕ) : Recorded → Type 0 where
-  kept : {end : ℕ} → Listed b 0 end es → length es ≤ 2048 → Recording es b (Kept end)
-  full : 2048 < length es → Recording es b Full
+-- the words rs are the transitions es, at most 2,048
+pub record Recorded (rs : List ℕ) (es : List Transition) : Type 0 where
+  pub words : rs ≡ writeRecords es
+  pub few : length rs ≤ 10240

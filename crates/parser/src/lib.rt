@@ -1,35 +1,30 @@
 // Reading a pattern from its text: the grammar whole, then the states, then the transitions, and only then the outputs.
 ghost use mathlib.Core.List.{_∷_, _++_};
 ghost use mathlib.Core.Path.{_≡_};
-ghost use Prim.Native.Nat.{_/_, _≤_};
+ghost use Prim.Native.Nat.{_+_, _/_, _≤_, _<_};
 ghost use lib.ListN.{length};
-ghost use Rattle.automata.specs.Records.{writeRecords};
-ghost use Rattle.labels.specs.Labels.{writeLabels};
+ghost use Rattle.grammar.specs.Places.{spelled, Spelt, toldAt, Laid};
+ghost use Rattle.labels.specs.Labels.{entry, writeLabels};
 ghost use Rattle.lists.specs.Written.{Written};
 ghost use Rattle.output.specs.Output.{roomFirst};
 ghost use Rattle.refusal.specs.Answer.{given};
-ghost use Rattle.parser.specs.Accepts.{Zeros};
-ghost use Rattle.parser.specs.Layout.{toldAt, Laid, arrowsOf, patternAt};
-ghost use Rattle.parser.specs.Names.{Table, namesIn, Addition};
+ghost use Rattle.parser.specs.Layout.{arrowsOf, patternAt};
+ghost use Rattle.parser.specs.Memory.{Zeros};
+ghost use Rattle.parser.specs.Names.{spanAt, namesIn, Table, Addition};
+ghost use Rattle.parser.specs.Records.{Recorded};
 ghost use Rattle.parser.specs.Parsed.{parsedOf, parsed};
 ghost use Rattle.parser.specs.Pattern.{statesOf, fewTransitions, fewStates, parse};
+use grammar::Cursor;
 use grammar::Layout;
+use grammar::TextPiece;
 use names::Added;
-use names::Names;
-use records::Recorded;
 use refusal::InputRefusal;
 use refusal::Refusal;
 use refusal::StateRefusal;
 
 mod accepts;
-mod grammar;
 mod names;
 mod records;
-
-pub use grammar::Cursor;
-pub use grammar::TextPiece;
-pub use grammar::space;
-pub use grammar::whole_text;
 
 // How many bytes of the text were read, how many words the sheet takes and how many bytes the labels; or a refusal.
 pub enum Parsed {
@@ -48,25 +43,39 @@ fn write_sheet(out: &mut [u32], accepts: &[u32], records: &[u32]) -> usize
     output::put_words(out, behind, records)
 }
 
-// The label list with the names of a table.
-fn write_labels(names: &mut [u8], b: &[u8], s: Names) -> usize
-    requires { ⌜ Table (now b) s × (16642 ≤ length (now names)) ⌝ }
-    ensures { λ r. ⌜ Written (now (names .entry)) 0 (writeLabels (namesIn (now (b .entry)) s)) (now (names .exit)) r ⌝ }
+// Name j of a table after its length.
+fn put_name(names: &mut [u8], at: usize, text: &[u8], t: &[usize], j: usize) -> usize
+    requires { ⌜ (length (now t) ≡ 1024) × (j < 256) × Spelt (now text) (spanAt (now t) j) × (at + 65 ≤ length (now names)) ⌝ }
+    ensures { λ r. ⌜ Written (now (names .entry)) at (entry (spelled (now (text .entry)) (spanAt (now (t .entry)) j))) (now (names .exit)) r ⌝ }
 {
-    let end = s.end;
-    let first = labels::put_count(names, s.n);
-    labels::copy(names, first, &b[..end])
+    let first = t[512 + j];
+    let last = t[768 + j];
+    labels::put_copy(names, at, &text[first..last])
+}
+
+// The label list with the names of a table.
+fn write_labels(names: &mut [u8], text: &[u8], t: &[usize], n: usize) -> usize
+    requires { ⌜ Table (now text) (now t) n × (16642 ≤ length (now names)) ⌝ }
+    ensures { λ r. ⌜ Written (now (names .entry)) 0 (writeLabels (namesIn (now (text .entry)) (now (t .entry)) n)) (now (names .exit)) r ⌝ }
+{
+    let mut at = labels::put_count(names, n);
+    let mut j: usize = 0;
+    while j < n {
+        at = put_name(names, at, text, t, j);
+        j += 1;
+    }
+    at
 }
 
 // The names of the states, the initial one first.
-fn states(text: &[u8], l: Layout, b: &mut [u8]) -> Added
-    requires { ⌜ Laid (now text) l × (length (now b) ≡ 16640) ⌝ }
-    ensures { λ r. ⌜ Addition (statesOf (now (text .entry)) (toldAt (now (text .entry)) l)) (now (b .exit)) r ⌝ }
+fn states(text: &[u8], l: Layout, t: &mut [usize]) -> Added
+    requires { ⌜ Laid (now text) l × Zeros 1024 (now t) ⌝ }
+    ensures { λ r. ⌜ Addition (now (text .entry)) (statesOf (now (text .entry)) (toldAt (now (text .entry)) l)) (now (t .exit)) r ⌝ }
 {
-    let Added::Kept(s) = names::add_name(text, b, Names { n: 0, end: 0 }, l.initial) else {
+    let Added::Kept(n) = names::add_name(text, t, 0, l.initial) else {
         return Added::Full;
     };
-    names::add_arrows(text, l.arrows, b, s)
+    names::add_arrows(text, l.arrows, t, n)
 }
 
 // The outputs of a text whose names and records are known.
@@ -74,22 +83,21 @@ fn write_pattern(
     text: &[u8],
     l: Layout,
     c: Cursor,
-    b: &[u8],
-    s: Names,
+    t: &[usize],
+    n: usize,
     records: &[u32],
     words: &mut [u32],
     out: &mut [u32],
     names: &mut [u8],
 ) -> Parsed
-    requires { ⌜ Table (now b) s × Laid (now text) l × (namesIn (now b) s ≡ statesOf (now text) (toldAt (now text) l)) ⌝ }
-    requires { ⌜ (now records ≡ writeRecords (arrowsOf (now text) l (namesIn (now b) s))) × (length (now records) ≤ 10240) × Zeros (now words) ⌝ }
+    requires { ⌜ Table (now text) (now t) n × Laid (now text) l ⌝ }
+    requires { ⌜ Recorded (now records) (arrowsOf (now text) l (namesIn (now text) (now t) n)) × Zeros 256 (now words) ⌝ }
     requires { ⌜ (10500 ≤ length (now out)) × (16642 ≤ length (now names)) ⌝ }
-    ensures { λ r. ⌜ parsedOf r (now (out .exit)) (now (names .exit)) ≡ parsed (now (out .entry)) (now (names .entry)) (given (record { pattern = patternAt (now (text .entry)) l (namesIn (now (b .entry)) s); read = c .at })) ⌝ }
+    ensures { λ r. ⌜ parsedOf r (now (out .exit)) (now (names .exit)) ≡ parsed (now (out .entry)) (now (names .entry)) (given (record { pattern = patternAt (now (text .entry)) l (namesIn (now (text .entry)) (now (t .entry)) n); read = c .at })) ⌝ }
 {
-    accepts::mark_names(text, l.first, l.more, b, s, words);
-    let n = s.n;
+    accepts::mark_names(text, l.first, l.more, t, n, words);
     let w = write_sheet(out, &words[..n], records);
-    let k = write_labels(names, b, s);
+    let k = write_labels(names, text, t, n);
     Parsed::Read(c.at, w, k)
 }
 
@@ -98,22 +106,23 @@ fn with_names(
     text: &[u8],
     l: Layout,
     c: Cursor,
-    b: &[u8],
-    s: Names,
+    t: &[usize],
+    n: usize,
     buf: &mut [u32],
     words: &mut [u32],
     out: &mut [u32],
     names: &mut [u8],
 ) -> Parsed
-    requires { ⌜ Table (now b) s × Laid (now text) l × (namesIn (now b) s ≡ statesOf (now text) (toldAt (now text) l)) ⌝ }
-    requires { ⌜ (length (now buf) ≡ 10245) × Zeros (now words) ⌝ }
+    requires { ⌜ Table (now text) (now t) n × Laid (now text) l ⌝ }
+    requires { ⌜ (length (now buf) ≡ 20480) × Zeros 256 (now words) ⌝ }
     requires { ⌜ (10500 ≤ length (now out)) × (16642 ≤ length (now names)) ⌝ }
-    ensures { λ r. ⌜ parsedOf r (now (out .exit)) (now (names .exit)) ≡ parsed (now (out .entry)) (now (names .entry)) (fewTransitions (patternAt (now (text .entry)) l (namesIn (now (b .entry)) s)) (c .at)) ⌝ }
+    ensures { λ r. ⌜ parsedOf r (now (out .exit)) (now (names .exit)) ≡ parsed (now (out .entry)) (now (names .entry)) (fewTransitions (patternAt (now (text .entry)) l (namesIn (now (text .entry)) (now (t .entry)) n)) (c .at)) ⌝ }
 {
-    let Recorded::Kept(end) = records::add_records(text, l.arrows, b, s, buf) else {
+    let end = records::collect(text, l.arrows, t, n, buf);
+    if 10240 < end {
         return Parsed::Refused(Refusal::State(StateRefusal::Transitions));
-    };
-    write_pattern(text, l, c, b, s, &buf[..end], words, out, names)
+    }
+    write_pattern(text, l, c, t, n, &buf[0..end], words, out, names)
 }
 
 // The outputs of a text of the grammar, or 21 or 22, by tables that are lent.
@@ -121,20 +130,20 @@ fn with_tables(
     text: &[u8],
     l: Layout,
     c: Cursor,
-    b: &mut [u8],
+    t: &mut [usize],
     buf: &mut [u32],
     words: &mut [u32],
     out: &mut [u32],
     names: &mut [u8],
 ) -> Parsed
-    requires { ⌜ Laid (now text) l × (length (now b) ≡ 16640) × (length (now buf) ≡ 10245) × Zeros (now words) ⌝ }
+    requires { ⌜ Laid (now text) l × Zeros 1024 (now t) × (length (now buf) ≡ 20480) × Zeros 256 (now words) ⌝ }
     requires { ⌜ (10500 ≤ length (now out)) × (16642 ≤ length (now names)) ⌝ }
     ensures { λ r. ⌜ parsedOf r (now (out .exit)) (now (names .exit)) ≡ parsed (now (out .entry)) (now (names .entry)) (fewStates (now (text .entry)) (toldAt (now (text .entry)) l) (c .at) (statesOf (now (text .entry)) (toldAt (now (text .entry)) l))) ⌝ }
 {
-    let Added::Kept(s) = states(text, l, b) else {
+    let Added::Kept(n) = states(text, l, t) else {
         return Parsed::Refused(Refusal::State(StateRefusal::States));
     };
-    with_names(text, l, c, b, s, buf, words, out, names)
+    with_names(text, l, c, t, n, buf, words, out, names)
 }
 
 // The outputs of a text of the grammar, or 21 or 22.
@@ -143,10 +152,10 @@ fn with_layout(text: &[u8], l: Layout, c: Cursor, out: &mut [u32], names: &mut [
     requires { ⌜ (10500 ≤ length (now out)) × (16642 ≤ length (now names)) ⌝ }
     ensures { λ r. ⌜ parsedOf r (now (out .exit)) (now (names .exit)) ≡ parsed (now (out .entry)) (now (names .entry)) (fewStates (now (text .entry)) (toldAt (now (text .entry)) l) (c .at) (statesOf (now (text .entry)) (toldAt (now (text .entry)) l))) ⌝ }
 {
-    let mut b = [0u8; 16640];
-    let mut buf = [0u32; 10245];
+    let mut t = [0usize; 1024];
+    let mut buf = [0u32; 20480];
     let mut words = [0u32; 256];
-    with_tables(text, l, c, &mut b, &mut buf, &mut words, out, names)
+    with_tables(text, l, c, &mut t, &mut buf, &mut words, out, names)
 }
 
 // The pattern at the front of a text: its sheet and its labels into the lent outputs, and how many bytes were read.

@@ -1,113 +1,135 @@
-// The names of the states in order of appearance, each after its length as in a label list.
-ghost use mathlib.Core.Bool.{true};
+// The names of the states in order of appearance: where each stands in the text, and the buckets by which it is found.
+// Words 0 to 511 of the table are the buckets; name j starts at word 512 + j and ends before word 768 + j.
 ghost use mathlib.Core.Path.{_≡_};
-ghost use Prim.Native.Nat.{_<_};
-ghost use Rattle.labels.specs.Labels.{Label, entriesOk, readEntries};
-ghost use Rattle.parser.specs.Grammar.{transitions};
-ghost use Rattle.parser.specs.Pattern.{spelled, indexOf, addName, addNames};
-ghost use Rattle.parser.specs.Names.{Spelt, Drawn, Table, namesIn, Addition};
-use crate::grammar::Arrow;
-use crate::grammar::ArrowPiece;
-use crate::grammar::Cursor;
-use crate::grammar::Span;
+ghost use Prim.Native.Nat.{_+_, _*_, _%_, _<_};
+ghost use lib.ListN.{length};
+ghost use Rattle.grammar.specs.Grammar.{transitions};
+ghost use Rattle.grammar.specs.Places.{spelled, Spelt, Drawn};
+ghost use Rattle.parser.specs.Pattern.{indexOf, addName, addNames};
+ghost use Rattle.parser.specs.Names.{hashOf, spanAt, namesIn, isName, stored, Table, Addition};
+use grammar::Arrow;
+use grammar::ArrowPiece;
+use grammar::Cursor;
+use grammar::Span;
 
-// How many names a table has, and the place behind the last.
-pub struct Names {
-    pub n: usize,
-    pub end: usize,
-}
-
-// The answer of adding names: the names of the table, or that there would be over 256.
+// The answer of adding names: how many the table has, or that there would be over 256.
 pub enum Added {
-    Kept(Names),
+    Kept(usize),
     Full,
 }
 
-// The number of the first of n names that is x, or n.
-fn find(b: &[u8], n: usize, x: &[u8]) -> usize
-    requires { ⌜ entriesOk n (now b) ≡ true ⌝ }
-    ensures { λ r. ⌜ r ≡ indexOf (now (x .entry)) (readEntries n (now (b .entry))) ⌝ }
+// The number h of a name's first bytes with the next byte.
+fn with_byte(h: usize, b: u8) -> usize
+    requires { ⌜ h < 256 ⌝ }
+    ensures { λ r. ⌜ r ≡ (31 * h + b) % 256 ⌝ }
 {
-    let mut at: usize = 0;
-    let mut k: usize = 0;
-    while k < n {
-        if labels::same_label(labels::label_from(b, at), x) {
-            return k;
-        }
-        at = labels::next_label(b, at);
-        k += 1;
+    (31 * h + b as usize) % 256
+}
+
+// The bucket of a name.
+fn hash(x: &[u8]) -> usize
+    ensures { λ r. ⌜ r ≡ hashOf (now (x .entry)) ⌝ }
+{
+    let mut h: usize = 0;
+    let mut i: usize = 0;
+    while i < x.len() {
+        h = with_byte(h, x[i]);
+        i += 1;
     }
-    k
+    h
+}
+
+// Whether name j of a table is x.
+fn is_name(text: &[u8], t: &[usize], j: usize, x: &[u8]) -> bool
+    requires { ⌜ (length (now t) ≡ 1024) × (j < 256) × Spelt (now text) (spanAt (now t) j) ⌝ }
+    ensures { λ r. ⌜ r ≡ isName (now (text .entry)) (now (t .entry)) (now (x .entry)) j ⌝ }
+{
+    let first = t[512 + j];
+    let last = t[768 + j];
+    labels::same_label(&text[first..last], x)
+}
+
+// The number of the name x, whose bucket is h, among n names; or n.
+fn find(text: &[u8], t: &[usize], n: usize, x: &[u8], h: usize) -> usize
+    requires { ⌜ Table (now text) (now t) n × (h ≡ hashOf (now x)) ⌝ }
+    ensures { λ r. ⌜ r ≡ indexOf (now (x .entry)) (namesIn (now (text .entry)) (now (t .entry)) n) ⌝ }
+{
+    let mut i = buckets::head(t, h);
+    while 0 < i {
+        let j = i - 1;
+        if is_name(text, t, j, x) {
+            return j;
+        }
+        i = buckets::link(t, j);
+    }
+    n
 }
 
 // The number of the state that the text names.
-pub fn number_of(text: &[u8], b: &[u8], s: Names, x: Span) -> u32
-    requires { ⌜ Table (now b) s × Spelt (now text) x ⌝ }
-    ensures { λ r. ⌜ r ≡ indexOf (spelled (now (text .entry)) x) (namesIn (now (b .entry)) s) ⌝ }
+pub fn number_of(text: &[u8], t: &[usize], n: usize, x: Span) -> u32
+    requires { ⌜ Table (now text) (now t) n × Spelt (now text) x ⌝ }
+    ensures { λ r. ⌜ r ≡ indexOf (spelled (now (text .entry)) x) (namesIn (now (text .entry)) (now (t .entry)) n) ⌝ }
 {
-    let end = s.end;
     let first = x.start;
     let last = x.end;
-    find(&b[..end], s.n, &text[first..last]) as u32
+    let h = hash(&text[first..last]);
+    find(text, t, n, &text[first..last], h) as u32
 }
 
-// The name x behind the others, unless it is one of them.
-fn add(b: &mut [u8], s: Names, x: &[u8]) -> Added
-    requires { ⌜ Table (now b) s × Label (now x) ⌝ }
-    ensures { λ r. ⌜ Addition (addName (namesIn (now (b .entry)) s) (now (x .entry))) (now (b .exit)) r ⌝ }
+// Name n of the table stands from first to last, and its bucket is h.
+fn put(t: &mut [usize], n: usize, first: usize, last: usize, h: usize)
+    requires { ⌜ (length (now t) ≡ 1024) × (n < 256) × (h < 256) ⌝ }
+    ensures { λ u. ⌜ now (t .exit) ≡ stored (now (t .entry)) n first last h ⌝ }
 {
-    let n = s.n;
-    let end = s.end;
-    if find(&b[..end], n, x) < n {
-        return Added::Kept(s);
+    t[512 + n] = first;
+    t[768 + n] = last;
+    buckets::enter(t, n, h);
+}
+
+// The name that stands in the text behind the others, unless it is one of them.
+pub fn add_name(text: &[u8], t: &mut [usize], n: usize, x: Span) -> Added
+    requires { ⌜ Table (now text) (now t) n × Spelt (now text) x ⌝ }
+    ensures { λ r. ⌜ Addition (now (text .entry)) (addName (namesIn (now (text .entry)) (now (t .entry)) n) (spelled (now (text .entry)) x)) (now (t .exit)) r ⌝ }
+{
+    let first = x.start;
+    let last = x.end;
+    let h = hash(&text[first..last]);
+    if find(text, t, n, &text[first..last], h) < n {
+        return Added::Kept(n);
     }
     if 256 <= n {
         return Added::Full;
     }
-    let behind = labels::put_copy(b, end, x);
-    Added::Kept(Names {
-        n: n + 1,
-        end: behind,
-    })
-}
-
-// The name that stands in the text behind the others, unless it is one of them.
-pub fn add_name(text: &[u8], b: &mut [u8], s: Names, x: Span) -> Added
-    requires { ⌜ Table (now b) s × Spelt (now text) x ⌝ }
-    ensures { λ r. ⌜ Addition (addName (namesIn (now (b .entry)) s) (spelled (now (text .entry)) x)) (now (b .exit)) r ⌝ }
-{
-    let first = x.start;
-    let last = x.end;
-    add(b, s, &text[first..last])
+    put(t, n, first, last, h);
+    Added::Kept(n + 1)
 }
 
 // The two names of a transition.
-fn add_arrow(text: &[u8], b: &mut [u8], s: Names, e: Arrow) -> Added
-    requires { ⌜ Table (now b) s × Drawn (now text) e ⌝ }
-    ensures { λ r. ⌜ Addition (addName (addName (namesIn (now (b .entry)) s) (spelled (now (text .entry)) (e .from))) (spelled (now (text .entry)) (e .to))) (now (b .exit)) r ⌝ }
+fn add_arrow(text: &[u8], t: &mut [usize], n: usize, e: Arrow) -> Added
+    requires { ⌜ Table (now text) (now t) n × Drawn (now text) e ⌝ }
+    ensures { λ r. ⌜ Addition (now (text .entry)) (addName (addName (namesIn (now (text .entry)) (now (t .entry)) n) (spelled (now (text .entry)) (e .from))) (spelled (now (text .entry)) (e .to))) (now (t .exit)) r ⌝ }
 {
-    let Added::Kept(s) = add_name(text, b, s, e.from) else {
+    let Added::Kept(m) = add_name(text, t, n, e.from) else {
         return Added::Full;
     };
-    add_name(text, b, s, e.to)
+    add_name(text, t, m, e.to)
 }
 
 // The names of the transitions from a cursor on.
-pub fn add_arrows(text: &[u8], c: Cursor, b: &mut [u8], s: Names) -> Added
-    requires { ⌜ Table (now b) s ⌝ }
-    ensures { λ r. ⌜ Addition (addNames (now (text .entry)) (namesIn (now (b .entry)) s) (transitions (now (text .entry)) (c .at) .items)) (now (b .exit)) r ⌝ }
+pub fn add_arrows(text: &[u8], c: Cursor, t: &mut [usize], n: usize) -> Added
+    requires { ⌜ Table (now text) (now t) n ⌝ }
+    ensures { λ r. ⌜ Addition (now (text .entry)) (addNames (now (text .entry)) (namesIn (now (text .entry)) (now (t .entry)) n) (transitions (now (text .entry)) (c .at) .items)) (now (t .exit)) r ⌝ }
 {
     let mut at = c.at;
-    let mut names = s;
+    let mut count = n;
     loop {
-        let ArrowPiece::Read(e, next) = crate::grammar::spaced_transition(text, Cursor { at })
-        else {
-            return Added::Kept(names);
+        let ArrowPiece::Read(e, next) = grammar::spaced_transition(text, Cursor { at }) else {
+            return Added::Kept(count);
         };
-        let Added::Kept(more) = add_arrow(text, b, names, e) else {
+        let Added::Kept(more) = add_arrow(text, t, count, e) else {
             return Added::Full;
         };
-        names = more;
+        count = more;
         at = next.at;
     }
 }

@@ -1,53 +1,51 @@
-// The records of the transitions, in order and equal ones once, in a table of 2,049 records.
-ghost use mathlib.Core.List.{map};
+// The records of the transitions: gathered as they come, then put in order, equal ones once.
+ghost use mathlib.Core.List.{[], _∷_, _++_, map};
 ghost use mathlib.Core.Path.{_≡_};
-ghost use Prim.Native.Nat.{_+_, _≤_};
 ghost use lib.ListN.{length};
-ghost use Rattle.automata.specs.Ordered.{insert, inOrder};
-ghost use Rattle.automata.specs.Records.{writeRecords};
-ghost use Rattle.lists.specs.Written.{Written};
-ghost use Rattle.output.specs.Ordered.{Listed, recordsIn};
-ghost use Rattle.parser.specs.Grammar.{transitions};
+ghost use Rattle.grammar.specs.Grammar.{transitions};
+ghost use Rattle.grammar.specs.Places.{Drawn};
+ghost use Rattle.output.specs.Gathering.{Open, Gathered, Collected};
+ghost use Rattle.output.specs.Ordered.{recordsIn};
 ghost use Rattle.parser.specs.Pattern.{transitionOf};
-ghost use Rattle.parser.specs.Names.{Drawn, Table, namesIn};
-ghost use Rattle.parser.specs.Records.{Recording};
-use crate::grammar::Arrow;
-use crate::grammar::ArrowPiece;
-use crate::grammar::Cursor;
-use crate::names::Names;
+ghost use Rattle.parser.specs.Names.{Table, namesIn};
+use grammar::Arrow;
+use grammar::ArrowPiece;
+use grammar::Cursor;
 
-// The place behind the records, or that there are over 2,048.
-pub enum Recorded {
-    Kept(usize),
-    Full,
-}
-
-// The record of a transition in its place among those up to end; the place behind them.
-fn add_record(text: &[u8], b: &[u8], s: Names, e: Arrow, buf: &mut [u32], end: usize) -> usize
-    requires { ⌜ Table (now b) s × Drawn (now text) e × Listed (now buf) 0 end (recordsIn (now buf) 0 end) × (end + 5 ≤ length (now buf)) ⌝ }
-    ensures { λ r. ⌜ Written (now (buf .entry)) 0 (writeRecords (insert (transitionOf (now (text .entry)) (namesIn (now (b .entry)) s) e) (recordsIn (now (buf .entry)) 0 end))) (now (buf .exit)) r ⌝ }
+// The record of a transition behind those before end; the place behind it, or 20,480 where they are too many.
+fn add_record(text: &[u8], t: &[usize], n: usize, e: Arrow, buf: &mut [u32], end: usize) -> usize
+    requires { ⌜ Table (now text) (now t) n × Drawn (now text) e × Open (now buf) end ⌝ }
+    ensures { λ r. ⌜ Gathered (now (buf .exit)) r (recordsIn (now (buf .entry)) 0 end ++ transitionOf (now (text .entry)) (namesIn (now (text .entry)) (now (t .entry)) n) e ∷ []) ⌝ }
 {
-    let from = crate::names::number_of(text, b, s, e.from);
-    let to = crate::names::number_of(text, b, s, e.to);
-    output::insert_record(buf, 0, end, from, 1, e.first, e.last, to)
+    let from = crate::names::number_of(text, t, n, e.from);
+    let to = crate::names::number_of(text, t, n, e.to);
+    output::gather_record(buf, end, from, 1, e.first, e.last, to)
 }
 
-// The records of the transitions from a cursor on.
-pub fn add_records(text: &[u8], c: Cursor, b: &[u8], s: Names, buf: &mut [u32]) -> Recorded
-    requires { ⌜ Table (now b) s × (length (now buf) ≡ 10245) ⌝ }
-    ensures { λ r. ⌜ Recording (inOrder (map (transitionOf (now (text .entry)) (namesIn (now (b .entry)) s)) (transitions (now (text .entry)) (c .at) .items))) (now (buf .exit)) r ⌝ }
+// The records of the transitions from a cursor on, until there are too many.
+fn add_records(text: &[u8], c: Cursor, t: &[usize], n: usize, buf: &mut [u32]) -> usize
+    requires { ⌜ Table (now text) (now t) n × (length (now buf) ≡ 20480) ⌝ }
+    ensures { λ r. ⌜ Gathered (now (buf .exit)) r (map (transitionOf (now (text .entry)) (namesIn (now (text .entry)) (now (t .entry)) n)) (transitions (now (text .entry)) (c .at) .items)) ⌝ }
 {
     let mut at = c.at;
     let mut end: usize = 0;
     loop {
-        let ArrowPiece::Read(e, next) = crate::grammar::spaced_transition(text, Cursor { at })
-        else {
-            return Recorded::Kept(end);
+        let ArrowPiece::Read(e, next) = grammar::spaced_transition(text, Cursor { at }) else {
+            return end;
         };
-        end = add_record(text, b, s, e, buf, end);
-        if 10240 < end {
-            return Recorded::Full;
+        end = add_record(text, t, n, e, buf, end);
+        if 20480 <= end {
+            return end;
         }
         at = next.at;
     }
+}
+
+// The records of the transitions from a cursor on in order, equal ones once, unless there are too many; the place behind.
+pub fn collect(text: &[u8], c: Cursor, t: &[usize], n: usize, buf: &mut [u32]) -> usize
+    requires { ⌜ Table (now text) (now t) n × (length (now buf) ≡ 20480) ⌝ }
+    ensures { λ r. ⌜ Collected (now (buf .exit)) r (map (transitionOf (now (text .entry)) (namesIn (now (text .entry)) (now (t .entry)) n)) (transitions (now (text .entry)) (c .at) .items)) ⌝ }
+{
+    let end = add_records(text, c, t, n, buf);
+    output::collect_records(buf, end)
 }

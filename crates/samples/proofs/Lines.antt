@@ -14,8 +14,8 @@ use Rattle.equality.specs.Forced.{Two}
 use Rattle.equality.specs.Verdict.{Equal, Apart}
 use Rattle.equality.proofs.Theorems.{classes-number, same-words, one-word, not-same}
 use Rattle.labels.specs.Labels.{sameLabel}
-use Rattle.parser.specs.Bytes.{isSpace, isLetter, isDigit, isNameByte}
-use Rattle.parser.specs.Grammar.{follow, run, space, neededSpace, begins, token, name, value, number, ends, range, target, transition, initial, nextName, many, transitions, nextNames, accepting, heading, ending, wholeText}
+use Rattle.grammar.specs.Bytes.{isSpace, isLetter, isDigit, isNameByte}
+use Rattle.grammar.specs.Grammar.{follow, run, space, neededSpace, begins, token, name, value, number, ends, range, target, transition, initial, nextName, many, transitions, nextNames, accepting, heading, ending, wholeText}
 use Rattle.parser.specs.Pattern.{indexOf, addName, addNames, statesOf, acceptWord, automatonOf, fewTransitions, fewStates, parse}
 use Rattle.refusal.specs.Answer.{Answer, given}
 use Rattle.sheets.specs.Sheet.{read}

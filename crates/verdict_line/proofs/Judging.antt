@@ -10,6 +10,7 @@ use lib.Dec.{ltb}
 use lib.ListN.{length, take, drop}
 use lib.Seq.{length-take-le}
 use Rattle.automata.specs.Automaton.{Automaton}
+use Rattle.grammar.specs.Grammar.{Found, nothing, found, Mark}
 use Rattle.lists.specs.Written.{Written}
 use Rattle.lists.proofs.Parts.{part-all}
 use Rattle.lists.proofs.Written.{written-length}
@@ -23,7 +24,6 @@ use Rattle.sheets.specs.Fault.{fault}
 use Rattle.sheets.specs.Sheet.{read}
 use Rattle.determinize.specs.Determinize.{determinize}
 use Rattle.determinize.proofs.Theorems.{determinize-fits}
-use Rattle.parser.specs.Grammar.{Found, nothing, found, Mark}
 use Rattle.parser.specs.Pattern.{Reading, parse}
 use Rattle.parser.specs.declared.Parsed.{Parsed}
 use Rattle.parser.specs.declared.Parsed.the-variants.{Read}

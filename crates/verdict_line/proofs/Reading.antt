@@ -11,6 +11,15 @@ use borrow.Author.Tests.{lt-ltb, le-ltb}
 use lib.Dec.{ltb}
 use lib.ListN.{length, take, drop, length-drop}
 use lib.Seq.{sets, sets-eq, length-sets, take-append-seam}
+use Rattle.grammar.specs.Grammar.{nothing, found, follow, Mark, mark, Told, space, wholeText}
+use Rattle.grammar.specs.Places.{toldAt}
+use Rattle.grammar.specs.Pieces.{textOf}
+use Rattle.grammar.specs.declared.tokens.Cursor.{Cursor}
+use Rattle.grammar.specs.declared.text.Layout.{Layout}
+use Rattle.grammar.specs.declared.text.TextPiece.{TextPiece}
+use Rattle.grammar.specs.declared.text.TextPiece.the-variants.{Read as TextRead, Nothing as NoText}
+use Rattle.grammar.proofs.Progress.{Holds, holds-found, holds-follow, text-inside}
+use Rattle.grammar.proofs.Runs.{space-inside}
 use Rattle.labels.specs.Labels.{writeLabels}
 use Rattle.lists.proofs.Parts.{part-all}
 use Rattle.refusal.specs.Answer.{Answer, refused, given}
@@ -21,20 +30,11 @@ use Rattle.sheets.specs.Fault.{fault}
 use Rattle.sheets.specs.Sheet.{read, write}
 use Rattle.sheets.proofs.Meaning.{read-write-sheet}
 use Rattle.determinize.proofs.Written.{write-room}
-use Rattle.parser.specs.Grammar.{nothing, found, follow, Mark, mark, Told, space, wholeText}
-use Rattle.parser.specs.Layout.{toldAt}
 use Rattle.parser.specs.Parsed.{Lengths, Output, parsed, parsedOf}
 use Rattle.parser.specs.Pattern.{Reading, parse}
-use Rattle.parser.specs.Pieces.{textOf}
 use Rattle.parser.specs.declared.Parsed.{Parsed}
 use Rattle.parser.specs.declared.Parsed.the-variants.{Read, Refused}
-use Rattle.parser.specs.declared.grammar.Cursor.{Cursor}
-use Rattle.parser.specs.declared.grammar.Layout.{Layout}
-use Rattle.parser.specs.declared.grammar.TextPiece.{TextPiece}
-use Rattle.parser.specs.declared.grammar.TextPiece.the-variants.{Read as TextRead, Nothing as NoText}
 use Rattle.parser.proofs.Output.{parse-right}
-use Rattle.parser.proofs.Progress.{Holds, holds-found, holds-follow, text-inside}
-use Rattle.parser.proofs.Runs.{space-inside}
 use Rattle.verdict_line.specs.Texts.{twoTexts}
 use Rattle.verdict_line.specs.Code.{SheetRead, refuses, reads}
 

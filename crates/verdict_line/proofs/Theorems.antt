@@ -8,9 +8,9 @@ use borrow.Author.Tests.{le-ltb}
 use lib.ListN.{length, drop}
 use Rattle.automata.specs.Automaton.{Automaton, Word}
 use Rattle.automata.specs.WellFormed.{WellFormed}
+use Rattle.grammar.specs.Grammar.{found, mark}
 use Rattle.refusal.specs.Answer.{Answer, given}
 use Rattle.determinize.specs.Determinize.{determinize}
-use Rattle.parser.specs.Grammar.{found, mark}
 use Rattle.parser.specs.Pattern.{Reading, parse}
 use Rattle.parser.proofs.Output.{parse-right}
 use Rattle.equality.specs.Forced.{Two, states}

@@ -5,8 +5,8 @@ use mathlib.Core.List.{List}
 use lib.Dec.{ltb}
 use lib.ListN.{length, drop}
 use Rattle.automata.specs.Automaton.{Automaton}
+use Rattle.grammar.specs.Grammar.{Found, nothing, found, follow, Mark, mark, space, wholeText}
 use Rattle.refusal.specs.Answer.{Answer, refused, given}
-use Rattle.parser.specs.Grammar.{Found, nothing, found, follow, Mark, mark, space, wholeText}
 use Rattle.parser.specs.Pattern.{Reading, parse}
 use Rattle.equality.specs.Forced.{Two}
 use Rattle.equality.specs.Equality.{determinized}

@@ -11,9 +11,9 @@ ghost use Rattle.verdict_line.specs.Texts.{twoTexts, withSecondText, wit
 ghost use Rattle.verdict_line.specs.Line.{Printed};
 ghost use Rattle.verdict_line.specs.Code.{secondOf, SheetRead};
 use equality::Verdict;
-use parser::Cursor;
+use grammar::Cursor;
+use grammar::TextPiece;
 use parser::Parsed;
-use parser::TextPiece;
 use refusal::InputRefusal;
 use refusal::Refusal;
 
@@ -29,15 +29,15 @@ pub enum Second {
 fn second_text(input: &[u8]) -> Second
     ensures { λ r. ⌜ secondOf r ≡ twoTexts (now (input .entry)) ⌝ }
 {
-    let TextPiece::Read(_, c) = parser::whole_text(input) else {
+    let TextPiece::Read(_, c) = grammar::whole_text(input) else {
         return Second::Outside;
     };
-    let from = parser::space(input, c);
+    let from = grammar::space(input, c);
     let at = from.at;
-    let TextPiece::Read(_, d) = parser::whole_text(&input[at..]) else {
+    let TextPiece::Read(_, d) = grammar::whole_text(&input[at..]) else {
         return Second::Outside;
     };
-    let end = parser::space(input, Cursor { at: at + d.at });
+    let end = grammar::space(input, Cursor { at: at + d.at });
     if end.at < input.len() {
         return Second::Outside;
     }

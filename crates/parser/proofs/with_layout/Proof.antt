@@ -2,7 +2,7 @@
 use Prim.Native.Nat.{ℕ}
 use borrow.Author.Needs.{needs}
 use lib.ListN.{length-replicate}
-use Rattle.parser.proofs.Marking.{zeros}
+use Rattle.parser.proofs.Memory.{zeros}
 use Rattle.parser.proofs.with_layout.Statement.{statement}
 use Rattle.parser.proofs.with_layout.Tie as tie
 
@@ -11,4 +11,4 @@ with-layout-spec =
     tie.close
     (tie.spec (λ c. search needs) (λ c. search needs) (λ c. search needs)
     (λ c κs. let p = c .before .before .before .before .before .before .before .before .pre in
-    ((p .0, length-replicate {A = ℕ} 16640 0, length-replicate {A = ℕ} 10245 0, zeros), p .1)) (λ c. search needs) (λ c. search needs) (λ c. search needs))
+    ((p .0, zeros 1024, length-replicate {A = ℕ} 20480 0, zeros 256), p .1)) (λ c. search needs) (λ c. search needs) (λ c. search needs))

@@ -1,11 +1,20 @@
--- `write_labels` meets its contract: the count, and behind it the names as they stand in the table.
-use Rattle.parser.proofs.Reading.{labelLaws}
-use Rattle.parser.proofs.Tables.{table-counted}
+-- `write_labels` meets its contract: each turn writes one name more.
+use Prim.Native.Nat.{_-_, _≤_}
+use Rattle.labels.specs.Labels.{writeEntries}
+use Rattle.lists.specs.Written.{Written}
+use Rattle.parser.specs.Names.{namesIn}
+use Rattle.parser.proofs.Labelling.{labelLaws}
 use Rattle.parser.proofs.write_labels.Statement.{statement}
 use Rattle.parser.proofs.write_labels.Tie as tie
+
+abbrev Inv-loop : tie.InvT-loop
+Inv-loop names₀ text t n at₀ j₀ names at j = (j ≤ n) × Written names₀ at₀ (writeEntries (namesIn text t j)) names at
+
+abbrev μ-loop : tie.MeasureT-loop
+μ-loop names₀ text t n at₀ j₀ names at j = n - j
 
 pub write-labels-spec : {M : Type 1} → statement M
 write-labels-spec =
     tie.close
-    (tie.spec (λ c κs. search labelLaws) (λ c. table-counted _ _ (c .before .before .before .before .before .before .before .before .pre .0))
-    (λ c κs. search labelLaws) (λ c. search labelLaws) (λ c. search labelLaws))
+    (tie.spec Inv-loop μ-loop (λ c κs. search labelLaws) (λ c. search labelLaws) (λ c κs. search labelLaws) (λ c. search labelLaws) (λ c. search labelLaws)
+    (λ c. search labelLaws) (λ c. search labelLaws) (λ c. search labelLaws))

@@ -9,12 +9,12 @@ pub write-pattern-spec : {M : Type 1} → statement M
 write-pattern-spec =
     tie.close
     (tie.spec (λ c κs. search needs) (λ c. search needs)
-    (λ c. words-counted _ _ (c .before .before .before .before .before .before .before .before .before .before .before .before .pre .0 .0) _ (omega
-    (arith, c .before .before .before .before .before .before .before .before .before .before .before .before .pre .1 .0 .2 .long)))
+    (λ c. words-counted _ _ _ (c .before .before .before .before .before .before .before .before .before .before .before .before .pre .0 .0) _ (omega
+    (arith, c .before .before .before .before .before .before .before .before .before .before .before .before .pre .1 .0 .1 .long)))
     (λ c κs. (
       search needs,
-      words-few _ _ (c .before .before .before .before .before .before .before .before .before .before .before .before .pre .0 .0) _
-          (omega (arith, c .before .before .before .before .before .before .before .before .before .before .before .before .pre .1 .0 .2 .long)),
+      words-few _ _ _ (c .before .before .before .before .before .before .before .before .before .before .before .before .pre .0 .0) _
+          (omega (arith, c .before .before .before .before .before .before .before .before .before .before .before .before .pre .1 .0 .1 .long)),
       search needs,
     ))
     (λ c κs. search needs) (λ c. search needs) (λ c. search needs) (λ c. search needs)
@@ -22,6 +22,6 @@ write-pattern-spec =
     .before .before .args in
     let p = c .before .before .before .before .before .before .before .before .before .before .before .before .before .before .before .before .before .before
     .before .pre in
-    pattern-written (a .text .now) (a .l) (a .b .now) (a .s) (p .0 .0) (p .0 .2) _ _ _ _ _ _ _ _ _ _ (p .1 .0 .2)
+    pattern-written (a .text .now) (a .l) (a .t .now) (a .n) (p .0 .0) _ _ _ _ _ _ _ _ _ _ (p .1 .0 .1)
     (c .before .before .before .before .before .before .before .before .before .before .before .mark-names .ensures) (p .1 .0 .0)
     (c .before .before .before .before .before .before .write-sheet .ensures) (c .before .before .write-labels .ensures)))

@@ -2,18 +2,18 @@
 use Prim.Native.Nat.{_-_}
 use mathlib.Core.Path.{_≡_}
 use lib.ListN.{length}
+use Rattle.grammar.specs.Grammar.{nextNames}
 use Rattle.parser.specs.Accepts.{markAll}
-use Rattle.parser.specs.Grammar.{nextNames}
 use Rattle.parser.specs.Names.{namesIn}
 use Rattle.parser.proofs.Marking.{marksLaws, marks-next}
 use Rattle.parser.proofs.accepts.mark_next.Statement.{statement}
 use Rattle.parser.proofs.accepts.mark_next.Tie as tie
 
 abbrev Inv-loop : tie.InvT-loop
-Inv-loop text b s words₀ at₀ words at = (length words ≡ 256) × (markAll text (namesIn b s) words (nextNames text at .items) ≡ markAll text (namesIn b s) words₀ (nextNames text at₀ .items))
+Inv-loop text t n words₀ at₀ words at = (length words ≡ 256) × (markAll text (namesIn text t n) words (nextNames text at .items) ≡ markAll text (namesIn text t n) words₀ (nextNames text at₀ .items))
 
 abbrev μ-loop : tie.MeasureT-loop
-μ-loop text b s words₀ at₀ words at = length text - at
+μ-loop text t n words₀ at₀ words at = length text - at
 
 pub mark-next-spec : {M : Type 1} → statement M
 mark-next-spec =

@@ -2,7 +2,7 @@
 use Prim.Native.Nat.{_-_}
 use mathlib.Core.Path.{_≡_}
 use lib.ListN.{length}
-use Rattle.parser.specs.Grammar.{transitions}
+use Rattle.grammar.specs.Grammar.{transitions}
 use Rattle.parser.specs.Names.{Table, namesIn}
 use Rattle.parser.specs.Pattern.{addNames}
 use Rattle.parser.proofs.Collecting.{collectLaws, collect-next, collect-full}
@@ -10,10 +10,10 @@ use Rattle.parser.proofs.names.add_arrows.Statement.{statement}
 use Rattle.parser.proofs.names.add_arrows.Tie as tie
 
 abbrev Inv-loop : tie.InvT-loop
-Inv-loop text b₀ at₀ names₀ b at names = (length b ≡ length b₀) × Table b names × (addNames text (namesIn b names) (transitions text at .items) ≡ addNames text (namesIn b₀ names₀) (transitions text at₀ .items))
+Inv-loop text t₀ n at₀ count₀ t at count = (length t ≡ length t₀) × Table text t count × (addNames text (namesIn text t count) (transitions text at .items) ≡ addNames text (namesIn text t₀ n) (transitions text at₀ .items))
 
 abbrev μ-loop : tie.MeasureT-loop
-μ-loop text b₀ at₀ names₀ b at names = length text - at
+μ-loop text t₀ n at₀ count₀ t at count = length text - at
 
 pub add-arrows-spec : {M : Type 1} → statement M
 add-arrows-spec =

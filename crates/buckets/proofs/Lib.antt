@@ -1,0 +1,4 @@
+-- The laws of the table of buckets.
+pub mod Latest
+pub mod Entering
+pub mod Walking

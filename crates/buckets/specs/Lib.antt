@@ -1,0 +1,2 @@
+-- The table of buckets.
+pub mod Buckets

@@ -1,0 +1,6 @@
+-- The grammar of patterns.
+pub mod Bytes
+pub mod Grammar
+pub mod Places
+pub mod Pieces
+pub mod Examples

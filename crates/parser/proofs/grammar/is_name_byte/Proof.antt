@@ -1,9 +1,0 @@
--- `is_name_byte` meets its contract.
-use Rattle.parser.proofs.Bytes.{nameByteLaws}
-use Rattle.parser.proofs.grammar.is_name_byte.Statement.{statement}
-use Rattle.parser.proofs.grammar.is_name_byte.Tie as tie
-
-pub is-name-byte-spec : {M : Type 1} → statement M
-is-name-byte-spec =
-    tie.close
-    (tie.spec (λ c κs. search nameByteLaws) (λ c. search nameByteLaws) (λ c κs. search nameByteLaws) (λ c. search nameByteLaws) (λ c. search nameByteLaws))
