@@ -18,8 +18,15 @@ determinize-accepted-spec =
     let e = c .before .before .before .before .before .n .given .1 in
     (a, accepted-canonical _ _ _ a _ _ _ p _ _ e, accepted-few _ _ _ a _ _ _ p _ _ e, search needs, accepted-room _ _ _ a _ _ _ p _ _ e (c .before .before .before .if1 .left), search needs))
     (λ c.
-    omega (arith, accepted-few _ _ _ (c .before .before .before .before .before .before .before .before .before .before .before .before .before .before .before .before .before .before .before .before .begin .ensures .0 .accepted) _ _ _ (c .before .before .before .before .before .before .before .before .before .before .before .before .explore .ensures) _ _ (c .before .before .before .before .before .before .before .before .n .given .1)))
-    (λ c. search acceptedLaws) (λ c. search acceptedLaws) (λ c.
-    accepted-given _ _ _ (c .before .before .before .before .before .before .before .before .before .before .before .before .before .before .before .before .before .before .before .before .begin .ensures .0 .accepted) _ _ _ (c .before .before .before .before .before .before .before .before .before .before .before .before .explore .ensures) _ _ (c .before .before .before .before .before .before .before .before .n .given .1) (c .before .before .before .before .before .before .if1 .left) _ _ _
+    let told = c .before .before .before .before .before .before .before .before in
+    let first = told .before .before .before .before in
+    let a = first .before .before .before .before .before .before .before .before .begin .ensures .0 .accepted in
+    omega (arith, accepted-few _ _ _ a _ _ _ (first .explore .ensures) _ _ (told .n .given .1)))
+    (λ c. search acceptedLaws) (λ c. search acceptedLaws)
+    (λ c.
+    let told = c .before .before .before .before .before .before .before .before in
+    let first = told .before .before .before .before in
+    let a = first .before .before .before .before .before .before .before .before .begin .ensures .0 .accepted in
+    accepted-given _ _ _ a _ _ _ (first .explore .ensures) _ _ (told .n .given .1) (c .before .before .before .before .before .before .if1 .left) _ _ _
     (c .before .before .write-sheet .ensures))
     (λ c. search acceptedLaws))
