@@ -136,5 +136,3 @@ start-canonical s starts c t x e =
     record {
       each = λ S m. subst (Canon (stateCount s)) (sym (List·Memᴰ·eq-of-singleton m)) (start-canon s starts c t x e);
     }
-
-pub ruleset exploreLaws = (explore-begins, explore-over, explore-few, explore-canonical, explore-bounded, explore-next, explore-ended, start-canonical, needs)

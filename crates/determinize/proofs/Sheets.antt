@@ -4,7 +4,6 @@ use mathlib.Core.List.{List, [], _∷_, _++_, map}
 use mathlib.Core.Path.{_≡_, refl, sym, _∙_, ap, ap₂, subst}
 use native.Mathlib.Numerals.{add-one}
 use native.Mathlib.Omega.{arith}
-use borrow.Author.Needs.{needs}
 use lib.ListN.{length, take, drop, replicate, length-map, length-replicate}
 use lib.Seq.{sets, sets-eq, length-take-le, take-append-seam}
 use Rattle.lists.specs.Written.{Written}
@@ -19,7 +18,6 @@ use Rattle.sheets.specs.Accepted.{Accepted}
 use Rattle.sheets.specs.Sheet.{stateCount, read, write}
 use Rattle.sheets.proofs.Meaning.{read-well}
 use Rattle.words.specs.Simulation.{kindOf}
-use Rattle.words.proofs.Epsilons.{fresh}
 use Rattle.refusal.specs.declared.StateRefusal.the-variants.{States, Transitions}
 use Rattle.determinize.specs.declared.Progress.{Progress}
 use Rattle.determinize.specs.declared.Progress.the-variants.{Sets, Over}
@@ -121,5 +119,3 @@ module _ (lo hi : ℕ) (s : List ℕ) (a : Accepted s) (t r : List ℕ) (x : Pro
         let k : n + 1 ≡ suc (length (entries t n)) = add-one n ∙ ap suc (sym (length-entries t n)) in
         rw (u .stored, c, k)
         (sym (ap (sheetOutput o) (answer-given lo hi (read s) (entries t n) (finished .whole) (subst (λ k. k ≤ 2048) (finished-count lo hi (read s) ok (replicate 10240 0) t r n m finished) h))))
-
-pub ruleset acceptedLaws = (fresh, accepted-over, accepted-few, accepted-canonical, accepted-many, accepted-given, accepted-part, accepted-room, needs)

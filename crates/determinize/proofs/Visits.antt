@@ -25,7 +25,7 @@ use Rattle.determinize.proofs.Tables.{add-extends, add-in, meet-out}
 use Rattle.determinize.proofs.Targets.{spanTargets}
 use Rattle.determinize.proofs.Laws.{meet-begins, meet-next, meet-ended, meet-full}
 use Rattle.lists.proofs.Left.{Left, left-start, left-done, left-next}
-use Rattle.determinize.proofs.Placing.{cut-some, cut-less, cut-counts, cut-most, cut-fits}
+use Rattle.determinize.proofs.Placing.{cut-some, cut-fits}
 use Rattle.determinize.proofs.Notes.{number-later, notes-step, notes-end}
 
 -- a span is visited
@@ -105,5 +105,3 @@ pub canonical-next : (s starts c : List ℕ) (S : Set) (T : List Set) (a j last 
     → Canonical (stateCount s) (entries t n)
 canonical-next s starts c S T a j last k n r t r′ x d v =
     subst (Canonical (stateCount s)) (sym (v .added)) (canonical-add (stateCount s) (step (read s) S a) T d (step-canon (read s) (read-well s (x .accepted) .states) a S))
-
-pub ruleset spanLaws = (visit-begins, visit-next, visit-over, visit-ended, canonical-next, cut-less, cut-counts, cut-most, needs)

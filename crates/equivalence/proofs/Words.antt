@@ -7,7 +7,7 @@ use native.Mathlib.Omega.{arith}
 use Rattle.lists.specs.Lists.{_∈_}
 use Rattle.automata.specs.Automaton.{Transition, Automaton, Run, stay, skip, read, Accepts, leaving}
 use Rattle.automata.specs.WellFormed.{WellFormed}
-use Rattle.ranges.proofs.Missing.{held}
+use Rattle.ranges.proofs.Held.{held}
 use Rattle.totality.proofs.Rows.{leaves, leaving-in}
 use Rattle.totality.proofs.Words.{Functional}
 use Rattle.equivalence.specs.Triggers.{First}

@@ -50,13 +50,17 @@ abbrev apart : Two
 apart = record { one = DA; two = DC; low = 0; high = lastSymbol }
 
 -- the texts are read as A, B and C
-is-both : comparedTexts 0 lastSymbol (text-a ++ text-b) ≡ given both
-unfolding follow isSpace isLetter isDigit isNameByte run space neededSpace begins token name value number ends range target transition initial nextName many transitions nextNames accepting heading ending wholeText sameLabel indexOf addName addNames statesOf any acceptWord automatonOf fewTransitions fewStates parse insert inOrder readRecords withSecond withFirst both-determinized twoTexts withSecondText withFirstText comparedTexts
-is-both = ap (λ (x : Answer Automaton). withFirst 0 lastSymbol x (determinize 0 lastSymbol (read B))) (determinized .0) ∙ ap (withSecond 0 lastSymbol DA) (determinized .1)
-
-is-apart : comparedTexts 0 lastSymbol (text-a ++ text-c) ≡ given apart
-unfolding follow isSpace isLetter isDigit isNameByte run space neededSpace begins token name value number ends range target transition initial nextName many transitions nextNames accepting heading ending wholeText sameLabel indexOf addName addNames statesOf any acceptWord automatonOf fewTransitions fewStates parse insert inOrder readRecords withSecond withFirst both-determinized twoTexts withSecondText withFirstText comparedTexts
-is-apart = ap (λ (x : Answer Automaton). withFirst 0 lastSymbol x (determinize 0 lastSymbol (read C))) (determinized .0) ∙ ap (withSecond 0 lastSymbol DA) (determinized .2)
+are-compared :
+    (comparedTexts 0 lastSymbol (text-a ++ text-b) ≡ given both)
+    × (comparedTexts 0 lastSymbol (text-a ++ text-c) ≡ given apart)
+unfolding follow isSpace isLetter isDigit isNameByte run space neededSpace begins token name value number ends range target transition initial
+    nextName many transitions nextNames accepting heading ending wholeText sameLabel indexOf addName addNames statesOf any acceptWord automatonOf
+    fewTransitions fewStates parse insert inOrder readRecords withSecond withFirst both-determinized twoTexts withSecondText withFirstText
+    comparedTexts
+are-compared = (
+  ap (λ (x : Answer Automaton). withFirst 0 lastSymbol x (determinize 0 lastSymbol (read B))) (determinized .0) ∙ ap (withSecond 0 lastSymbol DA) (determinized .1),
+  ap (λ (x : Answer Automaton). withFirst 0 lastSymbol x (determinize 0 lastSymbol (read C))) (determinized .0) ∙ ap (withSecond 0 lastSymbol DA) (determinized .2),
+)
 
 well-a : WellFormed (read A)
 well-a = read-well A (accepted A (no-fault .0))
@@ -94,7 +98,7 @@ by-apart x bytes e (differs t w h) =
     ap differLine (only-nine w (one-word 0 lastSymbol (read A) (read C) well-a well-c DA DC (determinized .0) (determinized .2) w (q .word) (q .differ)))
 
 pub prints-same-4 : (bytes : List ℕ) → Line (comparedTexts 0 lastSymbol (text-a ++ text-b)) bytes → bytes ≡ sameLine 4
-prints-same-4 bytes = by-both _ bytes is-both
+prints-same-4 bytes = by-both _ bytes (are-compared .0)
 
 pub prints-differ-9 : (bytes : List ℕ) → Line (comparedTexts 0 lastSymbol (text-a ++ text-c)) bytes → bytes ≡ differLine (9 ∷ [])
-prints-differ-9 bytes = by-apart _ bytes is-apart
+prints-differ-9 bytes = by-apart _ bytes (are-compared .1)

@@ -62,7 +62,7 @@ DC = record {
 }
 
 pub determinized : (determinize 0 lastSymbol (read A) ≡ given DA) × (determinize 0 lastSymbol (read B) ≡ given DB) × (determinize 0 lastSymbol (read C) ≡ given DC)
-unfolding any keep tabulate holds readRecords has pickFrom same index through closed isEpsilon epsilonRow closures closure outgoing step startSet least kindOf nearer nextCut spans cutAll covered partOf partition targets isEmpty someOf subsets Search.index Search.add Search.meet Search.explore Search.table table states transitionOf transitionsOf transitionsFrom built limited answerOf determinize
+unfolding any keep tabulate holds readRecords has pickFrom same index through closed isEpsilon epsilonRow closures closure outgoing step startSet least kindOf nearer nextCut spans cutAll covered partOf partition targets isEmpty someOf subsets Search.add Search.meet Search.explore Search.table table states transitionOf transitionsOf transitionsFrom built limited answerOf determinize
 determinized = (refl, refl, refl)
 
 pub no-fault : (fault A ≡ 0) × (fault B ≡ 0) × (fault C ≡ 0)

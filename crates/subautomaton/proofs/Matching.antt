@@ -8,7 +8,6 @@ use borrow.Author.Needs.{needs}
 use borrow.Author.Tests.{eq-eqb, ne-eqb, le-leb, lt-leb}
 use lib.Dec.{ltb, leb}
 use lib.ListN.{length, getD, take, drop}
-use lib.Seq.{getD-take, getD-drop}
 use Rattle.lists.specs.Lists.{_∈_, any}
 use Rattle.lists.proofs.Lists.{keep-out}
 use Rattle.automata.specs.Automaton.{Transition, leaving, states}
@@ -22,10 +21,6 @@ use Rattle.sheets.proofs.Runs.{run-at}
 use Rattle.subautomaton.specs.Tables.{isHeld, isHeldIn, fits, fitsFrom, fitsIn, Small, Ready}
 use Rattle.subautomaton.proofs.Loops.{some-begin, some-ended, some-found, some-next, each-begin, each-ended, each-failed, each-next, record-ended, record-found, record-next, records-ended, records-failed, records-next}
 
--- the accept word of a state
-accept-word : (b : List ℕ) (q : ℕ) → q < stateCount b → getD b (q + 3) 0 ≡ getD (read b .accept) q 0
-accept-word b q h = let z : 3 + q ≡ q + 3 = omega arith in sym (getD-take (stateCount b) (drop 3 b) q 0 h ∙ getD-drop 3 b q 0 ∙ ap (λ (k : ℕ). getD b k 0) z)
-
 -- the state q of the sheet b
 module _ (b cb : List ℕ) (k a q : ℕ) where
   pub held-other : (getD cb q 0 ≡ k → ⊥) → false ≡ isHeld (read b) cb k a q
@@ -36,27 +31,24 @@ module _ (b cb : List ℕ) (k a q : ℕ) where
   unfolding isHeld
   held-any h g = sym (rw (eq-eqb _ _ h, eq-eqb _ _ g))
 
-  pub held-accepting : getD cb q 0 ≡ k → (a ≡ 0 → ⊥) → q < stateCount b → ltb 0 (getD b (q + 3) 0) ≡ isHeld (read b) cb k a q
+  pub held-accepting : getD cb q 0 ≡ k → (a ≡ 0 → ⊥) → (x : ℕ) → x ≡ getD (read b .accept) q 0 → ltb 0 x ≡ isHeld (read b) cb k a q
   unfolding isHeld
-  held-accepting h g i = sym (rw (eq-eqb _ _ h, ne-eqb _ _ g) (ap (ltb 0) (sym (accept-word b q i))))
+  held-accepting h g x e = sym (rw (eq-eqb _ _ h, ne-eqb _ _ g) (ap (ltb 0) (sym e)))
 
--- a state is within the table, and its accept word within the sheet
+-- a state is within the table
 pub state-small : (b : List ℕ) (q : ℕ) → Accepted b → q < stateCount b → q < 256
 state-small b q a h = omega (arith, a .few-states)
 
-pub accept-inside : (b : List ℕ) (q : ℕ) → Accepted b → q < stateCount b → q + 3 < length b
-accept-inside b q a h = omega (arith, a .whole)
-
-pub ruleset heldLaws = (held-other, held-any, held-accepting, state-small, accept-inside, needs)
+pub ruleset heldLaws = (held-other, held-any, held-accepting, state-small, needs)
 
 pub ruleset hasLaws = (some-begin, some-ended, some-found, some-next, needs)
 
 -- each state of the first sheet
-pub held-in : (a b ca cb : List ℕ) (p : ℕ) (r : Bool) → p < stateCount a → r ≡ any (isHeld (read b) cb (getD ca p 0) (getD a (p + 3) 0)) (states (stateCount b)) → r ≡ isHeldIn (read a) (read b) ca cb p
+pub held-in : (a b ca cb : List ℕ) (p x : ℕ) (r : Bool) → x ≡ getD (read a .accept) p 0 → r ≡ any (isHeld (read b) cb (getD ca p 0) x) (states (stateCount b)) → r ≡ isHeldIn (read a) (read b) ca cb p
 unfolding isHeldIn
-held-in a b ca cb p r h e = e ∙ ap (λ (x : ℕ). any (isHeld (read b) cb (getD ca p 0) x) (states (stateCount b))) (accept-word a p h)
+held-in a b ca cb p x r d e = e ∙ ap (λ (y : ℕ). any (isHeld (read b) cb (getD ca p 0) y) (states (stateCount b))) d
 
-pub ruleset statesLaws = (each-begin, each-ended, each-failed, each-next, held-in, state-small, accept-inside, needs)
+pub ruleset statesLaws = (each-begin, each-ended, each-failed, each-next, held-in, state-small, needs)
 
 -- two records
 module _ (d e cb : List ℕ) (to : ℕ) where

@@ -30,17 +30,17 @@ fn number_labels(x: &[u8], m: usize, b: &[u8], n: usize, out: &mut [u32])
 }
 
 // Whether the state q has the number k, and accepts unless accept is 0.
-fn is_held(b: &[u32], cb: &[u32], k: u32, accept: u32, q: usize) -> bool
+fn is_held(b: &[u32], cb: &[u32], k: u32, accept: u32, q: u32) -> bool
     requires { ⌜ Accepted (now b) × (length (now cb) ≡ 256) × (q < stateCount (now b)) ⌝ }
     ensures { λ r. ⌜ r ≡ isHeld (read (now (b .entry))) (now (cb .entry)) k accept q ⌝ }
 {
-    if cb[q] != k {
+    if cb[q as usize] != k {
         return false;
     }
     if accept == 0 {
         return true;
     }
-    0 < b[q + 3]
+    0 < sheets::accept_word(b, q)
 }
 
 // Whether some state is held so.
@@ -48,8 +48,8 @@ fn has_state(b: &[u32], cb: &[u32], k: u32, accept: u32) -> bool
     requires { ⌜ Accepted (now b) × (length (now cb) ≡ 256) ⌝ }
     ensures { λ r. ⌜ r ≡ any (isHeld (read (now (b .entry))) (now (cb .entry)) k accept) (states (stateCount (now (b .entry)))) ⌝ }
 {
-    let n = b[2] as usize;
-    let mut q: usize = 0;
+    let n = b[2];
+    let mut q: u32 = 0;
     while q < n {
         if is_held(b, cb, k, accept, q) {
             return true;
@@ -64,10 +64,10 @@ fn has_states(a: &[u32], b: &[u32], ca: &[u32], cb: &[u32]) -> bool
     requires { ⌜ Accepted (now a) × Accepted (now b) × (length (now ca) ≡ 256) × (length (now cb) ≡ 256) ⌝ }
     ensures { λ r. ⌜ r ≡ all (isHeldIn (read (now (a .entry))) (read (now (b .entry))) (now (ca .entry)) (now (cb .entry))) (states (stateCount (now (a .entry)))) ⌝ }
 {
-    let n = a[2] as usize;
-    let mut p: usize = 0;
+    let n = a[2];
+    let mut p: u32 = 0;
     while p < n {
-        if !has_state(b, cb, ca[p], a[p + 3]) {
+        if !has_state(b, cb, ca[p as usize], sheets::accept_word(a, p)) {
             return false;
         }
         p += 1;

@@ -17,7 +17,13 @@ explore-spec =
     tie.close
     (tie.spec Inv-loop μ-loop (λ c. search searchLaws) (λ c. search searchLaws) (λ c κs. search searchLaws)
     (λ c. search searchLaws) (λ c. search searchLaws) (λ c. search searchLaws) (λ c. search searchLaws)
-    (λ c κs. search-run _ (c .before .before .before .before .before .before .before .before .before .before .before .before .pre .accepted) _ _ _ _ (c .before .before .loop .inv) _ _ _ (c .before .before .before .before .before .before .before .before .before .before .before .before .pre) (search searchLaws))
+    (λ c κs.
+    let first = c .before .before .before .before .before .before .before .before .before .before .before .before in
+    search-run _ (first .pre .accepted) _ _ _ _ (c .before .before .loop .inv) _ _ _ (first .pre) (search searchLaws))
     (λ c κs. search searchLaws) (λ c. search searchLaws) (λ c. search searchLaws)
-    (λ c. search-next _ (c .before .before .before .before .before .before .before .before .before .before .before .before .before .before .before .before .before .before .before .before .pre .accepted) _ _ _ _ (c .before .before .before .before .before .before .before .before .before .before .loop .inv) (search searchLaws) _ (c .before .before .before .before .before .before .before .run .ensures) _ _ _ (c .before .before .before .before .meet-run .ensures))
+    (λ c.
+    let run = c .before .before .before .before .before .before .before in
+    let turn = run .before .before .before in
+    let first = turn .before .before .before .before .before .before .before .before .before .before in
+    search-next _ (first .pre .accepted) _ _ _ _ (turn .loop .inv) (search searchLaws) _ (run .run .ensures) _ _ _ (c .before .before .before .before .meet-run .ensures))
     (λ c. search searchLaws) (λ c. search searchLaws) (λ c. search searchLaws))

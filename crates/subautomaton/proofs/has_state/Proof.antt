@@ -19,5 +19,5 @@ abbrev μ-loop : tie.MeasureT-loop
 pub has-state-spec : {M : Type 1} → statement M
 has-state-spec =
     tie.close
-    (tie.spec Inv-loop μ-loop (λ c. search hasLaws) (λ c. search hasLaws) (λ c. search hasLaws) (λ c κs. search hasLaws) (λ c. search hasLaws)
+    (tie.spec Inv-loop μ-loop (λ c. search hasLaws) (λ c. search hasLaws) (λ c κs. search hasLaws) (λ c. search hasLaws)
     (λ c. search hasLaws) (λ c. search hasLaws) (λ c. search hasLaws) (λ c. search hasLaws))

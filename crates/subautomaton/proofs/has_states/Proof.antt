@@ -20,5 +20,5 @@ pub has-states-spec : {M : Type 1} → statement M
 has-states-spec =
     tie.close
     (tie.spec Inv-loop μ-loop (λ c. search statesLaws) (λ c. search statesLaws) (λ c. search statesLaws) (λ c. search statesLaws)
-    (λ c. search statesLaws) (λ c. search statesLaws) (λ c. search statesLaws) (λ c. search statesLaws) (λ c κs. search statesLaws)
-    (λ c. search statesLaws) (λ c. search statesLaws) (λ c. search statesLaws) (λ c. search statesLaws) (λ c. search statesLaws))
+    (λ c. search statesLaws) (λ c κs. search statesLaws) (λ c κs. search statesLaws) (λ c. search statesLaws) (λ c. search statesLaws)
+    (λ c. search statesLaws) (λ c. search statesLaws) (λ c. search statesLaws))

@@ -6,7 +6,7 @@ use lib.ListN.{length}
 use Rattle.sets.specs.BitSet.{entries}
 use Rattle.sheets.specs.Sheet.{stateCount, read}
 use Rattle.determinize.specs.Notes.{Canonical}
-use Rattle.determinize.proofs.Queued.{Exploring, exploreLaws, explore-few, explore-bounded, explore-canonical, explore-next}
+use Rattle.determinize.proofs.Queued.{Exploring, explore-begins, start-canonical, explore-few, explore-bounded, explore-canonical, explore-next, explore-over, explore-ended}
 use Rattle.determinize.proofs.exploring.explore.Statement.{statement}
 use Rattle.determinize.proofs.exploring.explore.Tie as tie
 
@@ -22,9 +22,8 @@ abbrev μ-loop : tie.MeasureT-loop
 pub explore-spec : {M : Type 1} → statement M
 explore-spec =
     tie.close
-    (tie.spec Inv-loop μ-loop (λ c. search exploreLaws) (λ c κs. search exploreLaws) (λ c. search exploreLaws)
-    (λ c. search exploreLaws) (λ c. search exploreLaws)
+    (tie.spec Inv-loop μ-loop (λ c. search (explore-begins, start-canonical, needs)) (λ c κs. search needs) (λ c. search needs) (λ c. search needs)
+    (λ c. search needs)
     (λ c. (search needs, search needs, search explore-few, search needs, search explore-bounded, search explore-canonical, search explore-next))
-    (λ c. search exploreLaws)
-    (λ c. search exploreLaws) (λ c. search exploreLaws) (λ c. search exploreLaws) (λ c. search exploreLaws)
-    (λ c κs. search exploreLaws) (λ c. search exploreLaws) (λ c. search exploreLaws) (λ c. search exploreLaws))
+    (λ c. search needs) (λ c. search needs) (λ c. search needs) (λ c. search (explore-over, needs)) (λ c. search needs) (λ c κs. search needs)
+    (λ c. search needs) (λ c. search needs) (λ c. search (explore-ended, needs)))

@@ -6,8 +6,8 @@ use lib.ListN.{length}
 use Rattle.sets.specs.BitSet.{setAt, entries}
 use Rattle.sheets.specs.Sheet.{stateCount, read}
 use Rattle.determinize.specs.Notes.{Canonical}
-use Rattle.determinize.proofs.Placing.{cut-counts, cut-most}
-use Rattle.determinize.proofs.Visits.{Visiting, spanLaws, visit-next, canonical-next}
+use Rattle.determinize.proofs.Placing.{cut-less, cut-counts, cut-most}
+use Rattle.determinize.proofs.Visits.{Visiting, visit-begins, visit-next, visit-over, visit-ended, canonical-next}
 use Rattle.determinize.proofs.exploring.partition_ranges.Statement.{statement}
 use Rattle.determinize.proofs.exploring.partition_ranges.Tie as tie
 
@@ -23,7 +23,7 @@ abbrev μ-loop : tie.MeasureT-loop
 pub partition-ranges-spec : {M : Type 1} → statement M
 partition-ranges-spec =
     tie.close
-    (tie.spec Inv-loop μ-loop (λ c. search spanLaws) (λ c. search spanLaws) (λ c. search spanLaws) (λ c κs. search spanLaws)
-    (λ c. search spanLaws) (λ c. search spanLaws) (λ c. search spanLaws) (λ c. search spanLaws) (λ c. search spanLaws)
+    (tie.spec Inv-loop μ-loop (λ c. search needs) (λ c. search (visit-begins, needs)) (λ c. search needs) (λ c κs. search needs) (λ c. search needs)
+    (λ c. search needs) (λ c. search (visit-over, needs)) (λ c. search needs) (λ c. search (cut-less, needs))
     (λ c. (search needs, search needs, search needs, search needs, search cut-most, search cut-counts, search canonical-next, search visit-next))
-    (λ c. search spanLaws) (λ c. search spanLaws) (λ c. search spanLaws))
+    (λ c. search needs) (λ c. search needs) (λ c. search (visit-ended, needs)))

@@ -7,5 +7,9 @@ use Rattle.determinize.proofs.exploring.visit_set.Tie as tie
 pub visit-set-spec : {M : Type 1} → statement M
 visit-set-spec =
     tie.close
-    (tie.spec (λ c. search rowLaws) (λ c κs. search rowLaws) (λ c. search rowLaws) (λ c. search rowLaws) (λ c κs. ((search needs, row-canon _ _ _ (c .before .before .before .before .copy-row .ensures) _ (c .before .before .before .before .before .before .before .before .before .before .before .before .pre .1) _ (c .before .before .before .before .before .before .before .before .before .before .before .before .pre .4), search needs), search needs))
+    (tie.spec (λ c. search rowLaws) (λ c κs. search rowLaws) (λ c. search rowLaws) (λ c. search rowLaws)
+    (λ c κs.
+    let copied = c .before .before .before .before in
+    let first = copied .before .before .before .before .before .before .before .before in
+    ((search needs, row-canon _ _ _ (copied .copy-row .ensures) _ (first .pre .1) _ (first .pre .4), search needs), search needs))
     (λ c. search rowLaws) (λ c. search rowLaws) (λ c. search rowLaws))

@@ -7,5 +7,8 @@ pub put-front-spec : {M : Type 1} → statement M
 put-front-spec =
     tie.close
     (tie.spec (λ c. search frontLaws) (λ c. search frontLaws) (λ c κs. search frontLaws) (λ c κs. search frontLaws) (λ c κs. search frontLaws)
-    (λ c κs. count-room _ (c .before .before .before .before .before .before .before .before .before .before .before .before .before .pre .0) _ _ _ _ (c .before .before .before .before .before .before .before .before .put-head .ensures) _ _ _ (c .before .before .before .put-word .ensures) (c .before .before .before .before .before .before .before .before .before .before .before .before .before .pre .1) (c .before .before .before .before .before .before .before .before .before .before .before .before .before .pre .2))
+    (λ c κs.
+    let head = c .before .before .before .before .before .before .before .before in
+    let first = head .before .before .before .before .before in
+    count-room _ (first .pre .0) _ _ _ _ (head .put-head .ensures) _ _ _ (c .before .before .before .put-word .ensures) (first .pre .1) (first .pre .2))
     (λ c. search frontLaws) (λ c. search frontLaws))

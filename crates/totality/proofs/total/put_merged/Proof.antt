@@ -11,7 +11,10 @@ use Rattle.totality.proofs.total.put_merged.Statement.{statement}
 use Rattle.totality.proofs.total.put_merged.Tie as tie
 
 abbrev Inv-loop : tie.InvT-loop
-Inv-loop run holes q sink out₀ at end₀ i₀ j₀ out end i j = (i ≤ length run) × (j ≤ length holes) × (length out ≡ length out₀) × Whole (drop i run) × Mergeable sink q (readRecords (drop i run)) (readSpans (drop j holes)) × Left out₀ at (writeRecords (merged sink q run holes)) out end (writeRecords (merged sink q (drop i run) (drop j holes)))
+Inv-loop run holes q sink out₀ at end₀ i₀ j₀ out end i j =
+    (i ≤ length run) × (j ≤ length holes) × (length out ≡ length out₀) × Whole (drop i run)
+    × Mergeable sink q (readRecords (drop i run)) (readSpans (drop j holes))
+    × Left out₀ at (writeRecords (merged sink q run holes)) out end (writeRecords (merged sink q (drop i run) (drop j holes)))
 
 abbrev μ-loop : tie.MeasureT-loop
 μ-loop run holes q sink out₀ at end₀ i₀ j₀ out end i j = length holes - j
@@ -23,6 +26,18 @@ put-merged-spec =
     (λ c κs. search mergeLaws) (λ c. search mergeLaws) (λ c. search mergeLaws) (λ c. search mergeLaws) (λ c. search mergeLaws)
     (λ c κs. search mergeLaws) (λ c. search mergeLaws) (λ c. search mergeLaws) (λ c. search mergeLaws) (λ c. search mergeLaws)
     (λ c. search mergeLaws) (λ c κs. search mergeLaws) (λ c. search mergeLaws) (λ c. search mergeLaws)
-    (λ c. (search needs, search needs, search needs, search (merge-whole, needs), search (merge-mergeable, needs), hole-next _ _ _ _ _ _ _ _ (c .before .before .before .before .before .before .before .before .before .before .before .before .before .before .before .before .before .before .args .holes .now) _ (c .before .before .before .before .before .before .before .before .before .before .before .before .before .before .loop .j) (c .before .before .before .before .before .before .before .before .before .before .before .before .before .before .loop .inv .5) (c .before .before .before .before .before .before .before .before .before .before .before .before .before .before .loop .inv .3) (c .before .before .before .before .before .before .before .before .before .before .before .before .before .before .loop .inv .4) (c .before .before .before .before .before .before .before .before .before .before .before .before .before .loop-test .taken) _ (c .before .before .before .before .before .before .before .before .before .before .before .records-before .ensures .0) (c .before .before .before .before .before .before .before .before .before .before .before .records-before .ensures .1) _ _ (c .before .before .before .before .before .before .before .before .put-words .ensures) _ _ (c .before .before .put-record .ensures)))
+    (λ c.
+    let words = c .before .before .before .before .before .before .before .before in
+    let before = words .before .before .before in
+    let turn = before .before .before .before in (
+      search needs,
+      search needs,
+      search needs,
+      search (merge-whole, needs),
+      search (merge-mergeable, needs),
+      hole-next _ _ _ _ _ _ _ _ (turn .before .before .before .before .args .holes .now) _ (turn .loop .j) (turn .loop .inv .5) (turn .loop .inv .3)
+          (turn .loop .inv .4) (before .before .before .loop-test .taken) _ (before .records-before .ensures .0) (before .records-before .ensures .1)
+          _ _ (words .put-words .ensures) _ _ (c .before .before .put-record .ensures),
+    ))
     (λ c. search mergeLaws) (λ c. search mergeLaws) (λ c. search mergeLaws) (λ c. search mergeLaws) (λ c κs. search mergeLaws)
     (λ c. search mergeLaws) (λ c. search mergeLaws))
