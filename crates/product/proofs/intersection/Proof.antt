@@ -11,5 +11,10 @@ intersection-spec =
     tie.close
     (tie.spec
     (λ c κs. search needs) (λ c. search needs) (λ c. search needs) (λ c. search no-room) (λ c κs. search needs) (λ c. search needs)
-    (λ c κs. let g = c .before .before .before .before .before .before .before .before .before .before .before .before .before .args in (search (check-accepted, needs), room-words (g .out .now) (g .names .now) _ (c .before .before .before .before .before .before .lacks-room .ensures) (c .before .before .before .before .before .if1 .left), room-bytes (g .out .now) (g .names .now) _ (c .before .before .before .before .before .before .lacks-room .ensures) (c .before .before .before .before .before .if1 .left)))
-    (λ c. search needs) (λ c. search needs) (λ c. search needs) (λ c. search (first-passed, first-refused)) (λ c. search needs) (λ c. search needs) (λ c. search (first-passed, first-refused)))
+    (λ c κs. let g = c .before .before .before .before .before .before .before .before .before .before .before .before .before .args in (
+      search (check-accepted, needs),
+      room-words (g .out .now) (g .names .now) _ (c .before .before .before .before .before .before .lacks-room .ensures) (c .before .before .before .before .before .if1 .left),
+      room-bytes (g .out .now) (g .names .now) _ (c .before .before .before .before .before .before .lacks-room .ensures) (c .before .before .before .before .before .if1 .left),
+    ))
+    (λ c. search needs) (λ c. search needs) (λ c. search needs) (λ c. search (first-passed, first-refused)) (λ c. search needs)
+    (λ c. search needs) (λ c. search (first-passed, first-refused)))
