@@ -10,9 +10,20 @@ intersect-ready-spec =
     (tie.spec
     (λ c. search needs) (λ c. search needs)
     (λ c κs. let s = c .before .before .before .before .before .before .before .before .pre in (s .0, s .1, fresh-queue))
-    (λ c. let s = c .before .before .before .before .before .before .before .before .before .before .before .before .pre in let f = c .before .before .before .find-pairs .ensures in found-over _ _ _ _ (f .2) _ _ (c .if1 .taken))
+    (λ c. found-over _ _ _ _ (c .before .before .before .find-pairs .ensures .2) _ _ (c .if1 .taken))
     (λ c. search needs) (λ c κs. search needs)
-    (λ c. let s = c .before .before .before .before .before .before .before .before .before .before .before .before .before .before .before .pre in let f = c .before .before .before .before .before .before .find-pairs .ensures in found-blocked _ _ _ _ (f .2) (c .before .before .before .if1 .left) _ (c .before .has-blocked-pair .ensures) _ _ (c .if2 .taken))
+    (λ c. found-blocked _ _ _ _ (c .before .before .before .before .before .before .find-pairs .ensures .2) (c .before .before .before .if1 .left) _ (c .before .has-blocked-pair .ensures) _ _ (c .if2 .taken))
     (λ c. search needs) (λ c. search needs)
-    (λ c κs. let s = c .before .before .before .before .before .before .before .before .before .before .before .before .before .before .before .before .before .before .before .pre in let f = c .before .before .before .before .before .before .before .before .before .before .find-pairs .ensures in (s .0, s .1, f .0, c .before .before .before .before .before .before .before .if1 .left, f .1, found-whole _ _ _ _ (f .2) (c .before .before .before .before .before .before .before .if1 .left) _ (c .before .before .before .before .before .has-blocked-pair .ensures) (c .before .before .before .before .if2 .left), s .2, s .3))
+    (λ c κs. let s = c .before .before .before .before .before .before .before .before .before .before .before .before .before .before .before .before .before .before .before .pre in
+    let f = c .before .before .before .before .before .before .before .before .before .before .find-pairs .ensures in (
+      s .0,
+      s .1,
+      f .0,
+      c .before .before .before .before .before .before .before .if1 .left,
+      f .1,
+      found-whole _ _ _ _ (f .2) (c .before .before .before .before .before .before .before .if1 .left) _ (c .before .before .before .before .before .has-blocked-pair .ensures)
+          (c .before .before .before .before .if2 .left),
+      s .2,
+      s .3,
+    ))
     (λ c. search needs) (λ c. search needs) (λ c. search needs))

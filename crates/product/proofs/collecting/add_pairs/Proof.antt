@@ -21,5 +21,31 @@ pub add-pairs-spec : {M : Type 1} → statement M
 add-pairs-spec =
     tie.close
     (tie.spec
-    Inv-loop μ-loop (λ c. search pairsLaws) (λ c κs. let g = c .before .before .before .before .before .before .before .before .before .before .args in let s = c .before .before .before .before .before .before .before .before .before .before .pre in let t = c .before .loop-test .taken in (s .0, s .1, omega arith, omega arith, within-left (g .a .now) (g .b .now) _ _ _ (s .4) (s .2) t, within-right (g .a .now) (g .b .now) _ _ _ (s .4) (s .2) t, s .5, c .before .before .loop .inv .1 .room)) (λ c. search pairsLaws) (λ c. let l = c .before .before .before .before .before .before .loop in pairs-over _ _ _ _ (c .before .before .before .before .before .before .before .before .before .before .before .before .before .before .args .numbers .now) (c .before .before .before .before .before .before .before .before .before .before .before .before .before .before .args .queue .now) _ _ _ (l .inv .1) (c .before .before .before .before .before .before .before .before .before .before .before .before .before .before .pre .2) (c .before .before .before .before .before .loop-test .taken) _ _ (c .before .before .before .add-pair .ensures) (c .if1 .taken))
-    (λ c. search pairsLaws) (λ c. search pairsLaws) (λ c. let l = c .before .before .before .before .before .before .loop in (search pairsLaws, pairs-next _ _ _ _ (c .before .before .before .before .before .before .before .before .before .before .before .before .before .before .args .numbers .now) (c .before .before .before .before .before .before .before .before .before .before .before .before .before .before .args .queue .now) _ _ _ (l .inv .1) (c .before .before .before .before .before .before .before .before .before .before .before .before .before .before .pre .2) (c .before .before .before .before .before .loop-test .taken) _ _ (c .before .before .before .add-pair .ensures) (c .if1 .left))) (λ c. search pairsLaws) (λ c. search pairsLaws))
+    Inv-loop μ-loop (λ c. search pairsLaws)
+    (λ c κs. let g = c .before .before .before .before .before .before .before .before .before .before .args in
+    let s = c .before .before .before .before .before .before .before .before .before .before .pre in
+    let t = c .before .loop-test .taken in (
+      s .0,
+      s .1,
+      omega arith,
+      omega arith,
+      within-left (g .a .now) (g .b .now) _ _ _ (s .4) (s .2) t,
+      within-right (g .a .now) (g .b .now) _ _ _ (s .4) (s .2) t,
+      s .5,
+      c .before .before .loop .inv .1 .room,
+    ))
+    (λ c. search pairsLaws)
+    (λ c. let l = c .before .before .before .before .before .before .loop in
+    pairs-over _ _ _ _ (c .before .before .before .before .before .before .before .before .before .before .before .before .before .before .args .numbers .now)
+    (c .before .before .before .before .before .before .before .before .before .before .before .before .before .before .args .queue .now) _ _ _ (l .inv .1)
+    (c .before .before .before .before .before .before .before .before .before .before .before .before .before .before .pre .2)
+    (c .before .before .before .before .before .loop-test .taken) _ _ (c .before .before .before .add-pair .ensures) (c .if1 .taken))
+    (λ c. search pairsLaws) (λ c. search pairsLaws)
+    (λ c. let l = c .before .before .before .before .before .before .loop in (
+      search pairsLaws,
+      pairs-next _ _ _ _ (c .before .before .before .before .before .before .before .before .before .before .before .before .before .before .args .numbers .now)
+          (c .before .before .before .before .before .before .before .before .before .before .before .before .before .before .args .queue .now) _ _ _ (l .inv .1)
+          (c .before .before .before .before .before .before .before .before .before .before .before .before .before .before .pre .2)
+          (c .before .before .before .before .before .loop-test .taken) _ _ (c .before .before .before .add-pair .ensures) (c .if1 .left),
+    ))
+    (λ c. search pairsLaws) (λ c. search pairsLaws))

@@ -21,5 +21,17 @@ add-run-spec =
     tie.close
     (tie.spec
     Inv-loop μ-loop (λ c. search runLaws) (λ c. search runLaws) (λ c. search runLaws) (λ c. search runLaws) (λ c. search runLaws)
-    (λ c. search runLaws) (λ c. search runLaws) (λ c κs. search runLaws) (λ c. search runLaws) (λ c. let a = c .before .before .before .before .before .before .before .before .before .before .before .before .args in let l = c .before .before .before .before .before .before .before .loop in run-over _ _ _ _ (a .d .now) (a .run .now) (l .at) _ (l .inv .2) (c .before .before .before .before .before .before .loop-test .taken) _ _ (c .before .before .before .add-joint .ensures) (c .if1 .taken))
-    (λ c. search runLaws) (λ c. search runLaws) (λ c. let a = c .before .before .before .before .before .before .before .before .before .before .before .before .args in let l = c .before .before .before .before .before .before .before .loop in (search runLaws, search runLaws, run-next _ _ _ _ (a .d .now) (a .run .now) (l .at) _ (l .inv .2) (c .before .before .before .before .before .before .loop-test .taken) _ _ (c .before .before .before .add-joint .ensures) (c .if1 .left))) (λ c. search runLaws) (λ c. search runLaws))
+    (λ c. search runLaws) (λ c. search runLaws) (λ c κs. search runLaws) (λ c. search runLaws)
+    (λ c. let a = c .before .before .before .before .before .before .before .before .before .before .before .before .args in
+    let l = c .before .before .before .before .before .before .before .loop in
+    run-over _ _ _ _ (a .d .now) (a .run .now) (l .at) _ (l .inv .2) (c .before .before .before .before .before .before .loop-test .taken) _ _
+    (c .before .before .before .add-joint .ensures) (c .if1 .taken))
+    (λ c. search runLaws) (λ c. search runLaws)
+    (λ c. let a = c .before .before .before .before .before .before .before .before .before .before .before .before .args in
+    let l = c .before .before .before .before .before .before .before .loop in (
+      search runLaws,
+      search runLaws,
+      run-next _ _ _ _ (a .d .now) (a .run .now) (l .at) _ (l .inv .2) (c .before .before .before .before .before .before .loop-test .taken) _ _
+          (c .before .before .before .add-joint .ensures) (c .if1 .left),
+    ))
+    (λ c. search runLaws) (λ c. search runLaws))

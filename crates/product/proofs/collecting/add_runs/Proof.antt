@@ -20,7 +20,18 @@ pub add-runs-spec : {M : Type 1} → statement M
 add-runs-spec =
     tie.close
     (tie.spec
-    Inv-loop μ-loop (λ c. search runsLaws) (λ c. search runsLaws) (λ c. search runsLaws) (λ c. search runsLaws)
-    (λ c. search runsLaws) (λ c. search runsLaws) (λ c. search runsLaws) (λ c κs. search runsLaws) (λ c. search runsLaws)
-    (λ c. let a = c .before .before .before .before .before .before .before .before .before .before .before .before .args in let l = c .before .before .before .before .before .before .before .loop in runs-over _ _ _ _ (a .first .now) (a .second .now) (l .at) _ (l .inv .2) (c .before .before .before .before .before .before .loop-test .taken) _ _ (c .before .before .before .add-run .ensures) (c .if1 .taken)) (λ c. search runsLaws) (λ c. search runsLaws) (λ c. let a = c .before .before .before .before .before .before .before .before .before .before .before .before .args in let l = c .before .before .before .before .before .before .before .loop in (search runsLaws, search runsLaws, runs-next _ _ _ _ (a .first .now) (a .second .now) (l .at) _ (l .inv .2) (c .before .before .before .before .before .before .loop-test .taken) _ _ (c .before .before .before .add-run .ensures) (c .if1 .left))) (λ c. search runsLaws)
-    (λ c. search runsLaws))
+    Inv-loop μ-loop (λ c. search runsLaws) (λ c. search runsLaws) (λ c. search runsLaws) (λ c. search runsLaws) (λ c. search runsLaws)
+    (λ c. search runsLaws) (λ c. search runsLaws) (λ c κs. search runsLaws) (λ c. search runsLaws)
+    (λ c. let a = c .before .before .before .before .before .before .before .before .before .before .before .before .args in
+    let l = c .before .before .before .before .before .before .before .loop in
+    runs-over _ _ _ _ (a .first .now) (a .second .now) (l .at) _ (l .inv .2) (c .before .before .before .before .before .before .loop-test .taken) _ _
+    (c .before .before .before .add-run .ensures) (c .if1 .taken))
+    (λ c. search runsLaws) (λ c. search runsLaws)
+    (λ c. let a = c .before .before .before .before .before .before .before .before .before .before .before .before .args in
+    let l = c .before .before .before .before .before .before .before .loop in (
+      search runsLaws,
+      search runsLaws,
+      runs-next _ _ _ _ (a .first .now) (a .second .now) (l .at) _ (l .inv .2) (c .before .before .before .before .before .before .loop-test .taken) _ _
+          (c .before .before .before .add-run .ensures) (c .if1 .left),
+    ))
+    (λ c. search runsLaws) (λ c. search runsLaws))

@@ -21,6 +21,19 @@ pub find-pairs-spec : {M : Type 1} → statement M
 find-pairs-spec =
     tie.close
     (tie.spec
-    Inv-loop μ-loop (λ c. search findLaws) (λ c. search findLaws) (λ c κs. search findLaws) (λ c. let s = c .before .before .before .before .before .before .before .before .before .before .before .before .before .before .before in let p = c .before .before .before .before .meet-pair .ensures in (search findLaws, p .queued, begin-within _ _ _ _ (s .pre .0) (s .pre .1) _ _ _ _ p, begin-queue _ _ _ _ (s .pre .0) (s .pre .1) _ _ _ _ p))
-    (λ c. search findLaws) (λ c. search findLaws) (λ c. search findLaws) (λ c κs. search findLaws) (λ c. search findLaws)
-    (λ c. search findLaws) (λ c. let s = c .before .before .before .before .before .before .before .before .before .before .before .before .before .before .before .before .before .before .before .before .before .before .before .before .before in let l = c .before .before .before .before .before .before .before .before .before .loop in let p = c .before .before .before .before .visit-pair .ensures in (search findLaws, p .queued, find-within _ _ _ _ (s .pre .0) (s .pre .1) _ _ _ _ (l .inv .1) (l .inv .2) (l .inv .3) (c .before .before .before .before .before .before .before .before .loop-test .taken) _ _ _ p, find-next _ _ _ _ (s .pre .0) (s .pre .1) _ _ _ _ (l .inv .1) (l .inv .2) (l .inv .3) (c .before .before .before .before .before .before .before .before .loop-test .taken) _ _ _ p (c .before .before .before .before .before .before .before .if1 .left))) (λ c. search findLaws) (λ c. search findLaws) (λ c. search findLaws))
+    Inv-loop μ-loop (λ c. search findLaws) (λ c. search findLaws) (λ c κs. search findLaws)
+    (λ c. let s = c .before .before .before .before .before .before .before .before .before .before .before .before .before .before .before in
+    let p = c .before .before .before .before .meet-pair .ensures in
+    (search findLaws, p .queued, begin-within _ _ _ _ (s .pre .0) (s .pre .1) _ _ _ _ p, begin-queue _ _ _ _ (s .pre .0) (s .pre .1) _ _ _ _ p))
+    (λ c. search findLaws) (λ c. search findLaws) (λ c. search findLaws) (λ c κs. search findLaws) (λ c. search findLaws) (λ c. search findLaws)
+    (λ c. let s = c .before .before .before .before .before .before .before .before .before .before .before .before .before .before .before .before .before .before .before .before .before .before .before .before .before in
+    let l = c .before .before .before .before .before .before .before .before .before .loop in
+    let p = c .before .before .before .before .visit-pair .ensures in (
+      search findLaws,
+      p .queued,
+      find-within _ _ _ _ (s .pre .0) (s .pre .1) _ _ _ _ (l .inv .1) (l .inv .2) (l .inv .3)
+          (c .before .before .before .before .before .before .before .before .loop-test .taken) _ _ _ p,
+      find-next _ _ _ _ (s .pre .0) (s .pre .1) _ _ _ _ (l .inv .1) (l .inv .2) (l .inv .3)
+          (c .before .before .before .before .before .before .before .before .loop-test .taken) _ _ _ p (c .before .before .before .before .before .before .before .if1 .left),
+    ))
+    (λ c. search findLaws) (λ c. search findLaws) (λ c. search findLaws))

@@ -22,5 +22,12 @@ meet-run-spec =
     (tie.spec
     Inv-loop μ-loop (λ c. search runLaws) (λ c. search runLaws) (λ c. search runLaws) (λ c. search runLaws) (λ c. search runLaws)
     (λ c. search runLaws) (λ c. search runLaws) (λ c κs. search runLaws) (λ c. search runLaws) (λ c. search runLaws)
-    (λ c. (search runLaws, c .before .before .before .before .meet-record .ensures .queued, search runLaws, let l = c .before .before .before .before .before .before .before .before in let i = l .before .loop .inv in let a = c .before .before .before .before .before .before .before .before .before .before .before .before .before .before .args in run-next (a .d .now) (a .run .now) _ _ _ _ _ (l .before .loop .at) (i .1) (i .3) (l .loop-test .taken) _ _ _ (c .before .before .before .before .meet-record .ensures)))
+    (λ c. (
+      search runLaws,
+      c .before .before .before .before .meet-record .ensures .queued,
+      search runLaws,
+      let l = c .before .before .before .before .before .before .before .before in let i = l .before .loop .inv in let a = c .before .before .before .before .before .before
+          .before .before .before .before .before .before .before .before .args in run-next (a .d .now) (a .run .now) _ _ _ _ _ (l .before .loop .at) (i .1) (i .3)
+          (l .loop-test .taken) _ _ _ (c .before .before .before .before .meet-record .ensures),
+    ))
     (λ c. search runLaws) (λ c. search runLaws) (λ c. search runLaws))

@@ -19,7 +19,15 @@ pub meet-runs-spec : {M : Type 1} → statement M
 meet-runs-spec =
     tie.close
     (tie.spec
-    Inv-loop μ-loop (λ c. search runsLaws) (λ c. search runsLaws) (λ c. search runsLaws) (λ c. search runsLaws)
-    (λ c. search runsLaws) (λ c. search runsLaws) (λ c. search runsLaws) (λ c. search runsLaws) (λ c. search runsLaws)
-    (λ c. search runsLaws) (λ c κs. search runsLaws) (λ c. search runsLaws) (λ c. search runsLaws) (λ c. let i = c .before .before .before .before .before .before .before .before .before in let l = i .before .loop in let a = c .before .before .before .before .before .before .before .before .before .before .before .before .before .before .before .args in (search runsLaws, c .before .before .before .before .meet-run .ensures .queued, search runsLaws, runs-next (a .first .now) (a .second .now) _ _ _ _ _ (l .at) (l .inv .1) (l .inv .3) (i .loop-test .taken) _ _ _ (c .before .before .before .before .meet-run .ensures)))
+    Inv-loop μ-loop (λ c. search runsLaws) (λ c. search runsLaws) (λ c. search runsLaws) (λ c. search runsLaws) (λ c. search runsLaws)
+    (λ c. search runsLaws) (λ c. search runsLaws) (λ c. search runsLaws) (λ c. search runsLaws) (λ c. search runsLaws) (λ c κs. search runsLaws)
+    (λ c. search runsLaws) (λ c. search runsLaws)
+    (λ c. let i = c .before .before .before .before .before .before .before .before .before in
+    let l = i .before .loop in
+    let a = c .before .before .before .before .before .before .before .before .before .before .before .before .before .before .before .args in (
+      search runsLaws,
+      c .before .before .before .before .meet-run .ensures .queued,
+      search runsLaws,
+      runs-next (a .first .now) (a .second .now) _ _ _ _ _ (l .at) (l .inv .1) (l .inv .3) (i .loop-test .taken) _ _ _ (c .before .before .before .before .meet-run .ensures),
+    ))
     (λ c. search runsLaws) (λ c. search runsLaws) (λ c. search runsLaws))
