@@ -94,5 +94,3 @@ module _ (o l s b : List ℕ) (w : Bool) (e : w ≡ (ltb (length o) 10500 || ltb
     pub sheet-given : r ≡ sheetAnswer.Accepted → (x : Output) → x ≡ outputs o l (labelsFirst (stateCount s) b (limited (eliminated (read s)) (readLabels b))) → x ≡ outputs o l (roomFirst o l (eliminateAnswer s b))
     unfolding eliminateAnswer
     sheet-given g x p = p ∙ ap (outputs o l) (sym (room-enough o l _ w e h ∙ sheet-passed s _ r f g))
-
-pub ruleset answerLaws = (room-stopped, sheet-stopped, sheet-ready, sheet-given, needs)

@@ -9,7 +9,6 @@ use borrow.Author.Tests.{eq-eqb, ne-eqb}
 use lib.Dec.{eqb}
 use lib.ListN.{length, getD, take, drop, drop-of-length-le}
 use Rattle.lists.specs.Lists.{keep, tabulate}
-use Rattle.lists.specs.Written.{Written}
 use Rattle.lists.proofs.Lists.{tabulate-at, length-tabulate}
 use Rattle.lists.proofs.Parts.{drop-at}
 use Rattle.automata.specs.Automaton.{Transition, leaving, rangesOf}

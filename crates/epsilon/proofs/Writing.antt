@@ -15,7 +15,7 @@ use Rattle.lists.proofs.Lists.{tabulate-end, length-tabulate}
 use Rattle.lists.proofs.Written.{written-none, written-append, written-length}
 use Rattle.automata.specs.Automaton.{Transition}
 use Rattle.automata.proofs.Records.{length-write}
-use Rattle.output.proofs.Collecting.{collect-held, collect-all}
+use Rattle.output.proofs.Collecting.{collect-all}
 use Rattle.sets.specs.BitSet.{setAt}
 use Rattle.sets.specs.Words.{putAt}
 use Rattle.sheets.specs.Sheet.{stateCount, read, write}
@@ -25,7 +25,7 @@ use Rattle.epsilon.specs.Eliminate.{closureKinds, eliminated}
 use Rattle.epsilon.specs.Tables.{ClosuresOf, TransitionsOf}
 use Rattle.epsilon.proofs.Gathering.{row-inside, row-closure, row-canon}
 
-pub ruleset gatherLaws = (begin-tables, collect-held, collect-all, needs)
+pub ruleset gatherLaws = (begin-tables, collect-all, needs)
 
 -- the accept word of a closure
 pub kind-row : (s c : List ℕ) (t : ClosuresOf s c) (p : ℕ) → p < stateCount s → (old v : List ℕ) → v ≡ putAt old 0 c (4 * p) → 4 ≤ length old → (k : ℕ) → k ≡ kindOf (read s) (setAt v 0) → k ≡ kindOf (read s) (closure (read s) p)

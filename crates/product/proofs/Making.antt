@@ -1,10 +1,9 @@
 -- The answers of the product: the laws by which its public function and those below it are proved.
-use Prim.Native.Nat.{ℕ, suc, _+_, _-_, _*_, _/_, _≤_, _<_}
+use Prim.Native.Nat.{ℕ, suc, _-_, _*_, _/_, _≤_, _<_}
 use mathlib.Core.Bool.{Bool, true, false, _||_}
 use mathlib.Core.List.{List, [], _∷_, _++_, map, List·Memᴰ·head, List·Memᴰ·tail}
 use mathlib.Core.Path.{_≡_, refl, sym, _∙_, ap, ap₂, subst}
 use native.Mathlib.Omega.{arith}
-use borrow.Author.Needs.{needs}
 use borrow.Author.Tests.{lt-ltb, le-ltb}
 use lib.Dec.{ltb}
 use lib.ListN.{length, take, replicate, length-replicate, getD-replicate}
@@ -22,7 +21,7 @@ use Rattle.output.specs.declared.Made.the-variants as made
 use Rattle.output.specs.Gathering.{Collected}
 use Rattle.output.specs.Made.{outputOf}
 use Rattle.output.specs.Output.{outputs, roomFirst}
-use Rattle.output.proofs.Answers.{made-given, made-refused, room-lacking, room-enough, room-words, room-bytes}
+use Rattle.output.proofs.Answers.{made-given, made-refused, room-lacking, room-enough}
 use Rattle.refusal.specs.declared.InputRefusal.{InputRefusal}
 use Rattle.refusal.specs.declared.InputRefusal.the-variants.{Epsilon}
 use Rattle.refusal.specs.declared.Refusal.the-variants.{Input, State}
@@ -38,7 +37,6 @@ use Rattle.sheets.specs.Checked.{checkedNumber, sheetFirst}
 use Rattle.sheets.specs.Fault.{fault}
 use Rattle.sheets.specs.Runs.{startsOf}
 use Rattle.sheets.specs.Sheet.{stateCount, read, write}
-use Rattle.sheets.proofs.Accepted.{check-accepted}
 use Rattle.sheets.proofs.Checking.{sheet-passed, sheet-refused}
 use Rattle.sheets.proofs.Runs.{starts-indexed}
 use Rattle.product.specs.Product.{Pair, samePair, Joint, jointsFrom, pairs, transitionOf, transitionsFrom, placeIn, acceptOf, built, blockedAt, labelOf, product, intersection}
@@ -176,7 +174,3 @@ module _ (a b : List ℕ) (out names : List ℕ) where
     pub first-refused : (i : InputRefusal) → r ≡ checked.Refused i → outputOf (made.Refused (Input i)) out names ≡ outputs out names (roomFirst out names (intersection a b))
     unfolding intersection
     first-refused i h = made-refused out names (Input i) _ (room-enough out names _ l o f ∙ sheet-refused a _ r e i h)
-
-pub ruleset secondLaws = (check-accepted, second-passed, second-refused, needs)
-
-pub ruleset firstLaws = (check-accepted, room-words, room-bytes, no-room, first-passed, first-refused, needs)

@@ -1,6 +1,6 @@
 -- Products that antt computes: a range with a shorter one, and an epsilon beside a range.
 use Prim.Native.Nat.{ℕ}
-use mathlib.Core.List.{List, [], _∷_}
+use mathlib.Core.List.{[], _∷_}
 use mathlib.Core.Path.{_≡_, refl}
 use Rattle.lists.specs.Lists.{any, keep}
 use Rattle.automata.specs.Automaton.{Automaton, leaving, rangesOf}

@@ -35,8 +35,6 @@ pub accept-pair : (a b : List ℕ) (c x : ℕ) → pairOf c .left < stateCount a
 unfolding acceptOf
 accept-pair a b c x h k e = e ∙ sym (ap₂ (λ u v. cond (eqb u 0) 0 v) (accept-in b (c % 256) k) (accept-in a (c / 256) h))
 
-pub ruleset acceptLaws = (accept-pair, needs)
-
 -- the accept words of i pairs
 pub words-begin : (a b words out : List ℕ) (at : ℕ) → Written out at (map (acceptOf (read a) (read b)) (tableOf words 0)) out at
 unfolding tableOf
@@ -79,8 +77,6 @@ module _ (a b words : List ℕ) (n : ℕ) (l : n ≤ length words) (out m : List
       sheet-done records t end e u =
           rw (← e)
           (written-append out m t _ _ 0 states end p (written-append m o t _ _ states counts end q (written-append o s t _ _ counts first end v u)))
-
-pub ruleset sheetLaws = (sheet-accepts, sheet-count, sheet-records, sheet-done, needs)
 
 -- the labels of i pairs
 labels-all : (T : List Pair) → Within 256 256 T → AllLabels (map labelOf T)
