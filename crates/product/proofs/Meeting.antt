@@ -85,7 +85,7 @@ module _ (d run queue₀ : List ℕ) (n₀ : ℕ) (queue t : List ℕ) (n at : �
   pub run-next : 5 ≤ length run - at → (queue′ t′ : List ℕ) (m : ℕ) → Met (tableOf queue n) (targets (recordAt d 0 ∷ []) (recordAt (take (at + 5 - at) (drop at run)) 0 ∷ [])) queue′ t′ m
       → metWith queue′ m (targets (recordAt d 0 ∷ []) (readRecords (drop (at + 5) run))) ≡ metWith queue₀ n₀ (targets (recordAt d 0 ∷ []) (readRecords run))
   run-next h queue′ t′ m r =
-      met-next queue t queue′ t′ n m _ _ r
+      met-next queue queue′ t′ n m _ _ r
       ∙ ap (metWith queue n)
       (ap (λ x. targets (recordAt d 0 ∷ []) (x ∷ []) ++ targets (recordAt d 0 ∷ []) (readRecords (drop (at + 5) run))) (part-record run at)
       ∙ sym (ap (targets (recordAt d 0 ∷ [])) (records-at run at h) ∙ targets-right (recordAt d 0) (recordAt run at) (readRecords (drop (at + 5) run))))
@@ -110,7 +110,7 @@ module _ (first second queue₀ : List ℕ) (n₀ : ℕ) (queue t : List ℕ) (n
   pub runs-next : 5 ≤ length first - at → (queue′ t′ : List ℕ) (m : ℕ) → Met (tableOf queue n) (targets (recordAt (take (at + 5 - at) (drop at first)) 0 ∷ []) (readRecords second)) queue′ t′ m
       → metWith queue′ m (targets (readRecords (drop (at + 5) first)) (readRecords second)) ≡ metWith queue₀ n₀ (targets (readRecords first) (readRecords second))
   runs-next h queue′ t′ m r =
-      met-next queue t queue′ t′ n m _ _ r
+      met-next queue queue′ t′ n m _ _ r
       ∙ ap (metWith queue n)
       (ap (λ x. targets (x ∷ []) (readRecords second) ++ targets (readRecords (drop (at + 5) first)) (readRecords second)) (part-record first at)
       ∙ sym (ap (λ l. targets l (readRecords second)) (records-at first at h) ∙ targets-left (recordAt first at) (readRecords (drop (at + 5) first)) (readRecords second)))

@@ -76,20 +76,16 @@ module _ (queue t : List ℕ) (n p q : ℕ) (k : Queued queue t n) (hq : q < 256
       far : length (tableOf queue n) ≤ placeIn (tableOf queue n) (record { left = p; right = q })
       far = omega (arith, place, count)
 
+      taken : take (n + 1) (set queue n (p * 256 + q)) ≡ take n queue ++ (p * 256 + q) ∷ []
+      taken = ap (λ m. take m (set queue n (p * 256 + q))) (add-one n) ∙ take-suc-set queue n (p * 256 + q) (omega (arith, k .room))
+
       grown : tableOf (set queue n (p * 256 + q)) (n + 1) ≡ tableOf queue n ++ record { left = p; right = q } ∷ []
       unfolding tableOf
-      grown =
-          ap (λ m. map pairOf (take m (set queue n (p * 256 + q)))) (add-one n)
-          ∙ ap (map pairOf) (take-suc-set queue n (p * 256 + q) (omega (arith, k .room)))
-          ∙ map-append pairOf (take n queue) _
-          ∙ ap (λ x. map pairOf (take n queue) ++ x ∷ []) (word-pair p q hq)
+      grown = ap (map pairOf) taken ∙ map-append pairOf (take n queue) _ ∙ ap (λ x. map pairOf (take n queue) ++ x ∷ []) (word-pair p q hq)
 
       buckets : bucketsOf (set queue n (p * 256 + q)) (n + 1) ≡ bucketsOf queue n ++ bucketOf (p * 256 + q) ∷ []
       unfolding bucketsOf
-      buckets =
-          ap (λ m. map bucketOf (take m (set queue n (p * 256 + q)))) (add-one n)
-          ∙ ap (map bucketOf) (take-suc-set queue n (p * 256 + q) (omega (arith, k .room)))
-          ∙ map-append bucketOf (take n queue) _
+      buckets = ap (map bucketOf) taken ∙ map-append bucketOf (take n queue) _
 
       met : (u : List ℕ) → length u ≡ 512 → (n + 1 ≤ 256 → Entered (bucketsOf (set queue n (p * 256 + q)) (n + 1)) u)
           → Met (tableOf queue n) (record { left = p; right = q } ∷ []) (set queue n (p * 256 + q)) u (n + 1)
@@ -142,6 +138,6 @@ module _ (queue t : List ℕ) (n : ℕ) (k : Queued queue t n) (old ps : List Pa
   met-full h qs e =
       record { queued = k; table = sym (meet-full samePair 257 qs (tableOf queue n) (omega (arith, length-table queue n (queued-room queue t n k), k .few))) ∙ e }
 
-pub met-next : (queue t queue′ t′ : List ℕ) (n m : ℕ) (ps qs : List Pair) → Met (tableOf queue n) ps queue′ t′ m → metWith queue′ m qs ≡ metWith queue n (ps ++ qs)
+pub met-next : (queue queue′ t′ : List ℕ) (n m : ℕ) (ps qs : List Pair) → Met (tableOf queue n) ps queue′ t′ m → metWith queue′ m qs ≡ metWith queue n (ps ++ qs)
 unfolding metWith
-met-next queue t queue′ t′ n m ps qs r = capped-append ps qs (tableOf queue n) (tableOf queue′ m) (r .table)
+met-next queue queue′ t′ n m ps qs r = capped-append ps qs (tableOf queue n) (tableOf queue′ m) (r .table)
