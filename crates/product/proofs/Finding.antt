@@ -26,7 +26,7 @@ use Rattle.sheets.proofs.Runs.{run-at}
 use Rattle.product.specs.Product.{Pair, samePair, Joint, jointsFrom, pairs}
 use Rattle.product.specs.Tables.{pairOf, tableOf, capped, Queued, Met, targets, Narrow, Ready, Within, foundIn}
 use Rattle.product.proofs.Joints.{from-out}
-use Rattle.product.proofs.Queueing.{length-table}
+use Rattle.product.proofs.Queueing.{length-table, queued-room}
 use Rattle.product.proofs.Result.{startPair, map-at}
 
 -- the pair with the number i
@@ -49,10 +49,10 @@ run-narrow s runs q run r e =
     }
 
 -- the pair at i
-module _ (a aruns b bruns : List ℕ) (ra : Ready a aruns) (rb : Ready b bruns) (words numbers : List ℕ) (n i : ℕ) (k : Queued words numbers n) (h : i < n)
+module _ (a aruns b bruns : List ℕ) (ra : Ready a aruns) (rb : Ready b bruns) (words t : List ℕ) (n i : ℕ) (k : Queued words t n) (h : i < n)
     (w : Within (stateCount a) (stateCount b) (tableOf words n)) where
   inside : (pairOf (getD words i 0) .left < stateCount a) × (pairOf (getD words i 0) .right < stateCount b)
-  inside = w .states (pairOf (getD words i 0)) (entry-in words n i (omega (arith, k .room, k .few)) h)
+  inside = w .states (pairOf (getD words i 0)) (entry-in words n i (queued-room words t n k) h)
 
   pub visit-left : RunAt a aruns (getD words i 0 / 256)
   visit-left = run-at a (ra .accepted) aruns (getD words i 0 / 256) (ra .indexed) (inside .0)
@@ -61,11 +61,11 @@ module _ (a aruns b bruns : List ℕ) (ra : Ready a aruns) (rb : Ready b bruns) 
   visit-right = run-at b (rb .accepted) bruns (getD words i 0 % 256) (rb .indexed) (inside .1)
 
 pub visit-met : (a b : List ℕ) (c : ℕ) (first second : List ℕ) → first ≡ writeRecords (leaving (read a) (c / 256)) → second ≡ writeRecords (leaving (read b) (c % 256))
-    → (T : List Pair) (words numbers : List ℕ) (m : ℕ) → Met T (targets (readRecords first) (readRecords second)) words numbers m
-    → Met T (pairs (read a) (read b) .next (pairOf c)) words numbers m
+    → (T : List Pair) (words t : List ℕ) (m : ℕ) → Met T (targets (readRecords first) (readRecords second)) words t m
+    → Met T (pairs (read a) (read b) .next (pairOf c)) words t m
 unfolding pairs targets jointsFrom
-visit-met a b c first second e f T words numbers m r =
-    subst (λ (ps : List Pair). Met T ps words numbers m)
+visit-met a b c first second e f T words t m r =
+    subst (λ (ps : List Pair). Met T ps words t m)
     (ap₂ (λ x y. targets x y) (ap readRecords e ∙ read-write (leaving (read a) (c / 256))) (ap readRecords f ∙ read-write (leaving (read b) (c % 256)))) r
 
 pub ruleset visitLaws = (visit-left, visit-right, run-narrow, visit-met, needs)
@@ -98,7 +98,7 @@ module _ (a aruns b bruns : List ℕ) (ra : Ready a aruns) (rb : Ready b bruns) 
   pub start-right : getD b 1 0 < 256
   start-right = omega (arith, rb .accepted .start, rb .accepted .few-states)
 
-  module _ (words₀ words numbers : List ℕ) (n : ℕ) (r : Met (tableOf words₀ 0) (record { left = getD a 1 0; right = getD b 1 0 } ∷ []) words numbers n) where
+  module _ (words₀ words t : List ℕ) (n : ℕ) (r : Met (tableOf words₀ 0) (record { left = getD a 1 0; right = getD b 1 0 } ∷ []) words t n) where
     first-table : tableOf words n ≡ record { left = getD a 1 0; right = getD b 1 0 } ∷ []
     unfolding tableOf capped meet add index
     first-table = r .table
@@ -115,10 +115,10 @@ module _ (a aruns b bruns : List ℕ) (ra : Ready a aruns) (rb : Ready b bruns) 
               (List·Memᴰ·cases-cons (rw first-table at m));
         }
 
-  module _ (words numbers : List ℕ) (n i : ℕ) (k : Queued words numbers n) (w : Within (stateCount a) (stateCount b) (tableOf words n))
+  module _ (words t : List ℕ) (n i : ℕ) (k : Queued words t n) (w : Within (stateCount a) (stateCount b) (tableOf words n))
       (q : queue (pairs (read a) (read b)) mostStates i (tableOf words n) ≡ table (pairs (read a) (read b)) mostStates) where
     count : length (tableOf words n) ≡ n
-    count = length-table words n (omega (arith, k .room, k .few))
+    count = length-table words n (queued-room words t n k)
 
     pub find-full : i ≤ 256 → 256 < n → foundIn words n ≡ table (pairs (read a) (read b)) mostStates
     unfolding foundIn
@@ -128,14 +128,14 @@ module _ (a aruns b bruns : List ℕ) (ra : Ready a aruns) (rb : Ready b bruns) 
     unfolding foundIn
     find-ended l h = rw (le-ltb 256 n (omega arith)) (sym (queue-end graph mostStates i (tableOf words n) l (omega (arith, count))) ∙ q)
 
-    module _ (h : i < n) (words′ numbers′ : List ℕ) (m : ℕ) (r : Met (tableOf words n) (pairs (read a) (read b) .next (pairOf (getD words i 0))) words′ numbers′ m) where
+    module _ (h : i < n) (words′ t′ : List ℕ) (m : ℕ) (r : Met (tableOf words n) (pairs (read a) (read b) .next (pairOf (getD words i 0))) words′ t′ m) where
       pub find-next : n ≤ 256 → queue (pairs (read a) (read b)) mostStates (i + 1) (tableOf words′ m) ≡ table (pairs (read a) (read b)) mostStates
       unfolding pairs capped
       find-next l =
           ap (λ j. queue graph mostStates j (tableOf words′ m)) (add-one i)
           ∙ ap (queue graph mostStates (suc i)) (r .table)
           ∙ queue-capped graph mostStates (suc i) (meet samePair (graph .next (pairOf (getD words i 0))) (tableOf words n)) (omega arith)
-          ∙ ap (λ p. queue graph mostStates (suc i) (meet samePair (graph .next p) (tableOf words n))) (sym (entry-at words n i (startPair (read a) (read b)) (omega (arith, k .room, k .few)) h))
+          ∙ ap (λ p. queue graph mostStates (suc i) (meet samePair (graph .next p) (tableOf words n))) (sym (entry-at words n i (startPair (read a) (read b)) (queued-room words t n k) h))
           ∙ sym (queue-step graph mostStates i (tableOf words n) (omega arith) (omega (arith, count)))
           ∙ q
 

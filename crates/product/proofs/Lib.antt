@@ -3,6 +3,7 @@ pub mod Joints
 pub mod Queueing
 pub mod Meeting
 pub mod Finding
+pub mod Numbering
 pub mod Blocking
 pub mod Adding
 pub mod Sections

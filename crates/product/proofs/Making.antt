@@ -1,20 +1,19 @@
 -- The answers of the product: the laws by which its public function and those below it are proved.
-use Prim.Native.Nat.{ℕ, suc, _-_, _*_, _/_, _≤_, _<_}
+use Prim.Native.Nat.{ℕ, _-_, _*_, _/_, _≤_, _<_}
 use mathlib.Core.Bool.{Bool, true, false, _||_}
-use mathlib.Core.List.{List, [], _∷_, _++_, map, List·Memᴰ·head, List·Memᴰ·tail}
-use mathlib.Core.Path.{_≡_, refl, sym, _∙_, ap, ap₂, subst}
+use mathlib.Core.List.{List, map}
+use mathlib.Core.Path.{_≡_, refl, sym, _∙_, ap, subst}
 use native.Mathlib.Omega.{arith}
 use borrow.Author.Tests.{lt-ltb, le-ltb}
 use lib.Dec.{ltb}
 use lib.ListN.{length, take, replicate, length-replicate, getD-replicate}
 use lib.Seq.{sets, length-take-le}
-use Rattle.lists.specs.Lists.{_∈_, any}
+use Rattle.lists.specs.Lists.{any, Distinct}
 use Rattle.lists.specs.Written.{Written}
-use Rattle.lists.proofs.Members.{map-in}
 use Rattle.automata.specs.Automaton.{Automaton}
-use Rattle.automata.specs.Ordered.{inOrder}
 use Rattle.automata.specs.Records.{writeRecords}
 use Rattle.automata.specs.WellFormed.{mostStates, mostTransitions}
+use Rattle.buckets.proofs.Entering.{entered-none}
 use Rattle.labels.specs.Labels.{writeLabels}
 use Rattle.output.specs.declared.Made.{Made}
 use Rattle.output.specs.declared.Made.the-variants as made
@@ -27,9 +26,7 @@ use Rattle.refusal.specs.declared.InputRefusal.the-variants.{Epsilon}
 use Rattle.refusal.specs.declared.Refusal.the-variants.{Input, State}
 use Rattle.refusal.specs.declared.StateRefusal.the-variants.{OutputLength, States, Transitions}
 use Rattle.refusal.specs.Answer.{refused}
-use Rattle.search.specs.Search.{index, over, found, table}
-use Rattle.search.proofs.Tables.{index-lt}
-use Rattle.search.proofs.Queue.{table-closed}
+use Rattle.search.specs.Search.{over, found, table}
 use Rattle.sheets.specs.Accepted.{Accepted}
 use Rattle.sheets.specs.declared.Checked.{Checked}
 use Rattle.sheets.specs.declared.Checked.the-variants as checked
@@ -39,53 +36,25 @@ use Rattle.sheets.specs.Runs.{startsOf}
 use Rattle.sheets.specs.Sheet.{stateCount, read, write}
 use Rattle.sheets.proofs.Checking.{sheet-passed, sheet-refused}
 use Rattle.sheets.proofs.Runs.{starts-indexed}
-use Rattle.product.specs.Product.{Pair, samePair, Joint, jointsFrom, pairs, transitionOf, transitionsFrom, placeIn, acceptOf, built, blockedAt, labelOf, product, intersection}
-use Rattle.product.specs.Tables.{codeOf, tableOf, numberIn, Queued, Ready, Within, foundIn, numberAt, sheetWords, Whole}
+use Rattle.product.specs.Product.{Pair, pairs, transitionsFrom, placeIn, acceptOf, built, blockedAt, labelOf, product, intersection}
+use Rattle.product.specs.Tables.{tableOf, bucketsOf, Queued, Ready, Within, foundIn, sheetWords, Whole}
 use Rattle.product.proofs.Answers.{answer-over, answer-blocked, answer-many, answer-given}
-use Rattle.product.proofs.Queueing.{length-table}
-use Rattle.product.proofs.Pairs.{same-decides, pairs-decides}
-
--- the numbers of the code are the places in the finished table
-map-same : {X Y : Type 0} (f g : X → Y) (l : List X) → ((x : X) → x ∈ l → f x ≡ g x) → map f l ≡ map g l
-map-same f g [] h = refl
-map-same f g (x ∷ l) h = ap₂ _∷_ (h x (List·Memᴰ·head refl)) (map-same f g l (λ y m. h y (List·Memᴰ·tail m)))
-
-transitions-same : (f g : Pair → ℕ) (A B : Automaton) (i : ℕ) (ps : List Pair) → ((p : Pair) → p ∈ ps → (j : Joint) → j ∈ jointsFrom A B p → f (j .to) ≡ g (j .to))
-    → transitionsFrom f A B i ps ≡ transitionsFrom g A B i ps
-unfolding transitionsFrom transitionOf
-transitions-same f g A B i [] h = refl
-transitions-same f g A B i (p ∷ ps) h =
-    ap₂ (λ x y. x ++ y)
-    (map-same (transitionOf f i) (transitionOf g i) (jointsFrom A B p) (λ j m. ap (λ n. record { from = i; kind = 1; first = j .span .low; last = j .span .high; to = n }) (h p (List·Memᴰ·head refl) j m)))
-    (transitions-same f g A B (suc i) ps (λ q m. h q (List·Memᴰ·tail m)))
-
-number-place : (words numbers : List ℕ) (n : ℕ) → Queued words numbers n → (p : Pair) → p .left < 256 → p .right < 256 → p ∈ tableOf words n → numberAt numbers p ≡ placeIn (tableOf words n) p
-unfolding numberIn
-number-place words numbers n k p h g m = k .numbered p h g ∙ rw (lt-ltb (index samePair p (tableOf words n)) (length (tableOf words n)) (index-lt samePair same-decides p m))
+use Rattle.product.proofs.Queueing.{length-table, queued-room}
 
 -- what the code gathers are the transitions of the product
-module _ (a aruns b bruns : List ℕ) (ra : Ready a aruns) (rb : Ready b bruns) (words numbers : List ℕ) (n : ℕ) (k : Queued words numbers n)
-    (w : Within (stateCount a) (stateCount b) (tableOf words n)) (v : Whole (read a) (read b) (tableOf words n)) where
-  gathered : inOrder (transitionsFrom (numberAt numbers) (read a) (read b) 0 (tableOf words n)) ≡ built (read a) (read b) (tableOf words n) .transitions
-  unfolding built pairs
-  gathered =
-      ap inOrder
-      (transitions-same (numberAt numbers) (placeIn (tableOf words n)) (read a) (read b) 0 (tableOf words n)
-      (λ p m j i.
-      let t = table-closed (pairs (read a) (read b)) (pairs-decides (read a) (read b)) mostStates (tableOf words n) (v .all) p (j .to) m (map-in (λ (j : Joint). j .to) i) in
-      let s = w .states (j .to) t in
-      number-place words numbers n k (j .to) (omega (arith, s .0, ra .accepted .few-states)) (omega (arith, s .1, rb .accepted .few-states)) t))
-
-  module _ (buf : List ℕ) (end : ℕ) (s : Collected buf end (transitionsFrom (numberAt numbers) (read a) (read b) 0 (tableOf words n))) where
-    pub product-many : 10240 < end → product (read a) (read b) ≡ refused 22
-    product-many h = answer-many (read a) (read b) (tableOf words n) (v .all) (v .free) (let o = s .over h in rw (sym gathered) o)
+module _ (A B : Automaton) (words t : List ℕ) (n : ℕ) (k : Queued words t n) (v : Whole A B (tableOf words n)) where
+  module _ (buf : List ℕ) (end : ℕ) (s : Collected buf end (transitionsFrom (placeIn (tableOf words n)) A B 0 (tableOf words n))) where
+    pub product-many : 10240 < end → product A B ≡ refused 22
+    product-many h = answer-many A B (tableOf words n) (v .all) (v .free) (unfold built in s .over h)
 
     module _ (h : end ≤ 10240) where
-      count : end ≡ 5 * length (built (read a) (read b) (tableOf words n) .transitions)
-      count = let l = s .listed h in omega (arith, l .behind, ap length gathered)
+      count : end ≡ 5 * length (built A B (tableOf words n) .transitions)
+      unfolding built
+      count = let l = s .listed h in omega (arith, l .behind)
 
-      records : take end buf ≡ writeRecords (built (read a) (read b) (tableOf words n) .transitions)
-      records = let z : end - 0 ≡ end = omega arith in ap (λ e. take e buf) (sym z) ∙ s .listed h .words ∙ ap writeRecords gathered
+      records : take end buf ≡ writeRecords (built A B (tableOf words n) .transitions)
+      unfolding built
+      records = let z : end - 0 ≡ end = omega arith in ap (λ e. take e buf) (sym z) ∙ s .listed h .words
 
       pub part-count : end ≡ length (take end buf)
       part-count = sym (length-take-le end buf (omega (arith, s .long)))
@@ -93,23 +62,20 @@ module _ (a aruns b bruns : List ℕ) (ra : Ready a aruns) (rb : Ready b bruns) 
       pub part-few : length (take end buf) ≤ 10240
       part-few = omega (arith, part-count)
 
-      sheet : sheetWords (map (acceptOf (read a) (read b)) (tableOf words n)) n (take end buf) ≡ write (built (read a) (read b) (tableOf words n))
+      sheet : sheetWords (map (acceptOf A B) (tableOf words n)) n (take end buf) ≡ write (built A B (tableOf words n))
       unfolding built
       sheet =
-          let c : length (take end buf) / 5 ≡ length (built (read a) (read b) (tableOf words n) .transitions) = omega (arith, part-count, count) in
-          rw (c, records, length-table words n (omega (arith, k .room, k .few)))
+          let c : length (take end buf) / 5 ≡ length (built A B (tableOf words n) .transitions) = omega (arith, part-count, count) in
+          rw (c, records, length-table words n (queued-room words t n k))
 
-      pub product-made : (out names out′ names′ : List ℕ) (x y : ℕ) → Written out 0 (sheetWords (map (acceptOf (read a) (read b)) (tableOf words n)) n (take end buf)) out′ x
-          → Written names 0 (writeLabels (map labelOf (tableOf words n))) names′ y → outputOf (made.Lengths x y) out′ names′ ≡ outputs out names (product (read a) (read b))
+      pub product-made : (out names out′ names′ : List ℕ) (x y : ℕ) → Written out 0 (sheetWords (map (acceptOf A B) (tableOf words n)) n (take end buf)) out′ x
+          → Written names 0 (writeLabels (map labelOf (tableOf words n))) names′ y → outputOf (made.Lengths x y) out′ names′ ≡ outputs out names (product A B)
       product-made out names out′ names′ x y p q =
-          let few : length (built (read a) (read b) (tableOf words n) .transitions) ≤ mostTransitions = omega (arith, count) in
-          made-given out names out′ names′ x y (record { automaton = built (read a) (read b) (tableOf words n); labels = map labelOf (tableOf words n) }) (subst (λ t. Written out 0 t out′ x) sheet p) q
-          ∙ ap (outputs out names) (sym (answer-given (read a) (read b) (tableOf words n) (v .all) (v .free) few))
+          let few : length (built A B (tableOf words n) .transitions) ≤ mostTransitions = omega (arith, count) in
+          made-given out names out′ names′ x y (record { automaton = built A B (tableOf words n); labels = map labelOf (tableOf words n) }) (subst (λ t. Written out 0 t out′ x) sheet p) q
+          ∙ ap (outputs out names) (sym (answer-given A B (tableOf words n) (v .all) (v .free) few))
 
 -- what the functions ask of each other
-pub queued-room : (words numbers : List ℕ) (n : ℕ) → Queued words numbers n → n ≤ length words
-queued-room words numbers n k = omega (arith, k .room, k .few)
-
 pub within-256 : (a aruns b bruns : List ℕ) → Ready a aruns → Ready b bruns → (T : List Pair) → Within (stateCount a) (stateCount b) T → Within 256 256 T
 within-256 a aruns b bruns ra rb T w = record { states = λ p m. let h = w .states p m in (omega (arith, h .0, ra .accepted .few-states), omega (arith, h .1, rb .accepted .few-states)) }
 
@@ -117,18 +83,19 @@ pub made-many : (out names : List ℕ) (A B : Automaton) → product A B ≡ ref
 made-many out names A B e = made-refused out names (State Transitions) (product A B) e
 
 -- the queue before any pair
-unmet : (n m : ℕ) → n ≡ 257 → m ≡ 65536 → Queued (replicate n 0) (replicate m 257) 0
-unfolding tableOf numberIn index
+unmet : (n m : ℕ) → n ≡ 257 → m ≡ 512 → Queued (replicate n 0) (replicate m 0) 0
+unfolding tableOf bucketsOf
 unmet n m e f =
     record {
       room = length-replicate {A = ℕ} n 0 ∙ e;
-      rows = length-replicate {A = ℕ} m 257 ∙ f;
+      long = length-replicate {A = ℕ} m 0 ∙ f;
       few = omega arith;
-      numbered = λ p h k. getD-replicate m (codeOf p) 257 0 (omega arith);
+      distinct = Distinct.none;
+      found = λ l. entered-none (replicate m 0) (omega (arith, length-replicate {A = ℕ} m 0)) (λ i h. getD-replicate m i 0 0 (omega arith));
     }
 
-pub fresh-queue : Queued (replicate 257 0) (replicate 65536 257) 0
-fresh-queue = unmet 257 65536 refl refl
+pub fresh-queue : Queued (replicate 257 0) (replicate 512 0) 0
+fresh-queue = unmet 257 512 refl refl
 
 -- the answers of the search
 module _ (A B : Automaton) (words : List ℕ) (n : ℕ) (e : foundIn words n ≡ table (pairs A B) mostStates) where

@@ -16,27 +16,27 @@ use Rattle.product.proofs.Joints.{joints-none-left, joints-none-right, 
 use Rattle.product.proofs.Queueing.{met-none, metWith, met-ended, met-full, met-next}
 
 -- two records d and e
-module _ (queue numbers : List ℕ) (n : ℕ) (k : Queued queue numbers n) (d e : List ℕ) where
-  none-met : jointsOf (recordAt d 0 ∷ []) (recordAt e 0 ∷ []) ≡ [] → Met (tableOf queue n) (targets (recordAt d 0 ∷ []) (recordAt e 0 ∷ [])) queue numbers n
+module _ (queue t : List ℕ) (n : ℕ) (k : Queued queue t n) (d e : List ℕ) where
+  none-met : jointsOf (recordAt d 0 ∷ []) (recordAt e 0 ∷ []) ≡ [] → Met (tableOf queue n) (targets (recordAt d 0 ∷ []) (recordAt e 0 ∷ [])) queue t n
   unfolding targets
-  none-met h = rw h (met-none queue numbers n k)
+  none-met h = rw h (met-none queue t n k)
 
-  pub record-other-left : (getD d 1 0 ≡ 1 → ⊥) → Met (tableOf queue n) (targets (recordAt d 0 ∷ []) (recordAt e 0 ∷ [])) queue numbers n
+  pub record-other-left : (getD d 1 0 ≡ 1 → ⊥) → Met (tableOf queue n) (targets (recordAt d 0 ∷ []) (recordAt e 0 ∷ [])) queue t n
   record-other-left h = none-met (joints-other-left (recordAt d 0) (recordAt e 0 ∷ []) h)
 
-  pub record-other-right : (getD e 1 0 ≡ 1 → ⊥) → Met (tableOf queue n) (targets (recordAt d 0 ∷ []) (recordAt e 0 ∷ [])) queue numbers n
+  pub record-other-right : (getD e 1 0 ≡ 1 → ⊥) → Met (tableOf queue n) (targets (recordAt d 0 ∷ []) (recordAt e 0 ∷ [])) queue t n
   record-other-right h = none-met (joints-other-right (recordAt d 0) (recordAt e 0) h)
 
   module _ (x : Common) (told : spanOf x ≡ intersectRanges (record { low = getD d 2 0; high = getD d 3 0 }) (record { low = getD e 2 0; high = getD e 3 0 })) (hd : getD d 1 0 ≡ 1) (he : getD e 1 0 ≡ 1) where
-    pub record-apart : x ≡ Nothing → Met (tableOf queue n) (targets (recordAt d 0 ∷ []) (recordAt e 0 ∷ [])) queue numbers n
+    pub record-apart : x ≡ Nothing → Met (tableOf queue n) (targets (recordAt d 0 ∷ []) (recordAt e 0 ∷ [])) queue t n
     unfolding jointOf
     record-apart h =
         none-met (joints-two (recordAt d 0) (recordAt e 0) hd he ∙ ap (λ o. jointOf o (record { left = getD d 4 0; right = getD e 4 0 })) (sym told ∙ ap spanOf h))
 
-    pub record-met : (a b : ℕ) → x ≡ Range a b → (queue′ numbers′ : List ℕ) (m : ℕ) → Met (tableOf queue n) (record { left = getD d 4 0; right = getD e 4 0 } ∷ []) queue′ numbers′ m
-        → Met (tableOf queue n) (targets (recordAt d 0 ∷ []) (recordAt e 0 ∷ [])) queue′ numbers′ m
+    pub record-met : (a b : ℕ) → x ≡ Range a b → (queue′ t′ : List ℕ) (m : ℕ) → Met (tableOf queue n) (record { left = getD d 4 0; right = getD e 4 0 } ∷ []) queue′ t′ m
+        → Met (tableOf queue n) (targets (recordAt d 0 ∷ []) (recordAt e 0 ∷ [])) queue′ t′ m
     unfolding targets jointOf
-    record-met a b h queue′ numbers′ m r =
+    record-met a b h queue′ t′ m r =
         let j : jointsOf (recordAt d 0 ∷ []) (recordAt e 0 ∷ []) ≡ record { span = record { low = a; high = b }; to = record { left = getD d 4 0; right = getD e 4 0 } } ∷ [] =
         joints-two (recordAt d 0) (recordAt e 0) hd he ∙ ap (λ o. jointOf o (record { left = getD d 4 0; right = getD e 4 0 })) (sym told ∙ ap spanOf h) in
         rw j r
@@ -75,17 +75,17 @@ unfolding targets
 targets-right d e es = ap (map (λ j. j .to)) (joints-right d e es) ∙ map-append (λ (j : Joint). j .to) (jointsOf (d ∷ []) (e ∷ [])) (jointsOf (d ∷ []) es)
 
 -- a record with those of a run, which are left from a place on
-module _ (d run queue₀ : List ℕ) (n₀ : ℕ) (queue numbers : List ℕ) (n at : ℕ) (k : Queued queue numbers n)
+module _ (d run queue₀ : List ℕ) (n₀ : ℕ) (queue t : List ℕ) (n at : ℕ) (k : Queued queue t n)
     (e : metWith queue n (targets (recordAt d 0 ∷ []) (readRecords (drop at run))) ≡ metWith queue₀ n₀ (targets (recordAt d 0 ∷ []) (readRecords run))) where
-  pub run-ended : length run - at < 5 → Met (tableOf queue₀ n₀) (targets (recordAt d 0 ∷ []) (readRecords run)) queue numbers n
+  pub run-ended : length run - at < 5 → Met (tableOf queue₀ n₀) (targets (recordAt d 0 ∷ []) (readRecords run)) queue t n
   run-ended h =
-      met-ended queue numbers n k (tableOf queue₀ n₀) _
+      met-ended queue t n k (tableOf queue₀ n₀) _
       (ap (metWith queue n) (sym (ap (targets (recordAt d 0 ∷ [])) (records-end run at h) ∙ targets-none-right (recordAt d 0 ∷ []))) ∙ e ∙ unfold metWith in refl)
 
-  pub run-next : 5 ≤ length run - at → (queue′ numbers′ : List ℕ) (m : ℕ) → Met (tableOf queue n) (targets (recordAt d 0 ∷ []) (recordAt (take (at + 5 - at) (drop at run)) 0 ∷ [])) queue′ numbers′ m
+  pub run-next : 5 ≤ length run - at → (queue′ t′ : List ℕ) (m : ℕ) → Met (tableOf queue n) (targets (recordAt d 0 ∷ []) (recordAt (take (at + 5 - at) (drop at run)) 0 ∷ [])) queue′ t′ m
       → metWith queue′ m (targets (recordAt d 0 ∷ []) (readRecords (drop (at + 5) run))) ≡ metWith queue₀ n₀ (targets (recordAt d 0 ∷ []) (readRecords run))
-  run-next h queue′ numbers′ m r =
-      met-next queue numbers queue′ numbers′ n m _ _ r
+  run-next h queue′ t′ m r =
+      met-next queue queue′ t′ n m _ _ r
       ∙ ap (metWith queue n)
       (ap (λ x. targets (recordAt d 0 ∷ []) (x ∷ []) ++ targets (recordAt d 0 ∷ []) (readRecords (drop (at + 5) run))) (part-record run at)
       ∙ sym (ap (targets (recordAt d 0 ∷ [])) (records-at run at h) ∙ targets-right (recordAt d 0) (recordAt run at) (readRecords (drop (at + 5) run))))
@@ -97,20 +97,20 @@ run-begins d run queue n = refl
 pub ruleset runLaws = (run-begins, run-ended, narrow-here, narrow-next, needs)
 
 -- the records of two runs, of which those of the first are left from a place on
-module _ (first second queue₀ : List ℕ) (n₀ : ℕ) (queue numbers : List ℕ) (n at : ℕ) (k : Queued queue numbers n)
+module _ (first second queue₀ : List ℕ) (n₀ : ℕ) (queue t : List ℕ) (n at : ℕ) (k : Queued queue t n)
     (e : metWith queue n (targets (readRecords (drop at first)) (readRecords second)) ≡ metWith queue₀ n₀ (targets (readRecords first) (readRecords second))) where
-  pub runs-ended : length first - at < 5 → Met (tableOf queue₀ n₀) (targets (readRecords first) (readRecords second)) queue numbers n
+  pub runs-ended : length first - at < 5 → Met (tableOf queue₀ n₀) (targets (readRecords first) (readRecords second)) queue t n
   runs-ended h =
-      met-ended queue numbers n k (tableOf queue₀ n₀) _
+      met-ended queue t n k (tableOf queue₀ n₀) _
       (ap (metWith queue n) (sym (ap (λ l. targets l (readRecords second)) (records-end first at h) ∙ targets-none-left (readRecords second))) ∙ e ∙ unfold metWith in refl)
 
-  pub runs-full : 256 < n → Met (tableOf queue₀ n₀) (targets (readRecords first) (readRecords second)) queue numbers n
-  runs-full h = met-full queue numbers n k (tableOf queue₀ n₀) _ h (targets (readRecords (drop at first)) (readRecords second)) (e ∙ unfold metWith in refl)
+  pub runs-full : 256 < n → Met (tableOf queue₀ n₀) (targets (readRecords first) (readRecords second)) queue t n
+  runs-full h = met-full queue t n k (tableOf queue₀ n₀) _ h (targets (readRecords (drop at first)) (readRecords second)) (e ∙ unfold metWith in refl)
 
-  pub runs-next : 5 ≤ length first - at → (queue′ numbers′ : List ℕ) (m : ℕ) → Met (tableOf queue n) (targets (recordAt (take (at + 5 - at) (drop at first)) 0 ∷ []) (readRecords second)) queue′ numbers′ m
+  pub runs-next : 5 ≤ length first - at → (queue′ t′ : List ℕ) (m : ℕ) → Met (tableOf queue n) (targets (recordAt (take (at + 5 - at) (drop at first)) 0 ∷ []) (readRecords second)) queue′ t′ m
       → metWith queue′ m (targets (readRecords (drop (at + 5) first)) (readRecords second)) ≡ metWith queue₀ n₀ (targets (readRecords first) (readRecords second))
-  runs-next h queue′ numbers′ m r =
-      met-next queue numbers queue′ numbers′ n m _ _ r
+  runs-next h queue′ t′ m r =
+      met-next queue queue′ t′ n m _ _ r
       ∙ ap (metWith queue n)
       (ap (λ x. targets (x ∷ []) (readRecords second) ++ targets (readRecords (drop (at + 5) first)) (readRecords second)) (part-record first at)
       ∙ sym (ap (λ l. targets l (readRecords second)) (records-at first at h) ∙ targets-left (recordAt first at) (readRecords (drop (at + 5) first)) (readRecords second)))

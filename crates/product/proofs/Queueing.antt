@@ -1,128 +1,124 @@
--- A queue of pairs and a table of their numbers: what one pair more changes, and what is left to be met.
-use Prim.Native.Nat.{ℕ, suc, _+_, _*_, _/_, _%_, _≤_, _<_}
-use mathlib.Core.Bool.{true, false}
+-- A queue of pairs and the buckets of their words: what one pair more changes, and what is left to be met.
+use Prim.Native.Nat.{ℕ, _+_, _*_, _/_, _%_, _≤_, _<_}
 use mathlib.Core.List.{List, [], _∷_, _++_, map, map-append}
-use mathlib.Core.Logic.{_⊎_, inl, inr, ⊎-elim}
 use mathlib.Core.Path.{_≡_, sym, _∙_, ap}
 use native.Mathlib.Numerals.{add-one}
 use native.Mathlib.Omega.{arith}
 use borrow.Author.Needs.{needs}
-use borrow.Author.Tests.{ltb-true, ltb-false, lt-ltb, le-ltb, eqb-true, eqb-false}
-use lib.Dec.{ltb, eqb}
-use lib.ListN.{getD, length, take, set, length-set, length-append, length-map}
-use lib.Seq.{length-take-le, take-all, take-suc-set, getD-set-same, getD-set-other}
-use Rattle.lists.proofs.Tests.{test}
-use Rattle.search.specs.Search.{index, meet}
-use Rattle.search.proofs.Tables.{add-known, add-new, meet-append, meet-full, meet-capped, index-before, index-behind, same-no}
-use Rattle.product.specs.Product.{Pair, samePair}
-use Rattle.product.specs.Tables.{codeOf, pairOf, tableOf, capped, numberIn, Queued, Met}
+use lib.ListN.{length, take, set, length-set, length-append, length-map}
+use lib.Seq.{length-take-le, take-all, take-suc-set}
+use Rattle.lists.proofs.Members.{distinct-end}
+use Rattle.buckets.specs.Buckets.{Entered, entered}
+use Rattle.buckets.proofs.Entering.{entered-next, length-entered}
+use Rattle.search.specs.Search.{meet}
+use Rattle.search.proofs.Tables.{add-known, add-new, meet-append, meet-full, meet-capped, index-lt}
+use Rattle.product.specs.Product.{Pair, samePair, placeIn}
+use Rattle.product.specs.Tables.{pairOf, tableOf, capped, bucketOf, bucketsOf, Queued, Met}
 use Rattle.product.proofs.Pairs.{same-decides}
 
 pub length-table : (queue : List ℕ) (n : ℕ) → n ≤ length queue → length (tableOf queue n) ≡ n
 unfolding tableOf
 length-table queue n h = length-map (take n queue) pairOf ∙ length-take-le n queue h
 
--- a pair is known by its word
-pair-code : (p : Pair) → p .right < 256 → pairOf (codeOf p) ≡ p
-pair-code p h =
-    let l : (p .left * 256 + p .right) / 256 ≡ p .left = omega arith in
-    let r : (p .left * 256 + p .right) % 256 ≡ p .right = omega arith in
+pub length-buckets : (queue : List ℕ) (n : ℕ) → n ≤ length queue → length (bucketsOf queue n) ≡ n
+unfolding bucketsOf
+length-buckets queue n h = length-map (take n queue) bucketOf ∙ length-take-le n queue h
+
+pub bucket-low : (c : ℕ) → bucketOf c < 256
+unfolding bucketOf
+bucket-low c = omega arith
+
+pub bucket-less : (c b : ℕ) → b ≡ bucketOf c → b < 256
+bucket-less c b e = omega (arith, e, bucket-low c)
+
+pub queued-room : (queue t : List ℕ) (n : ℕ) → Queued queue t n → n ≤ length queue
+queued-room queue t n k = omega (arith, k .room, k .few)
+
+pub queued-long : (queue t : List ℕ) (n : ℕ) → Queued queue t n → 512 ≤ length t
+queued-long queue t n k = omega (arith, k .long)
+
+-- the pair of a word
+pub word-pair : (p q : ℕ) → q < 256 → pairOf (p * 256 + q) ≡ record { left = p; right = q }
+word-pair p q h =
+    let l : (p * 256 + q) / 256 ≡ p = omega arith in
+    let r : (p * 256 + q) % 256 ≡ q = omega arith in
     rw (l, r)
-
-code-apart : (p q : Pair) → p .right < 256 → q .right < 256 → codeOf p ≡ codeOf q → p ≡ q
-code-apart p q h k e = sym (pair-code p h) ∙ ap pairOf e ∙ pair-code q k
-
-alike : (m n : ℕ) → (m ≡ n) ⊎ (m ≡ n → ⊥)
-alike m n = ⊎-elim (λ t. inl (eqb-true m n t)) (λ t. inr (eqb-false m n t)) (test (eqb m n))
-
-module _ (T : List Pair) (p : Pair) (few : length T ≤ 256) where
-  number-known : (numberIn T p ≡ 257 → ⊥) → index samePair p T < length T
-  unfolding numberIn
-  number-known h =
-      ⊎-elim (λ t. ltb-true _ _ t) (λ (t : ltb (index samePair p T) (length T) ≡ false). absurd (h (rw t))) (test (ltb (index samePair p T) (length T)))
-
-  number-none : numberIn T p ≡ 257 → length T ≤ index samePair p T
-  unfolding numberIn
-  number-none h =
-      ⊎-elim (λ (t : ltb (index samePair p T) (length T) ≡ true). let k : index samePair p T ≡ 257 = rw t at h in let l : index samePair p T < length T = ltb-true _ _ t in absurd (omega arith)) (λ t. ltb-false _ _ t)
-      (test (ltb (index samePair p T) (length T)))
-
-  number-new : length T ≤ index samePair p T → numberIn (T ++ p ∷ []) p ≡ length T
-  unfolding numberIn
-  number-new h =
-      let e : index samePair p (T ++ p ∷ []) ≡ length T = index-behind samePair p p T h ∙ rw (same-decides .same-self p) in
-      rw (e, lt-ltb (length T) (length (T ++ p ∷ [])) (omega (arith, length-append T (p ∷ []))))
-
-  number-other : (q : Pair) → (q ≡ p → ⊥) → numberIn (T ++ p ∷ []) q ≡ numberIn T q
-  unfolding numberIn
-  number-other q n =
-      ⊎-elim
-      (λ (t : ltb (index samePair q T) (length T) ≡ true).
-      let h = ltb-true _ _ t in
-      let e = index-before samePair q T (p ∷ []) h in
-      rw (t, e, lt-ltb (index samePair q T) (length (T ++ p ∷ [])) (omega (arith, length-append T (p ∷ [])))))
-      (λ (t : ltb (index samePair q T) (length T) ≡ false).
-      let e : index samePair q (T ++ p ∷ []) ≡ suc (length T) = index-behind samePair q p T (ltb-false _ _ t) ∙ rw (same-no samePair same-decides q p n) in
-      rw (t, e, le-ltb (suc (length T)) (length (T ++ p ∷ [])) (omega (arith, length-append T (p ∷ [])))))
-      (test (ltb (index samePair q T) (length T)))
 
 capped-few : (T : List Pair) → length T ≤ 257 → capped T ≡ T
 unfolding capped
 capped-few T h = take-all 257 T h
 
-table-capped : (queue numbers : List ℕ) (n : ℕ) → Queued queue numbers n → capped (tableOf queue n) ≡ tableOf queue n
-table-capped queue numbers n k = capped-few (tableOf queue n) (omega (arith, length-table queue n (omega (arith, k .room, k .few)), k .few))
+table-capped : (queue t : List ℕ) (n : ℕ) → Queued queue t n → capped (tableOf queue n) ≡ tableOf queue n
+table-capped queue t n k = capped-few (tableOf queue n) (omega (arith, length-table queue n (queued-room queue t n k), k .few))
 
 -- one pair
-module _ (queue numbers : List ℕ) (n p q : ℕ) (k : Queued queue numbers n) (hp : p < 256) (hq : q < 256) where
-  new : Pair
-  new = record { left = p; right = q }
-
+module _ (queue t : List ℕ) (n p q : ℕ) (k : Queued queue t n) (hq : q < 256) where
   count : length (tableOf queue n) ≡ n
-  count = length-table queue n (omega (arith, k .room, k .few))
+  count = length-table queue n (queued-room queue t n k)
 
-  pub pair-full : 256 < n → Met (tableOf queue n) (record { left = p; right = q } ∷ []) queue numbers n
+  pub pair-full : 256 < n → Met (tableOf queue n) (record { left = p; right = q } ∷ []) queue t n
   unfolding capped
   pair-full h = record { queued = k; table = sym (meet-full samePair 257 (record { left = p; right = q } ∷ []) (tableOf queue n) (omega (arith, count, k .few))) }
 
-  pub pair-known : n ≤ 256 → (getD numbers (p * 256 + q) 0 ≡ 257 → ⊥) → Met (tableOf queue n) (record { left = p; right = q } ∷ []) queue numbers n
-  unfolding meet new
-  pair-known l h =
-      let i = number-known (tableOf queue n) new (omega (arith, count)) (λ e. h (k .numbered new hp hq ∙ e)) in
-      record { queued = k; table = sym (ap capped (add-known samePair new (tableOf queue n) i) ∙ table-capped queue numbers n k) }
+  module _ (l : n ≤ 256) (i : ℕ) (e : i ≡ placeIn (tableOf queue n) (pairOf (p * 256 + q))) where
+    place : i ≡ placeIn (tableOf queue n) (record { left = p; right = q })
+    place = e ∙ ap (placeIn (tableOf queue n)) (word-pair p q hq)
 
-  pub pair-new : n ≤ 256 → getD numbers (p * 256 + q) 0 ≡ 257 → Met (tableOf queue n) (record { left = p; right = q } ∷ []) (set queue n (p * 256 + q)) (set numbers (p * 256 + q) n) (n + 1)
-  unfolding meet new
-  pair-new l h =
-      let i = number-none (tableOf queue n) new (omega (arith, count)) (sym (k .numbered new hp hq) ∙ h) in
-      let grown : tableOf (set queue n (p * 256 + q)) (n + 1) ≡ tableOf queue n ++ new ∷ [] =
-      ap (tableOf (set queue n (p * 256 + q))) (add-one n)
-      ∙ unfold tableOf in (ap (map pairOf) (take-suc-set queue n (p * 256 + q) (omega (arith, k .room))) ∙ map-append pairOf (take n queue) _ ∙ ap (λ x. map pairOf (take n queue) ++ x ∷ []) (pair-code new hq)) in
-      let few : length (tableOf queue n ++ new ∷ []) ≤ 257 = omega (arith, length-append (tableOf queue n) (new ∷ []), count) in
-      record {
-        queued = record {
-          room = length-set queue n _ ∙ k .room;
-          rows = length-set numbers _ _ ∙ k .rows;
-          few = omega arith;
-          numbered = λ o ho po.
-              ⊎-elim
-              (λ (e : codeOf o ≡ codeOf new).
-              let z : o ≡ new = code-apart o new po hq e in
-              rw (grown, z, number-new (tableOf queue n) new (omega (arith, count)) i) (getD-set-same numbers (p * 256 + q) n 0 (omega (arith, k .rows)) ∙ sym count))
-              (λ (e : codeOf o ≡ codeOf new → ⊥).
-              rw (grown, number-other (tableOf queue n) new (omega (arith, count)) o (λ z. e (ap codeOf z))) (getD-set-other numbers (p * 256 + q) (codeOf o) n 0 e ∙ k .numbered o ho po))
-              (alike (codeOf o) (codeOf new));
-        };
-        table = grown ∙ sym (ap capped (add-new samePair new (tableOf queue n) i) ∙ capped-few _ few);
-      }
+    pub pair-known : i < n → Met (tableOf queue n) (record { left = p; right = q } ∷ []) queue t n
+    unfolding meet
+    pair-known h =
+        record {
+          queued = k;
+          table = sym (ap capped (add-known samePair (record { left = p; right = q }) (tableOf queue n) (omega (arith, place, count))) ∙ table-capped queue t n k);
+        }
 
-pub ruleset pairLaws = (pair-full, pair-known, pair-new, needs)
+    module _ (h : n ≤ i) where
+      far : length (tableOf queue n) ≤ placeIn (tableOf queue n) (record { left = p; right = q })
+      far = omega (arith, place, count)
+
+      taken : take (n + 1) (set queue n (p * 256 + q)) ≡ take n queue ++ (p * 256 + q) ∷ []
+      taken = ap (λ m. take m (set queue n (p * 256 + q))) (add-one n) ∙ take-suc-set queue n (p * 256 + q) (omega (arith, k .room))
+
+      grown : tableOf (set queue n (p * 256 + q)) (n + 1) ≡ tableOf queue n ++ record { left = p; right = q } ∷ []
+      unfolding tableOf
+      grown = ap (map pairOf) taken ∙ map-append pairOf (take n queue) _ ∙ ap (λ x. map pairOf (take n queue) ++ x ∷ []) (word-pair p q hq)
+
+      buckets : bucketsOf (set queue n (p * 256 + q)) (n + 1) ≡ bucketsOf queue n ++ bucketOf (p * 256 + q) ∷ []
+      unfolding bucketsOf
+      buckets = ap (map bucketOf) taken ∙ map-append bucketOf (take n queue) _
+
+      met : (u : List ℕ) → length u ≡ 512 → (n + 1 ≤ 256 → Entered (bucketsOf (set queue n (p * 256 + q)) (n + 1)) u)
+          → Met (tableOf queue n) (record { left = p; right = q } ∷ []) (set queue n (p * 256 + q)) u (n + 1)
+      unfolding meet
+      met u w f =
+          record {
+            queued = record {
+              room = length-set queue n _ ∙ k .room;
+              long = w;
+              few = omega arith;
+              distinct = rw grown (distinct-end (record { left = p; right = q }) (tableOf queue n) (k .distinct) (λ m. let near = index-lt samePair same-decides (record { left = p; right = q }) m in omega (arith, far)));
+              found = f;
+            };
+            table = grown ∙ sym (ap capped (add-new samePair (record { left = p; right = q }) (tableOf queue n) far)
+                ∙ capped-few _ (omega (arith, length-append (tableOf queue n) (record { left = p; right = q } ∷ []), count)));
+          }
+
+      pub pair-last : 256 ≤ n → Met (tableOf queue n) (record { left = p; right = q } ∷ []) (set queue n (p * 256 + q)) t (n + 1)
+      pair-last g = met t (k .long) (λ f. absurd (omega arith))
+
+      module _ (g : n < 256) (b : ℕ) (o : b ≡ bucketOf (p * 256 + q)) where
+        pub pair-new : (u : List ℕ) → u ≡ entered t n b → Met (tableOf queue n) (record { left = p; right = q } ∷ []) (set queue n (p * 256 + q)) u (n + 1)
+        pair-new u r =
+            met u (rw r (length-entered t n b ∙ k .long))
+            (λ f. rw (r, buckets, o) (entered-next (bucketsOf queue n) t n (bucketOf (p * 256 + q)) (k .found l) (length-buckets queue n (omega (arith, k .room))) g (bucket-low (p * 256 + q))))
+
+pub ruleset pairLaws = (pair-full, pair-known, pair-last, pair-new, bucket-less, queued-long, needs)
 
 -- no pair, and pairs one after the other
-module _ (queue numbers : List ℕ) (n : ℕ) (k : Queued queue numbers n) where
-  pub met-none : Met (tableOf queue n) [] queue numbers n
+module _ (queue t : List ℕ) (n : ℕ) (k : Queued queue t n) where
+  pub met-none : Met (tableOf queue n) [] queue t n
   unfolding meet
-  met-none = record { queued = k; table = sym (table-capped queue numbers n k) }
+  met-none = record { queued = k; table = sym (table-capped queue t n k) }
 
 capped-append : (xs ys T U : List Pair) → U ≡ capped (meet samePair xs T) → capped (meet samePair ys U) ≡ capped (meet samePair (xs ++ ys) T)
 unfolding capped
@@ -132,16 +128,16 @@ capped-append xs ys T U e = ap (λ l. take 257 (meet samePair ys l)) e ∙ meet-
 unfoldable pub metWith : List ℕ → ℕ → List Pair → List Pair
 metWith queue n ps = capped (meet samePair ps (tableOf queue n))
 
-module _ (queue numbers : List ℕ) (n : ℕ) (k : Queued queue numbers n) (old ps : List Pair) where
-  pub met-ended : metWith queue n [] ≡ capped (meet samePair ps old) → Met old ps queue numbers n
+module _ (queue t : List ℕ) (n : ℕ) (k : Queued queue t n) (old ps : List Pair) where
+  pub met-ended : metWith queue n [] ≡ capped (meet samePair ps old) → Met old ps queue t n
   unfolding metWith meet
-  met-ended e = record { queued = k; table = sym (table-capped queue numbers n k) ∙ e }
+  met-ended e = record { queued = k; table = sym (table-capped queue t n k) ∙ e }
 
-  pub met-full : 256 < n → (qs : List Pair) → metWith queue n qs ≡ capped (meet samePair ps old) → Met old ps queue numbers n
+  pub met-full : 256 < n → (qs : List Pair) → metWith queue n qs ≡ capped (meet samePair ps old) → Met old ps queue t n
   unfolding metWith capped
   met-full h qs e =
-      record { queued = k; table = sym (meet-full samePair 257 qs (tableOf queue n) (omega (arith, length-table queue n (omega (arith, k .room, k .few)), k .few))) ∙ e }
+      record { queued = k; table = sym (meet-full samePair 257 qs (tableOf queue n) (omega (arith, length-table queue n (queued-room queue t n k), k .few))) ∙ e }
 
-pub met-next : (queue numbers queue′ numbers′ : List ℕ) (n m : ℕ) (ps qs : List Pair) → Met (tableOf queue n) ps queue′ numbers′ m → metWith queue′ m qs ≡ metWith queue n (ps ++ qs)
+pub met-next : (queue queue′ t′ : List ℕ) (n m : ℕ) (ps qs : List Pair) → Met (tableOf queue n) ps queue′ t′ m → metWith queue′ m qs ≡ metWith queue n (ps ++ qs)
 unfolding metWith
-met-next queue numbers queue′ numbers′ n m ps qs r = capped-append ps qs (tableOf queue n) (tableOf queue′ m) (r .table)
+met-next queue queue′ t′ n m ps qs r = capped-append ps qs (tableOf queue n) (tableOf queue′ m) (r .table)

@@ -1,22 +1,20 @@
--- What the code holds of the table of pairs: a queue in which a pair is one word, and the number of each pair.
+-- What the code holds of the table of pairs: a queue in which a pair is one word, and the buckets by which a pair is found in it.
 use Prim.Native.Nat.{ℕ, _+_, _*_, _/_, _%_, _≤_, _<_}
 use mathlib.Core.Bool.{true, false, cond}
 use mathlib.Core.List.{List, _∷_, _++_, map}
 use mathlib.Core.Path.{_≡_}
 use lib.Dec.{ltb}
-use lib.ListN.{getD, length, take}
-use Rattle.lists.specs.Lists.{_∈_, any}
+use lib.ListN.{length, take}
+use Rattle.lists.specs.Lists.{_∈_, any, Distinct}
 use Rattle.automata.specs.Automaton.{Transition, Automaton}
 use Rattle.automata.specs.WellFormed.{mostStates}
-use Rattle.search.specs.Search.{index, meet, Found, over, found, table}
+use Rattle.buckets.specs.Buckets.{Entered}
+use Rattle.search.specs.Search.{meet, Found, over, found, table}
 use Rattle.sheets.specs.Accepted.{Accepted}
 use Rattle.sheets.specs.Runs.{Indexed}
-use Rattle.product.specs.Product.{Pair, samePair, jointsOf, pairs, transitionOf, hasEpsilon, blockedAt}
+use Rattle.product.specs.Product.{Pair, samePair, jointsOf, pairs, transitionOf, placeIn, hasEpsilon, blockedAt}
 
--- a pair of states below 256 as one word, and back
-abbrev pub codeOf : Pair → ℕ
-codeOf p = p .left * 256 + p .right
-
+-- the pair of states of a word
 abbrev pub pairOf : ℕ → Pair
 pairOf c = record { left = c / 256; right = c % 256 }
 
@@ -28,20 +26,24 @@ tableOf queue n = map pairOf (take n queue)
 unfoldable pub capped : List Pair → List Pair
 capped T = take 257 T
 
--- the number of a pair, or 257
-unfoldable pub numberIn : List Pair → Pair → ℕ
-numberIn T p = cond (ltb (index samePair p T) (length T)) (index samePair p T) 257
+-- the bucket of a word, and those of the first n words of the queue
+unfoldable pub bucketOf : ℕ → ℕ
+bucketOf c = (37 * (c / 256) + c % 256) % 256
 
--- the first n words of the queue are pairs, and numbers has the number of each
-pub record Queued (queue numbers : List ℕ) (n : ℕ) : Type 0 where
+unfoldable pub bucketsOf : List ℕ → ℕ → List ℕ
+bucketsOf queue n = map bucketOf (take n queue)
+
+-- the first n words of the queue are different pairs, and each is in the bucket of its word, unless there are 257
+pub record Queued (queue t : List ℕ) (n : ℕ) : Type 0 where
   pub room : length queue ≡ 257
-  pub rows : length numbers ≡ 65536
+  pub long : length t ≡ 512
   pub few : n ≤ 257
-  pub numbered : (p : Pair) → p .left < 256 → p .right < 256 → getD numbers (codeOf p) 0 ≡ numberIn (tableOf queue n) p
+  pub distinct : Distinct (tableOf queue n)
+  pub found : n ≤ 256 → Entered (bucketsOf queue n) t
 
 -- the table T, and then the pairs ps were met, as far as there is room
-pub record Met (T ps : List Pair) (queue numbers : List ℕ) (n : ℕ) : Type 0 where
-  pub queued : Queued queue numbers n
+pub record Met (T ps : List Pair) (queue t : List ℕ) (n : ℕ) : Type 0 where
+  pub queued : Queued queue t n
   pub table : tableOf queue n ≡ capped (meet samePair ps T)
 
 -- the pairs to which ranges among ds and es that meet lead
@@ -65,13 +67,9 @@ pub record Within (n m : ℕ) (T : List Pair) : Type 0 where
 unfoldable pub foundIn : List ℕ → ℕ → Found Pair
 foundIn queue n = cond (ltb 256 n) over (found (tableOf queue n))
 
--- the number of a pair as the table of numbers has it
-abbrev pub numberAt : List ℕ → Pair → ℕ
-numberAt numbers p = getD numbers (codeOf p) 0
-
--- the transitions of pair i by the ranges among ds and es that meet
-unfoldable pub links : List ℕ → ℕ → List Transition → List Transition → List Transition
-links numbers i ds es = map (transitionOf (numberAt numbers) i) (jointsOf ds es)
+-- the transitions of pair i of the table by the ranges among ds and es that meet
+unfoldable pub links : List Pair → ℕ → List Transition → List Transition → List Transition
+links T i ds es = map (transitionOf (placeIn T) i) (jointsOf ds es)
 
 -- no epsilon stands behind a range
 pub record EpsilonFirst (es : List Transition) : Type 0 where

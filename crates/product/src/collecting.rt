@@ -7,24 +7,32 @@ ghost use Rattle.automata.specs.Records.{recordAt, readRecords};
 ghost use Rattle.sheets.specs.Sheet.{stateCount, read};
 ghost use Rattle.output.specs.Gathering.{Open, Gathered, Collected};
 ghost use Rattle.output.specs.Ordered.{recordsIn};
-ghost use Rattle.product.specs.Product.{jointsFrom, transitionOf, transitionsFrom};
-ghost use Rattle.product.specs.Tables.{pairOf, tableOf, Narrow, Ready, Within, numberAt, links};
+ghost use Rattle.product.specs.Product.{jointsFrom, transitionOf, transitionsFrom, placeIn};
+ghost use Rattle.product.specs.Tables.{pairOf, tableOf, Queued, Narrow, Ready, Within, links};
 use ranges::Common;
 
-// The number of the pair of p and q.
-fn number_of(numbers: &[u32], p: u32, q: u32) -> u32
-    requires { ⌜ (length (now numbers) ≡ 65536) × (p < 256) × (q < 256) ⌝ }
-    ensures { λ r. ⌜ r ≡ numberAt (now (numbers .entry)) (record { left = p; right = q }) ⌝ }
+// The number of the pair of p and q among the first n of the queue, or n.
+fn number_of(queue: &[u32], t: &[usize], n: usize, p: u32, q: u32) -> u32
+    requires { ⌜ Queued (now queue) (now t) n × (n ≤ 256) × (p < 256) × (q < 256) ⌝ }
+    ensures { λ r. ⌜ r ≡ placeIn (tableOf (now (queue .entry)) n) (record { left = p; right = q }) ⌝ }
 {
-    let code = p * 256 + q;
-    numbers[code as usize]
+    crate::numbers::find_pair(queue, t, n, p * 256 + q) as u32
 }
 
 // The transition of pair i by the records d and e behind the others, if they are ranges that meet. Like the functions below it answers the place
 // behind the transitions.
-fn add_joint(d: &[u32], e: &[u32], i: u32, numbers: &[u32], buf: &mut [u32], end: usize) -> usize
-    requires { ⌜ (length (now d) ≡ 5) × (length (now e) ≡ 5) × Narrow (recordAt (now d) 0 ∷ []) × Narrow (recordAt (now e) 0 ∷ []) × (length (now numbers) ≡ 65536) × Open (now buf) end ⌝ }
-    ensures { λ r. ⌜ Gathered (now (buf .exit)) r (recordsIn (now (buf .entry)) 0 end ++ links (now (numbers .entry)) i (recordAt (now (d .entry)) 0 ∷ []) (recordAt (now (e .entry)) 0 ∷ [])) ⌝ }
+fn add_joint(
+    d: &[u32],
+    e: &[u32],
+    i: u32,
+    queue: &[u32],
+    t: &[usize],
+    n: usize,
+    buf: &mut [u32],
+    end: usize,
+) -> usize
+    requires { ⌜ (length (now d) ≡ 5) × (length (now e) ≡ 5) × Narrow (recordAt (now d) 0 ∷ []) × Narrow (recordAt (now e) 0 ∷ []) × Queued (now queue) (now t) n × (n ≤ 256) × Open (now buf) end ⌝ }
+    ensures { λ r. ⌜ Gathered (now (buf .exit)) r (recordsIn (now (buf .entry)) 0 end ++ links (tableOf (now (queue .entry)) n) i (recordAt (now (d .entry)) 0 ∷ []) (recordAt (now (e .entry)) 0 ∷ [])) ⌝ }
 {
     if d[1] != 1 {
         return end;
@@ -34,7 +42,7 @@ fn add_joint(d: &[u32], e: &[u32], i: u32, numbers: &[u32], buf: &mut [u32], end
     }
     match ranges::intersect_ranges(d[2], d[3], e[2], e[3]) {
         Common::Range(first, last) => {
-            let to = number_of(numbers, d[4], e[4]);
+            let to = number_of(queue, t, n, d[4], e[4]);
             output::gather_record(buf, end, i, 1, first, last, to)
         }
         Common::Nothing => end,
@@ -42,14 +50,23 @@ fn add_joint(d: &[u32], e: &[u32], i: u32, numbers: &[u32], buf: &mut [u32], end
 }
 
 // The transitions of pair i by the record d and those of the run, until there are too many.
-fn add_run(d: &[u32], run: &[u32], i: u32, numbers: &[u32], buf: &mut [u32], end: usize) -> usize
-    requires { ⌜ (length (now d) ≡ 5) × Narrow (recordAt (now d) 0 ∷ []) × Narrow (readRecords (now run)) × (length (now numbers) ≡ 65536) × Open (now buf) end ⌝ }
-    ensures { λ r. ⌜ Gathered (now (buf .exit)) r (recordsIn (now (buf .entry)) 0 end ++ links (now (numbers .entry)) i (recordAt (now (d .entry)) 0 ∷ []) (readRecords (now (run .entry)))) ⌝ }
+fn add_run(
+    d: &[u32],
+    run: &[u32],
+    i: u32,
+    queue: &[u32],
+    t: &[usize],
+    n: usize,
+    buf: &mut [u32],
+    end: usize,
+) -> usize
+    requires { ⌜ (length (now d) ≡ 5) × Narrow (recordAt (now d) 0 ∷ []) × Narrow (readRecords (now run)) × Queued (now queue) (now t) n × (n ≤ 256) × Open (now buf) end ⌝ }
+    ensures { λ r. ⌜ Gathered (now (buf .exit)) r (recordsIn (now (buf .entry)) 0 end ++ links (tableOf (now (queue .entry)) n) i (recordAt (now (d .entry)) 0 ∷ []) (readRecords (now (run .entry)))) ⌝ }
 {
     let mut k = end;
     let mut at: usize = 0;
     while 5 <= run.len() - at {
-        k = add_joint(d, &run[at..at + 5], i, numbers, buf, k);
+        k = add_joint(d, &run[at..at + 5], i, queue, t, n, buf, k);
         if 20480 <= k {
             return k;
         }
@@ -63,17 +80,19 @@ fn add_runs(
     first: &[u32],
     second: &[u32],
     i: u32,
-    numbers: &[u32],
+    queue: &[u32],
+    t: &[usize],
+    n: usize,
     buf: &mut [u32],
     end: usize,
 ) -> usize
-    requires { ⌜ Narrow (readRecords (now first)) × Narrow (readRecords (now second)) × (length (now numbers) ≡ 65536) × Open (now buf) end ⌝ }
-    ensures { λ r. ⌜ Gathered (now (buf .exit)) r (recordsIn (now (buf .entry)) 0 end ++ links (now (numbers .entry)) i (readRecords (now (first .entry))) (readRecords (now (second .entry)))) ⌝ }
+    requires { ⌜ Narrow (readRecords (now first)) × Narrow (readRecords (now second)) × Queued (now queue) (now t) n × (n ≤ 256) × Open (now buf) end ⌝ }
+    ensures { λ r. ⌜ Gathered (now (buf .exit)) r (recordsIn (now (buf .entry)) 0 end ++ links (tableOf (now (queue .entry)) n) i (readRecords (now (first .entry))) (readRecords (now (second .entry)))) ⌝ }
 {
     let mut k = end;
     let mut at: usize = 0;
     while 5 <= first.len() - at {
-        k = add_run(&first[at..at + 5], second, i, numbers, buf, k);
+        k = add_run(&first[at..at + 5], second, i, queue, t, n, buf, k);
         if 20480 <= k {
             return k;
         }
@@ -89,20 +108,23 @@ fn add_pair(
     b: &[u32],
     bruns: &[u32],
     queue: &[u32],
+    t: &[usize],
+    n: usize,
     i: usize,
-    numbers: &[u32],
     buf: &mut [u32],
     end: usize,
 ) -> usize
-    requires { ⌜ Ready (now a) (now aruns) × Ready (now b) (now bruns) × (i < length (now queue)) × (i < 257) × (pairOf (getD (now queue) i 0) .left < stateCount (now a)) × (pairOf (getD (now queue) i 0) .right < stateCount (now b)) × (length (now numbers) ≡ 65536) × Open (now buf) end ⌝ }
-    ensures { λ r. ⌜ Gathered (now (buf .exit)) r (recordsIn (now (buf .entry)) 0 end ++ map (transitionOf (numberAt (now (numbers .entry))) i) (jointsFrom (read (now (a .entry))) (read (now (b .entry))) (pairOf (getD (now (queue .entry)) i 0)))) ⌝ }
+    requires { ⌜ Ready (now a) (now aruns) × Ready (now b) (now bruns) × Queued (now queue) (now t) n × (n ≤ 256) × (i < n) × (pairOf (getD (now queue) i 0) .left < stateCount (now a)) × (pairOf (getD (now queue) i 0) .right < stateCount (now b)) × Open (now buf) end ⌝ }
+    ensures { λ r. ⌜ Gathered (now (buf .exit)) r (recordsIn (now (buf .entry)) 0 end ++ map (transitionOf (placeIn (tableOf (now (queue .entry)) n)) i) (jointsFrom (read (now (a .entry))) (read (now (b .entry))) (pairOf (getD (now (queue .entry)) i 0)))) ⌝ }
 {
     let c = queue[i];
     add_runs(
         sheets::run(a, aruns, c / 256),
         sheets::run(b, bruns, c % 256),
         i as u32,
-        numbers,
+        queue,
+        t,
+        n,
         buf,
         end,
     )
@@ -115,17 +137,17 @@ fn add_pairs(
     b: &[u32],
     bruns: &[u32],
     queue: &[u32],
+    t: &[usize],
     n: usize,
-    numbers: &[u32],
     buf: &mut [u32],
 ) -> usize
-    requires { ⌜ Ready (now a) (now aruns) × Ready (now b) (now bruns) × (n ≤ length (now queue)) × (n ≤ 257) × Within (stateCount (now a)) (stateCount (now b)) (tableOf (now queue) n) × (length (now numbers) ≡ 65536) × (length (now buf) ≡ 20480) ⌝ }
-    ensures { λ r. ⌜ Gathered (now (buf .exit)) r (transitionsFrom (numberAt (now (numbers .entry))) (read (now (a .entry))) (read (now (b .entry))) 0 (tableOf (now (queue .entry)) n)) ⌝ }
+    requires { ⌜ Ready (now a) (now aruns) × Ready (now b) (now bruns) × Queued (now queue) (now t) n × (n ≤ 256) × Within (stateCount (now a)) (stateCount (now b)) (tableOf (now queue) n) × (length (now buf) ≡ 20480) ⌝ }
+    ensures { λ r. ⌜ Gathered (now (buf .exit)) r (transitionsFrom (placeIn (tableOf (now (queue .entry)) n)) (read (now (a .entry))) (read (now (b .entry))) 0 (tableOf (now (queue .entry)) n)) ⌝ }
 {
     let mut end: usize = 0;
     let mut i: usize = 0;
     while i < n {
-        end = add_pair(a, aruns, b, bruns, queue, i, numbers, buf, end);
+        end = add_pair(a, aruns, b, bruns, queue, t, n, i, buf, end);
         if 20480 <= end {
             return end;
         }
@@ -141,13 +163,13 @@ pub fn collect_pairs(
     b: &[u32],
     bruns: &[u32],
     queue: &[u32],
+    t: &[usize],
     n: usize,
-    numbers: &[u32],
     buf: &mut [u32],
 ) -> usize
-    requires { ⌜ Ready (now a) (now aruns) × Ready (now b) (now bruns) × (n ≤ length (now queue)) × (n ≤ 257) × Within (stateCount (now a)) (stateCount (now b)) (tableOf (now queue) n) × (length (now numbers) ≡ 65536) × (length (now buf) ≡ 20480) ⌝ }
-    ensures { λ r. ⌜ Collected (now (buf .exit)) r (transitionsFrom (numberAt (now (numbers .entry))) (read (now (a .entry))) (read (now (b .entry))) 0 (tableOf (now (queue .entry)) n)) ⌝ }
+    requires { ⌜ Ready (now a) (now aruns) × Ready (now b) (now bruns) × Queued (now queue) (now t) n × (n ≤ 256) × Within (stateCount (now a)) (stateCount (now b)) (tableOf (now queue) n) × (length (now buf) ≡ 20480) ⌝ }
+    ensures { λ r. ⌜ Collected (now (buf .exit)) r (transitionsFrom (placeIn (tableOf (now (queue .entry)) n)) (read (now (a .entry))) (read (now (b .entry))) 0 (tableOf (now (queue .entry)) n)) ⌝ }
 {
-    let end = add_pairs(a, aruns, b, bruns, queue, n, numbers, buf);
+    let end = add_pairs(a, aruns, b, bruns, queue, t, n, buf);
     output::collect_records(buf, end)
 }

@@ -1,4 +1,4 @@
-// Finding the pairs of states that ranges reach: a queue in which a pair is one word, and a table of the number of each pair.
+// Finding the pairs of states that ranges reach: a queue in which a pair is one word, and buckets by which a pair is found in it.
 ghost use mathlib.Core.List.{[], _∷_};
 ghost use mathlib.Core.Path.{_≡_};
 ghost use Prim.Native.Nat.{_<_};
@@ -12,27 +12,30 @@ ghost use Rattle.product.specs.Tables.{pairOf, tableOf, Queued, Met, tar
 use ranges::Common;
 
 // The pair of p and q gets the next number, if it has none and there is room. The number of pairs afterwards.
-fn meet_pair(queue: &mut [u32], numbers: &mut [u32], n: usize, p: u32, q: u32) -> usize
-    requires { ⌜ Queued (now queue) (now numbers) n × (p < 256) × (q < 256) ⌝ }
-    ensures { λ r. ⌜ Met (tableOf (now (queue .entry)) n) (record { left = p; right = q } ∷ []) (now (queue .exit)) (now (numbers .exit)) r ⌝ }
+fn meet_pair(queue: &mut [u32], t: &mut [usize], n: usize, p: u32, q: u32) -> usize
+    requires { ⌜ Queued (now queue) (now t) n × (p < 256) × (q < 256) ⌝ }
+    ensures { λ r. ⌜ Met (tableOf (now (queue .entry)) n) (record { left = p; right = q } ∷ []) (now (queue .exit)) (now (t .exit)) r ⌝ }
 {
     if 256 < n {
         return n;
     }
     let code = p * 256 + q;
-    let at = code as usize;
-    if numbers[at] != 257 {
+    if crate::numbers::find_pair(queue, t, n, code) < n {
         return n;
     }
     queue[n] = code;
-    numbers[at] = n as u32;
+    if 256 <= n {
+        return n + 1;
+    }
+    let h = crate::numbers::bucket_of(code);
+    buckets::enter(t, n, h);
     n + 1
 }
 
 // The pair to which the records d and e lead is met, if they are ranges that meet.
-fn meet_record(d: &[u32], e: &[u32], queue: &mut [u32], numbers: &mut [u32], n: usize) -> usize
-    requires { ⌜ Queued (now queue) (now numbers) n × (length (now d) ≡ 5) × (length (now e) ≡ 5) × Narrow (recordAt (now d) 0 ∷ []) × Narrow (recordAt (now e) 0 ∷ []) ⌝ }
-    ensures { λ r. ⌜ Met (tableOf (now (queue .entry)) n) (targets (recordAt (now (d .entry)) 0 ∷ []) (recordAt (now (e .entry)) 0 ∷ [])) (now (queue .exit)) (now (numbers .exit)) r ⌝ }
+fn meet_record(d: &[u32], e: &[u32], queue: &mut [u32], t: &mut [usize], n: usize) -> usize
+    requires { ⌜ Queued (now queue) (now t) n × (length (now d) ≡ 5) × (length (now e) ≡ 5) × Narrow (recordAt (now d) 0 ∷ []) × Narrow (recordAt (now e) 0 ∷ []) ⌝ }
+    ensures { λ r. ⌜ Met (tableOf (now (queue .entry)) n) (targets (recordAt (now (d .entry)) 0 ∷ []) (recordAt (now (e .entry)) 0 ∷ [])) (now (queue .exit)) (now (t .exit)) r ⌝ }
 {
     if d[1] != 1 {
         return n;
@@ -41,35 +44,29 @@ fn meet_record(d: &[u32], e: &[u32], queue: &mut [u32], numbers: &mut [u32], n: 
         return n;
     }
     match ranges::intersect_ranges(d[2], d[3], e[2], e[3]) {
-        Common::Range(_, _) => meet_pair(queue, numbers, n, d[4], e[4]),
+        Common::Range(_, _) => meet_pair(queue, t, n, d[4], e[4]),
         Common::Nothing => n,
     }
 }
 
 // The pairs to which the record d and those of the run lead are met.
-fn meet_run(d: &[u32], run: &[u32], queue: &mut [u32], numbers: &mut [u32], n: usize) -> usize
-    requires { ⌜ Queued (now queue) (now numbers) n × (length (now d) ≡ 5) × Narrow (recordAt (now d) 0 ∷ []) × Narrow (readRecords (now run)) ⌝ }
-    ensures { λ r. ⌜ Met (tableOf (now (queue .entry)) n) (targets (recordAt (now (d .entry)) 0 ∷ []) (readRecords (now (run .entry)))) (now (queue .exit)) (now (numbers .exit)) r ⌝ }
+fn meet_run(d: &[u32], run: &[u32], queue: &mut [u32], t: &mut [usize], n: usize) -> usize
+    requires { ⌜ Queued (now queue) (now t) n × (length (now d) ≡ 5) × Narrow (recordAt (now d) 0 ∷ []) × Narrow (readRecords (now run)) ⌝ }
+    ensures { λ r. ⌜ Met (tableOf (now (queue .entry)) n) (targets (recordAt (now (d .entry)) 0 ∷ []) (readRecords (now (run .entry)))) (now (queue .exit)) (now (t .exit)) r ⌝ }
 {
     let mut m = n;
     let mut at: usize = 0;
     while 5 <= run.len() - at {
-        m = meet_record(d, &run[at..at + 5], queue, numbers, m);
+        m = meet_record(d, &run[at..at + 5], queue, t, m);
         at += 5;
     }
     m
 }
 
 // The pairs to which the records of two runs lead are met, the first's outermost.
-fn meet_runs(
-    first: &[u32],
-    second: &[u32],
-    queue: &mut [u32],
-    numbers: &mut [u32],
-    n: usize,
-) -> usize
-    requires { ⌜ Queued (now queue) (now numbers) n × Narrow (readRecords (now first)) × Narrow (readRecords (now second)) ⌝ }
-    ensures { λ r. ⌜ Met (tableOf (now (queue .entry)) n) (targets (readRecords (now (first .entry))) (readRecords (now (second .entry)))) (now (queue .exit)) (now (numbers .exit)) r ⌝ }
+fn meet_runs(first: &[u32], second: &[u32], queue: &mut [u32], t: &mut [usize], n: usize) -> usize
+    requires { ⌜ Queued (now queue) (now t) n × Narrow (readRecords (now first)) × Narrow (readRecords (now second)) ⌝ }
+    ensures { λ r. ⌜ Met (tableOf (now (queue .entry)) n) (targets (readRecords (now (first .entry))) (readRecords (now (second .entry)))) (now (queue .exit)) (now (t .exit)) r ⌝ }
 {
     let mut m = n;
     let mut at: usize = 0;
@@ -77,7 +74,7 @@ fn meet_runs(
         if 256 < m {
             return m;
         }
-        m = meet_run(&first[at..at + 5], second, queue, numbers, m);
+        m = meet_run(&first[at..at + 5], second, queue, t, m);
         at += 5;
     }
     m
@@ -90,19 +87,19 @@ fn visit_pair(
     b: &[u32],
     bruns: &[u32],
     queue: &mut [u32],
-    numbers: &mut [u32],
+    t: &mut [usize],
     n: usize,
     i: usize,
 ) -> usize
-    requires { ⌜ Ready (now a) (now aruns) × Ready (now b) (now bruns) × Queued (now queue) (now numbers) n × (i < n) × Within (stateCount (now a)) (stateCount (now b)) (tableOf (now queue) n) ⌝ }
-    ensures { λ r. ⌜ Met (tableOf (now (queue .entry)) n) (pairs (read (now (a .entry))) (read (now (b .entry))) .next (pairOf (getD (now (queue .entry)) i 0))) (now (queue .exit)) (now (numbers .exit)) r ⌝ }
+    requires { ⌜ Ready (now a) (now aruns) × Ready (now b) (now bruns) × Queued (now queue) (now t) n × (i < n) × Within (stateCount (now a)) (stateCount (now b)) (tableOf (now queue) n) ⌝ }
+    ensures { λ r. ⌜ Met (tableOf (now (queue .entry)) n) (pairs (read (now (a .entry))) (read (now (b .entry))) .next (pairOf (getD (now (queue .entry)) i 0))) (now (queue .exit)) (now (t .exit)) r ⌝ }
 {
     let c = queue[i];
     meet_runs(
         sheets::run(a, aruns, c / 256),
         sheets::run(b, bruns, c % 256),
         queue,
-        numbers,
+        t,
         n,
     )
 }
@@ -114,18 +111,18 @@ pub fn find_pairs(
     b: &[u32],
     bruns: &[u32],
     queue: &mut [u32],
-    numbers: &mut [u32],
+    t: &mut [usize],
 ) -> usize
-    requires { ⌜ Ready (now a) (now aruns) × Ready (now b) (now bruns) × Queued (now queue) (now numbers) 0 ⌝ }
-    ensures { λ r. ⌜ Queued (now (queue .exit)) (now (numbers .exit)) r × Within (stateCount (now (a .entry))) (stateCount (now (b .entry))) (tableOf (now (queue .exit)) r) × (foundIn (now (queue .exit)) r ≡ table (pairs (read (now (a .entry))) (read (now (b .entry)))) mostStates) ⌝ }
+    requires { ⌜ Ready (now a) (now aruns) × Ready (now b) (now bruns) × Queued (now queue) (now t) 0 ⌝ }
+    ensures { λ r. ⌜ Queued (now (queue .exit)) (now (t .exit)) r × Within (stateCount (now (a .entry))) (stateCount (now (b .entry))) (tableOf (now (queue .exit)) r) × (foundIn (now (queue .exit)) r ≡ table (pairs (read (now (a .entry))) (read (now (b .entry)))) mostStates) ⌝ }
 {
-    let mut n = meet_pair(queue, numbers, 0, a[1], b[1]);
+    let mut n = meet_pair(queue, t, 0, a[1], b[1]);
     let mut i: usize = 0;
     while i < n {
         if 256 < n {
             return n;
         }
-        n = visit_pair(a, aruns, b, bruns, queue, numbers, n, i);
+        n = visit_pair(a, aruns, b, bruns, queue, t, n, i);
         i += 1;
     }
     n

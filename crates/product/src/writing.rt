@@ -99,16 +99,16 @@ pub fn write_product(
     b: &[u32],
     bruns: &[u32],
     queue: &[u32],
+    t: &[usize],
     n: usize,
-    numbers: &[u32],
     out: &mut [u32],
     names: &mut [u8],
 ) -> Made
-    requires { ⌜ Ready (now a) (now aruns) × Ready (now b) (now bruns) × Queued (now queue) (now numbers) n × (n ≤ 256) × Within (stateCount (now a)) (stateCount (now b)) (tableOf (now queue) n) × Whole (read (now a)) (read (now b)) (tableOf (now queue) n) × (10500 ≤ length (now out)) × (16642 ≤ length (now names)) ⌝ }
+    requires { ⌜ Ready (now a) (now aruns) × Ready (now b) (now bruns) × Queued (now queue) (now t) n × (n ≤ 256) × Within (stateCount (now a)) (stateCount (now b)) (tableOf (now queue) n) × Whole (read (now a)) (read (now b)) (tableOf (now queue) n) × (10500 ≤ length (now out)) × (16642 ≤ length (now names)) ⌝ }
     ensures { λ r. ⌜ outputOf r (now (out .exit)) (now (names .exit)) ≡ outputs (now (out .entry)) (now (names .entry)) (product (read (now (a .entry))) (read (now (b .entry)))) ⌝ }
 {
     let mut buf = [0u32; 20480];
-    let behind = crate::collecting::collect_pairs(a, aruns, b, bruns, queue, n, numbers, &mut buf);
+    let behind = crate::collecting::collect_pairs(a, aruns, b, bruns, queue, t, n, &mut buf);
     if 10240 < behind {
         return Made::Refused(Refusal::State(StateRefusal::Transitions));
     }

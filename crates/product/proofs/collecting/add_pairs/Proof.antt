@@ -1,21 +1,21 @@
 -- `add_pairs` meets its contract: the pairs from `i` on are left.
 use Prim.Native.Nat.{_-_, _≤_}
-use native.Mathlib.Omega.{arith}
 use lib.ListN.{drop}
 use Rattle.sheets.specs.Sheet.{read}
 use Rattle.output.specs.Gathering.{Rest}
-use Rattle.product.specs.Product.{transitionsFrom}
-use Rattle.product.specs.Tables.{tableOf, numberAt}
+use Rattle.product.specs.Product.{transitionsFrom, placeIn}
+use Rattle.product.specs.Tables.{tableOf}
 use Rattle.product.proofs.Adding.{pairsLaws, pairs-over, pairs-next}
 use Rattle.product.proofs.Blocking.{within-left, within-right}
+use Rattle.product.proofs.Queueing.{queued-room}
 use Rattle.product.proofs.collecting.add_pairs.Statement.{statement}
 use Rattle.product.proofs.collecting.add_pairs.Tie as tie
 
 abbrev Inv-loop : tie.InvT-loop
-Inv-loop a aruns b bruns queue n numbers buf₀ end₀ i₀ buf end i = (i ≤ n) × Rest buf end (transitionsFrom (numberAt numbers) (read a) (read b) i (drop i (tableOf queue n))) (transitionsFrom (numberAt numbers) (read a) (read b) 0 (tableOf queue n))
+Inv-loop a aruns b bruns queue t n buf₀ end₀ i₀ buf end i = (i ≤ n) × Rest buf end (transitionsFrom (placeIn (tableOf queue n)) (read a) (read b) i (drop i (tableOf queue n))) (transitionsFrom (placeIn (tableOf queue n)) (read a) (read b) 0 (tableOf queue n))
 
 abbrev μ-loop : tie.MeasureT-loop
-μ-loop a aruns b bruns queue n numbers buf₀ end₀ i₀ buf end i = n - i
+μ-loop a aruns b bruns queue t n buf₀ end₀ i₀ buf end i = n - i
 
 pub add-pairs-spec : {M : Type 1} → statement M
 add-pairs-spec =
@@ -27,24 +27,22 @@ add-pairs-spec =
     let t = c .before .loop-test .taken in (
       s .0,
       s .1,
-      omega arith,
-      omega arith,
-      within-left (g .a .now) (g .b .now) _ _ _ (s .4) (s .2) t,
-      within-right (g .a .now) (g .b .now) _ _ _ (s .4) (s .2) t,
-      s .5,
+      s .2,
+      s .3,
+      t,
+      within-left (g .a .now) (g .b .now) _ _ _ (s .4) (queued-room _ _ _ (s .2)) t,
+      within-right (g .a .now) (g .b .now) _ _ _ (s .4) (queued-room _ _ _ (s .2)) t,
       c .before .before .loop .inv .1 .room,
     ))
     (λ c. search pairsLaws)
     (λ c. let l = c .before .before .before .before .before .before .loop in
-    pairs-over _ _ _ _ (c .before .before .before .before .before .before .before .before .before .before .before .before .before .before .args .numbers .now)
-    (c .before .before .before .before .before .before .before .before .before .before .before .before .before .before .args .queue .now) _ _ _ (l .inv .1)
+    pairs-over _ _ _ _ (c .before .before .before .before .before .before .before .before .before .before .before .before .before .before .args .queue .now) _ _ _ _ (l .inv .1)
     (c .before .before .before .before .before .before .before .before .before .before .before .before .before .before .pre .2)
     (c .before .before .before .before .before .loop-test .taken) _ _ (c .before .before .before .add-pair .ensures) (c .if1 .taken))
     (λ c. search pairsLaws) (λ c. search pairsLaws)
     (λ c. let l = c .before .before .before .before .before .before .loop in (
       search pairsLaws,
-      pairs-next _ _ _ _ (c .before .before .before .before .before .before .before .before .before .before .before .before .before .before .args .numbers .now)
-          (c .before .before .before .before .before .before .before .before .before .before .before .before .before .before .args .queue .now) _ _ _ (l .inv .1)
+      pairs-next _ _ _ _ (c .before .before .before .before .before .before .before .before .before .before .before .before .before .before .args .queue .now) _ _ _ _ (l .inv .1)
           (c .before .before .before .before .before .before .before .before .before .before .before .before .before .before .pre .2)
           (c .before .before .before .before .before .loop-test .taken) _ _ (c .before .before .before .add-pair .ensures) (c .if1 .left),
     ))

@@ -12,10 +12,10 @@ use Rattle.product.proofs.exploring.find_pairs.Statement.{statement}
 use Rattle.product.proofs.exploring.find_pairs.Tie as tie
 
 abbrev Inv-loop : tie.InvT-loop
-Inv-loop a aruns b bruns queue₀ numbers₀ n₀ i₀ queue numbers n i = (i ≤ 256) × Queued queue numbers n × Within (stateCount a) (stateCount b) (tableOf queue n) × (Search.queue (pairs (read a) (read b)) mostStates i (tableOf queue n) ≡ table (pairs (read a) (read b)) mostStates)
+Inv-loop a aruns b bruns queue₀ t₀ n₀ i₀ queue t n i = (i ≤ 256) × Queued queue t n × Within (stateCount a) (stateCount b) (tableOf queue n) × (Search.queue (pairs (read a) (read b)) mostStates i (tableOf queue n) ≡ table (pairs (read a) (read b)) mostStates)
 
 abbrev μ-loop : tie.MeasureT-loop
-μ-loop a aruns b bruns queue₀ numbers₀ n₀ i₀ queue numbers n i = 257 - i
+μ-loop a aruns b bruns queue₀ t₀ n₀ i₀ queue t n i = 257 - i
 
 pub find-pairs-spec : {M : Type 1} → statement M
 find-pairs-spec =

@@ -11,10 +11,10 @@ use Rattle.product.proofs.exploring.meet_run.Statement.{statement}
 use Rattle.product.proofs.exploring.meet_run.Tie as tie
 
 abbrev Inv-loop : tie.InvT-loop
-Inv-loop d run queue₀ numbers₀ n m₀ at₀ queue numbers m at = (at ≤ length run) × Queued queue numbers m × Narrow (readRecords (drop at run)) × (metWith queue m (targets (recordAt d 0 ∷ []) (readRecords (drop at run))) ≡ metWith queue₀ n (targets (recordAt d 0 ∷ []) (readRecords run)))
+Inv-loop d run queue₀ t₀ n m₀ at₀ queue t m at = (at ≤ length run) × Queued queue t m × Narrow (readRecords (drop at run)) × (metWith queue m (targets (recordAt d 0 ∷ []) (readRecords (drop at run))) ≡ metWith queue₀ n (targets (recordAt d 0 ∷ []) (readRecords run)))
 
 abbrev μ-loop : tie.MeasureT-loop
-μ-loop d run queue₀ numbers₀ n m₀ at₀ queue numbers m at = length run - at
+μ-loop d run queue₀ t₀ n m₀ at₀ queue t m at = length run - at
 
 pub meet-run-spec : {M : Type 1} → statement M
 meet-run-spec =

@@ -10,10 +10,10 @@ use Rattle.product.proofs.exploring.meet_runs.Statement.{statement}
 use Rattle.product.proofs.exploring.meet_runs.Tie as tie
 
 abbrev Inv-loop : tie.InvT-loop
-Inv-loop first second queue₀ numbers₀ n m₀ at₀ queue numbers m at = (at ≤ length first) × Queued queue numbers m × Narrow (readRecords (drop at first)) × (metWith queue m (targets (readRecords (drop at first)) (readRecords second)) ≡ metWith queue₀ n (targets (readRecords first) (readRecords second)))
+Inv-loop first second queue₀ t₀ n m₀ at₀ queue t m at = (at ≤ length first) × Queued queue t m × Narrow (readRecords (drop at first)) × (metWith queue m (targets (readRecords (drop at first)) (readRecords second)) ≡ metWith queue₀ n (targets (readRecords first) (readRecords second)))
 
 abbrev μ-loop : tie.MeasureT-loop
-μ-loop first second queue₀ numbers₀ n m₀ at₀ queue numbers m at = length first - at
+μ-loop first second queue₀ t₀ n m₀ at₀ queue t m at = length first - at
 
 pub meet-runs-spec : {M : Type 1} → statement M
 meet-runs-spec =
