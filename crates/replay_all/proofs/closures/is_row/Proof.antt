@@ -23,8 +23,20 @@ pub is-row-spec : {M : Type 1} → statement M
 is-row-spec =
     tie.close
     (tie.spec Inv-loop μ-loop (λ c. (search needs, search needs, search row-begun)) (λ c κs. search needs)
-    (λ c. row-short _ _ _ _ _ (c .before .before .before .before .loop .inv .2) _ (c .before .before .has .ensures) (c .before .if1 .taken) (c .if2 .taken)) (λ c. omega arith) (λ c. omega arith)
+    (λ c. row-short _ _ _ _ _ (c .before .before .before .before .loop .inv .2) _ (c .before .before .has .ensures) (c .before .if1 .taken)
+    (c .if2 .taken)) (λ c. omega arith) (λ c. omega arith)
     (λ c κs. search needs) (λ c. search row-other) (λ c. search needs) (λ c. search needs) (λ c. search needs)
-    (λ c. (search needs, search needs, row-next _ _ _ _ _ (c .before .before .before .before .before .before .before .loop .inv .2) _ (c .before .before .before .before .before .has .ensures) (c .before .before .before .before .if1 .taken) (c .before .before .before .if2 .left) _ (c .before .wide .ensures) (c .if3 .left))) (λ c. search needs)
+    (λ c. (
+      search needs,
+      search needs,
+      row-next _ _ _ _ _ (c .before .before .before .before .before .before .before .loop .inv .2) _
+          (c .before .before .before .before .before .has .ensures) (c .before .before .before .before .if1 .taken) (c .before .before .before .if2 .left) _
+          (c .before .wide .ensures) (c .if3 .left),
+    )) (λ c. search needs)
     (λ c. search needs)
-    (λ c. (search needs, search needs, row-skip _ _ _ (c .before .before .before .loop .i) _ (c .before .before .before .loop .inv .2) _ (c .before .has .ensures) (c .if1 .left))) (λ c. search row-ended))
+    (λ c. (
+      search needs,
+      search needs,
+      row-skip _ _ _ (c .before .before .before .loop .i) _ (c .before .before .before .loop .inv .2) _
+          (c .before .has .ensures) (c .if1 .left),
+    )) (λ c. search row-ended))

@@ -28,6 +28,8 @@ put-ranges-spec =
       search needs,
       search needs,
       search needs,
-      ranges-next _ _ _ _ _ (c .before .before .before .before .before .before .loop-test .taken) _ _ (c .before .before .put-record .ensures) _ _ (c .before .before .before .before .before .before .before .loop .inv .4),
-      ranges-count _ _ _ _ _ (c .before .before .before .before .before .before .loop-test .taken) _ _ (c .before .before .put-record .ensures) _ (c .before .before .before .before .before .before .before .loop .inv .5),
+      ranges-next _ _ _ _ _ (c .before .before .before .before .before .before .loop-test .taken) _ _ (c .before .before .put-record .ensures) _ _
+          (c .before .before .before .before .before .before .before .loop .inv .4),
+      ranges-count _ _ _ _ _ (c .before .before .before .before .before .before .loop-test .taken) _ _ (c .before .before .put-record .ensures) _
+          (c .before .before .before .before .before .before .before .loop .inv .5),
     )) (λ c. search needs) (λ c. search ranges-ended))
