@@ -1,17 +1,17 @@
 -- Laws of the parts of a case, as the functions that take it apart ask them.
-use Prim.Native.Nat.{ℕ, _+_, _-_, _≤_, _<_}
+use Prim.Native.Nat.{ℕ, suc, _+_, _-_, _≤_, _<_}
 use mathlib.Core.Bool.{true, false, false≢true}
 use mathlib.Core.List.{List, [], _∷_, _++_}
 use mathlib.Core.Path.{_≡_, sym, _∙_, ap, ap₂}
 use native.Mathlib.Omega.{arith}
 use borrow.Author.Needs.{needs}
 use borrow.Author.Tests.{le-leb, lt-leb, lt-ltb, le-ltb}
-use lib.ListN.{length, getD, take, drop, set}
-use lib.Seq.{take-all, length-take-le}
+use lib.ListN.{length, getD, take, drop, set, length-take, drop-of-length-le}
+use lib.Seq.{take-all, length-take-le, getD-take}
 use Rattle.lists.specs.Written.{Written}
-use Rattle.lists.proofs.Parts.{take-more}
+use Rattle.lists.proofs.Parts.{take-more, drop-at}
 use Rattle.lists.proofs.Written.{written-none, written-more}
-use Rattle.replay.specs.Cases.{listAt}
+use Rattle.replay.specs.Cases.{listAt, bytesBefore}
 
 -- a place outside, a list that is too long, and a list
 module _ (s : List ℕ) (at : ℕ) where
@@ -62,4 +62,33 @@ bytes-next out m s i h w = rw (take-more s i h) (written-more out m (take i s) 0
 pub bytes-count : (out m : List ℕ) (i : ℕ) → i ≤ length out → length m ≡ length out → i ≡ length (take i m)
 bytes-count out m i h e = sym (length-take-le i m (omega arith))
 
-pub ruleset byteLaws = (bytes-none, bytes-next, bytes-count, needs)
+-- the elements before the first that is no byte, of which i are passed
+pub before-none : (t : List ℕ) → 0 + bytesBefore (drop 0 t) ≡ bytesBefore t
+before-none t = omega arith
+
+module _ (s : List ℕ) (n i : ℕ) (e : i + bytesBefore (drop i (take n s)) ≡ bytesBefore (take n s)) where
+  before-end : length (take n s) ≤ i → i ≡ bytesBefore (take n s)
+  unfolding bytesBefore
+  before-end h = let z : bytesBefore (drop i (take n s)) ≡ 0 = ap bytesBefore (drop-of-length-le (take n s) h) in omega arith
+
+  pub before-ended : length s ≤ i → i ≡ bytesBefore (take n s)
+  before-ended h = before-end (simp length-take (omega arith))
+
+  pub before-full : (m : List ℕ) → length m ≡ n → length m ≤ i → i ≡ bytesBefore (take n s)
+  before-full m l h = before-end (simp length-take (omega arith))
+
+  module _ (m : List ℕ) (l : length m ≡ n) (h : i < length s) (g : i < length m) where
+    here : drop i (take n s) ≡ getD s i 0 ∷ drop (i + 1) (take n s)
+    here = drop-at (take n s) i (simp length-take (omega arith)) ∙ ap (λ (x : ℕ). x ∷ drop (i + 1) (take n s)) (getD-take n s i 0 (omega arith))
+
+    pub before-stopped : 255 < getD s i 0 → i ≡ bytesBefore (take n s)
+    unfolding bytesBefore
+    before-stopped p = let z : bytesBefore (drop i (take n s)) ≡ 0 = ap bytesBefore here ∙ rw (lt-ltb 255 (getD s i 0) p) in omega arith
+
+    pub before-next : getD s i 0 ≤ 255 → i + 1 + bytesBefore (drop (i + 1) (take n s)) ≡ bytesBefore (take n s)
+    unfolding bytesBefore
+    before-next p =
+        let z : bytesBefore (drop i (take n s)) ≡ suc (bytesBefore (drop (i + 1) (take n s))) = ap bytesBefore here ∙ rw (le-ltb 255 (getD s i 0) p) in
+        omega arith
+
+pub ruleset byteLaws = (bytes-none, bytes-next, bytes-count, before-none, before-ended, before-full, before-stopped, before-next, needs)

@@ -188,5 +188,3 @@ module _ (r : Numbers) (at n to : ℕ) (out m : List ℕ) (l : Line) (e : r ≡ 
 
   pub case-counted : n ≡ length (take n m)
   case-counted = sym (length-take-le n m case-within)
-
-pub ruleset caseLaws = (case-within, case-counted, needs)

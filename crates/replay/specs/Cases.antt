@@ -1,7 +1,7 @@
 -- The parts of a case: a list is its length and then its elements.
-use Prim.Native.Nat.{ℕ, _+_, _-_}
+use Prim.Native.Nat.{ℕ, suc, _+_, _-_}
 use mathlib.Core.Bool.{Bool, false, cond}
-use mathlib.Core.List.{List, []}
+use mathlib.Core.List.{List, [], _∷_}
 use lib.Dec.{eqb, leb, ltb}
 use lib.ListN.{length, getD, take, drop}
 
@@ -15,3 +15,8 @@ listAt s at =
 -- x stands at the place, and nothing behind it
 unfoldable pub isLast : List ℕ → ℕ → ℕ → Bool
 isLast s at x = cond (leb (length s) at) false (cond (ltb (at + 1) (length s)) false (eqb (getD s at 0) x))
+
+-- how many elements stand before the first that is no byte
+unfoldable pub bytesBefore : List ℕ → ℕ
+bytesBefore [] = 0
+bytesBefore (x ∷ s) = cond (ltb 255 x) 0 (suc (bytesBefore s))

@@ -9,7 +9,8 @@ ghost use lib.Seq.{sets};
 ghost use Rattle.io.specs.Counts.{Counts};
 ghost use Rattle.lists.specs.Written.{Written};
 ghost use Rattle.replay.specs.Lines.{withDigit, ended, told, answer, lineAt};
-ghost use Rattle.replay.specs.Cases.{listAt, isLast};
+ghost use Rattle.replay.specs.Cases.{listAt, isLast, bytesBefore};
+ghost use Rattle.replay.specs.Counting.{caseAt, fresh, begun, Bounded, tallied};
 
 // A 32-bit word as a size or an index.
 pub fn wide(x: u32) -> usize
@@ -118,7 +119,9 @@ pub struct Case {
 
 // Stores the numbers of the case at the place at.
 pub fn read_case(text: &[u8], at: usize, out: &mut [u32]) -> Case
-    ensures { λ r. ⌜ Counts (r .count) (now (out .exit)) ⌝ }
+    ensures within { λ r. ⌜ Counts (r .count) (now (out .exit)) ⌝ }
+    ensures case { λ r. ⌜ r ≡ caseAt (length (now (out .entry))) (now (text .entry)) at ⌝ }
+    ensures stored { λ r. ⌜ now (out .exit) ≡ sets (now (out .entry)) 0 (lineAt (now (text .entry)) at .numbers) ⌝ }
 {
     match read_line(text, at, out) {
         Numbers::Stored(count, to) => Case { count, to },
@@ -176,6 +179,7 @@ pub fn same(a: &[u32], b: &[u32]) -> bool
 pub fn bytes(list: &[u32], out: &mut [u8]) -> usize
     ensures within { λ r. ⌜ Counts r (now (out .exit)) ⌝ }
     ensures stored { λ r. ⌜ Written (now (out .entry)) 0 (take r (now (list .entry))) (now (out .exit)) r ⌝ }
+    ensures count { λ r. ⌜ r ≡ bytesBefore (take (length (now (out .entry))) (now (list .entry))) ⌝ }
 {
     let mut i = 0;
     while i < list.len() {
@@ -201,35 +205,44 @@ pub struct Tally {
 }
 
 impl Tally {
-    // The cases that the first line of a list announces.
-    pub fn begin(text: &[u8]) -> Tally {
-        let mut cases = [0u32; 1];
-        let first = read_case(text, 0, &mut cases);
+    // No case is counted yet.
+    fn fresh(left: u32, at: usize) -> Tally
+        ensures bounded { λ r. ⌜ Bounded r ⌝ }
+        ensures fresh { λ r. ⌜ r ≡ fresh left at ⌝ }
+    {
         Tally {
-            left: cases[0],
-            at: first.to,
+            left,
+            at,
             agreed: 0,
             differed: 0,
         }
     }
 
+    // The cases that the first line of a list announces.
+    pub fn begin(text: &[u8]) -> Tally
+        ensures bounded { λ r. ⌜ Bounded r ⌝ }
+        ensures begun { λ r. ⌜ r ≡ begun (now (text .entry)) ⌝ }
+    {
+        let mut cases = [0u32; 1];
+        let first = read_case(text, 0, &mut cases);
+        Tally::fresh(cases[0], first.to)
+    }
+
     // One case more, before the place to; the number of one that differs is printed.
     pub fn counted(mut self, to: usize, agrees: bool) -> Tally
-        requires { ⌜ 0 < self .left ⌝ }
-        ensures { λ r. ⌜ r .left + 1 ≡ self .left ⌝ }
+        requires { ⌜ (0 < self .left) × Bounded self ⌝ }
+        ensures bounded { λ r. ⌜ Bounded r ⌝ }
+        ensures counted { λ r. ⌜ r ≡ tallied self to agrees ⌝ }
     {
         self.left -= 1;
         self.at = to;
         if agrees {
-            self.agreed = std::num::wrapping_add_u64(self.agreed, 1);
+            self.agreed += 1;
             return self;
         }
-        self.differed = std::num::wrapping_add_u64(self.differed, 1);
+        self.differed += 1;
         io::write_all(STDOUT_FILENO, b"case ");
-        io::print_decimal(
-            STDOUT_FILENO,
-            std::num::wrapping_add_u64(self.agreed, self.differed),
-        );
+        io::print_decimal(STDOUT_FILENO, self.agreed + self.differed);
         io::write_all(STDOUT_FILENO, b" differs\n");
         self
     }

@@ -1,2 +1,10 @@
 -- The laws that the test program cites.
 mod Sheets
+mod Decisions
+mod Bytes
+mod Outcomes
+mod Calls
+mod Judging
+mod Spans
+mod Rows
+mod Cases

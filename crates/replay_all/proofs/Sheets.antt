@@ -1,21 +1,23 @@
 -- What the program knows of a sheet that was checked: the records of state 0 are a run, and its ranges are sorted.
-use Prim.Native.Nat.{ℕ}
+use Prim.Native.Nat.{ℕ, _≤_}
 use mathlib.Core.List.{List}
 use mathlib.Core.Path.{_≡_, sym, _∙_, ap, subst}
 use native.Mathlib.Omega.{arith}
 use borrow.Author.Needs.{needs}
+use lib.Dec.{eqb}
 use lib.ListN.{length}
 use lib.Seq.{sets}
 use Rattle.automata.specs.Automaton.{Transition, leaving, rangesOf}
 use Rattle.automata.specs.Records.{readRecords, writeRecords}
-use Rattle.automata.proofs.Records.{read-write}
+use Rattle.automata.proofs.Records.{read-write, length-write}
+use Rattle.lists.proofs.Lists.{length-keep}
 use Rattle.ranges.specs.Missing.{Sorted}
 use Rattle.ranges.proofs.Sorting.{leaving-sorted}
 use Rattle.sheets.specs.Accepted.{Accepted}
 use Rattle.sheets.specs.Runs.{startsOf, RunAt}
 use Rattle.sheets.specs.Sheet.{read}
 use Rattle.sheets.proofs.Accepted.{check-accepted}
-use Rattle.sheets.proofs.Meaning.{read-well}
+use Rattle.sheets.proofs.Meaning.{read-well, read-fits}
 use Rattle.sheets.proofs.Runs.{starts-indexed, run-at}
 use Rattle.words.proofs.Epsilons.{fresh}
 
@@ -26,6 +28,17 @@ module _ (s : List ℕ) (a : Accepted s) where
   pub run-sorted : (run : List ℕ) → run ≡ writeRecords (leaving (read s) 0) → Sorted (rangesOf (readRecords run))
   run-sorted run e =
       subst (λ (es : List Transition). Sorted (rangesOf es)) (sym (ap readRecords e ∙ read-write (leaving (read s) 0))) (leaving-sorted (read s) 0 (read-well s a))
+
+  pub run-short : (run : List ℕ) → run ≡ writeRecords (leaving (read s) 0) → length run ≤ 10240
+  unfolding leaving
+  run-short run e =
+      omega (
+        arith,
+        ap length e,
+        length-write (leaving (read s) 0),
+        length-keep (λ (t : Transition). eqb (t .from) 0) (read s .transitions),
+        read-fits s a .few-transitions,
+      )
 
 pub ruleset acceptedLaws = (check-accepted, needs)
 

@@ -1,7 +1,11 @@
 // Cases of sheets and of label lists: the number of the fault.
+ghost use mathlib.Core.Path.{_≡_};
+ghost use Rattle.replay_all.specs.Decided.{sheetCase, labelsCase};
 
 // The words as a list, then the fault's number or 0.
-pub fn sheet(case: &[u32]) -> bool {
+pub fn sheet(case: &[u32]) -> bool
+    ensures { λ r. ⌜ r ≡ sheetCase (now (case .entry)) ⌝ }
+{
     let words = replay::list(case, 0);
     let end = 1 + words.len();
     match sheets::check(words) {
@@ -11,7 +15,9 @@ pub fn sheet(case: &[u32]) -> bool {
 }
 
 // The number of states, the bytes as a list, then the fault's number or 0.
-pub fn label_list(case: &[u32]) -> bool {
+pub fn label_list(case: &[u32]) -> bool
+    ensures { λ r. ⌜ r ≡ labelsCase (now (case .entry)) ⌝ }
+{
     if case.len() == 0 {
         return false;
     }
@@ -22,7 +28,7 @@ pub fn label_list(case: &[u32]) -> bool {
     if k != list.len() {
         return false;
     }
-    let end = 2 + k;
+    let end = 2 + list.len();
     match labels::check(n, &bytes[..k]) {
         labels::Checked::Accepted => replay::is_last(case, end, 0),
         labels::Checked::Refused(r) => replay::is_last(case, end, refusal::input_number(r)),

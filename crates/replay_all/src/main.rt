@@ -19,7 +19,9 @@
 // compare --emit parse --seed 1 --count 200
 // compare --emit equality --seed 1 --count 200
 ghost use mathlib.Core.Path.{_≡_};
-ghost use Prim.Native.Nat.{_+_, _<_};
+ghost use Prim.Native.Nat.{_<_};
+ghost use Rattle.replay.specs.Counting.{Bounded};
+ghost use Rattle.replay_all.specs.Agreement.{Agrees, Counted, Turned};
 use libc::STDOUT_FILENO;
 use replay::Tally;
 
@@ -52,7 +54,9 @@ enum Kind {
 }
 
 // Whether the answer in a case is the one that the port gives.
-fn agrees(kind: Kind, case: &[u32]) -> bool {
+fn agrees(kind: Kind, case: &[u32]) -> bool
+    ensures { λ r. ⌜ Agrees kind (now (case .entry)) r ⌝ }
+{
     match kind {
         Kind::Sheets => inputs::sheet(case),
         Kind::Labels => inputs::label_list(case),
@@ -76,8 +80,9 @@ fn agrees(kind: Kind, case: &[u32]) -> bool {
 
 // Replays the next case.
 fn turn(kind: Kind, text: &[u8], t: Tally) -> Tally
-    requires { ⌜ 0 < t .left ⌝ }
-    ensures { λ r. ⌜ r .left + 1 ≡ t .left ⌝ }
+    requires { ⌜ (0 < t .left) × Bounded t ⌝ }
+    ensures bounded { λ r. ⌜ Bounded r ⌝ }
+    ensures turned { λ r. ⌜ Turned kind (now (text .entry)) t r ⌝ }
 {
     let mut case = [0u32; 4096];
     let read = replay::read_case(text, t.at, &mut case);
@@ -86,7 +91,9 @@ fn turn(kind: Kind, text: &[u8], t: Tally) -> Tally
 }
 
 // Replays as many cases as the list announces.
-fn replay_list(kind: Kind, text: &[u8]) -> Tally {
+fn replay_list(kind: Kind, text: &[u8]) -> Tally
+    ensures { λ r. ⌜ Counted kind (now (text .entry)) r × (r .left ≡ 0) ⌝ }
+{
     let mut t = Tally::begin(text);
     while 0 < t.left {
         t = turn(kind, text, t);

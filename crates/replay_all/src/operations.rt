@@ -2,9 +2,17 @@
 // result as lists.
 use output::Made;
 use parser::Parsed;
+ghost use mathlib.Core.Path.{_≡_};
+ghost use Rattle.output.specs.Made.{outputOf};
+ghost use Rattle.output.specs.Output.{outputs, roomFirst};
+ghost use Rattle.parser.specs.Parsed.{parsedOf};
+ghost use Rattle.replay_all.specs.Outcomes.{isListed, isBuilt, isOutcome, determinizeCase, productCase, operation, operationCase, isReading, parseCase};
+ghost use Rattle.replay_all.specs.declared.operations.Operation.the-variants.{Totalize, Complement, EpsilonEliminate};
 
 // Whether the case has at its end, from at on, these words and these bytes as lists.
-fn is_listed(case: &[u32], at: usize, words: &[u32], labels: &[u8]) -> bool {
+fn is_listed(case: &[u32], at: usize, words: &[u32], labels: &[u8]) -> bool
+    ensures { λ r. ⌜ r ≡ isListed (now (case .entry)) at (now (words .entry)) (now (labels .entry)) ⌝ }
+{
     if case.len() <= at {
         return false;
     }
@@ -26,7 +34,9 @@ fn is_listed(case: &[u32], at: usize, words: &[u32], labels: &[u8]) -> bool {
 }
 
 // The same behind a 0.
-fn is_built(case: &[u32], at: usize, words: &[u32], labels: &[u8]) -> bool {
+fn is_built(case: &[u32], at: usize, words: &[u32], labels: &[u8]) -> bool
+    ensures { λ r. ⌜ r ≡ isBuilt (now (case .entry)) at (now (words .entry)) (now (labels .entry)) ⌝ }
+{
     if case.len() <= at {
         return false;
     }
@@ -37,7 +47,9 @@ fn is_built(case: &[u32], at: usize, words: &[u32], labels: &[u8]) -> bool {
 }
 
 // Whether the outcome of an operation stands in the case from at on.
-fn outcome(case: &[u32], at: usize, made: Made, out: &[u32], names: &[u8]) -> bool {
+fn outcome(case: &[u32], at: usize, made: Made, out: &[u32], names: &[u8]) -> bool
+    ensures { λ r. ⌜ r ≡ isOutcome (now (case .entry)) at (outputOf made (now (out .entry)) (now (names .entry))) ⌝ }
+{
     match made {
         Made::Lengths(w, b) => {
             if out.len() < w {
@@ -53,7 +65,9 @@ fn outcome(case: &[u32], at: usize, made: Made, out: &[u32], names: &[u8]) -> bo
 }
 
 // The sheet, then the outcome of determinizing it.
-pub fn determinized(case: &[u32]) -> bool {
+pub fn determinized(case: &[u32]) -> bool
+    ensures { λ r. ⌜ r ≡ determinizeCase (now (case .entry)) ⌝ }
+{
     let sheet = replay::list(case, 0);
     let mut out = [0u32; 10500];
     let mut names = [0u8; 16642];
@@ -62,7 +76,9 @@ pub fn determinized(case: &[u32]) -> bool {
 }
 
 // Two sheets, then the outcome of their product.
-pub fn intersected(case: &[u32]) -> bool {
+pub fn intersected(case: &[u32]) -> bool
+    ensures { λ r. ⌜ r ≡ productCase (now (case .entry)) ⌝ }
+{
     let a = replay::list(case, 0);
     let second = 1 + a.len();
     let b = replay::list(case, second);
@@ -79,7 +95,9 @@ enum Operation {
     EpsilonEliminate,
 }
 
-fn made_by(o: Operation, sheet: &[u32], labels: &[u8], out: &mut [u32], names: &mut [u8]) -> Made {
+fn made_by(o: Operation, sheet: &[u32], labels: &[u8], out: &mut [u32], names: &mut [u8]) -> Made
+    ensures { λ r. ⌜ outputOf r (now (out .exit)) (now (names .exit)) ≡ outputs (now (out .entry)) (now (names .entry)) (roomFirst (now (out .entry)) (now (names .entry)) (operation o (now (sheet .entry)) (now (labels .entry)))) ⌝ }
+{
     match o {
         Operation::Totalize => totality::totalize(sheet, labels, out, names),
         Operation::Complement => totality::complement(sheet, labels, out, names),
@@ -88,7 +106,9 @@ fn made_by(o: Operation, sheet: &[u32], labels: &[u8], out: &mut [u32], names: &
 }
 
 // The sheet, the labels as a list of bytes, then the outcome of the operation.
-fn operated(o: Operation, case: &[u32]) -> bool {
+fn operated(o: Operation, case: &[u32]) -> bool
+    ensures { λ r. ⌜ r ≡ operationCase o (now (case .entry)) ⌝ }
+{
     let sheet = replay::list(case, 0);
     let second = 1 + sheet.len();
     let list = replay::list(case, second);
@@ -100,41 +120,44 @@ fn operated(o: Operation, case: &[u32]) -> bool {
     let mut out = [0u32; 10500];
     let mut names = [0u8; 16642];
     let made = made_by(o, sheet, &labels[..k], &mut out, &mut names);
-    outcome(case, second + 1 + k, made, &out, &names)
+    outcome(case, second + 1 + list.len(), made, &out, &names)
 }
 
-pub fn totalized(case: &[u32]) -> bool {
+pub fn totalized(case: &[u32]) -> bool
+    ensures { λ r. ⌜ r ≡ operationCase Totalize (now (case .entry)) ⌝ }
+{
     operated(Operation::Totalize, case)
 }
 
-pub fn complemented(case: &[u32]) -> bool {
+pub fn complemented(case: &[u32]) -> bool
+    ensures { λ r. ⌜ r ≡ operationCase Complement (now (case .entry)) ⌝ }
+{
     operated(Operation::Complement, case)
 }
 
-pub fn epsilon_eliminated(case: &[u32]) -> bool {
+pub fn epsilon_eliminated(case: &[u32]) -> bool
+    ensures { λ r. ⌜ r ≡ operationCase EpsilonEliminate (now (case .entry)) ⌝ }
+{
     operated(Operation::EpsilonEliminate, case)
 }
 
-// The text as a list of bytes, then the refusal's number, or 0, the number of bytes read, the sheet and the labels.
-pub fn parsed(case: &[u32]) -> bool {
-    let list = replay::list(case, 0);
-    let end = 1 + list.len();
-    let mut text = [0u8; 4096];
-    let k = replay::bytes(list, &mut text);
-    if k != list.len() {
-        return false;
-    }
-    let mut out = [0u32; 10500];
-    let mut names = [0u8; 16642];
-    match parser::parse_automaton(&text[..k], &mut out, &mut names) {
+// Whether the outcome of reading a text stands in the case from at on: the refusal's number, or 0, the number of bytes read, the sheet and
+// the labels.
+fn reading(case: &[u32], at: usize, answer: Parsed, out: &[u32], names: &[u8]) -> bool
+    ensures { λ r. ⌜ r ≡ isReading (now (case .entry)) at (parsedOf answer (now (out .entry)) (now (names .entry))) ⌝ }
+{
+    match answer {
         Parsed::Read(read, w, b) => {
-            if case.len() <= end + 1 {
+            if case.len() <= at {
                 return false;
             }
-            if case[end] != 0 {
+            if case.len() <= at + 1 {
                 return false;
             }
-            if replay::wide(case[end + 1]) != read {
+            if case[at] != 0 {
+                return false;
+            }
+            if replay::wide(case[at + 1]) != read {
                 return false;
             }
             if out.len() < w {
@@ -143,8 +166,24 @@ pub fn parsed(case: &[u32]) -> bool {
             if names.len() < b {
                 return false;
             }
-            is_listed(case, end + 2, &out[0..w], &names[0..b])
+            is_listed(case, at + 2, &out[0..w], &names[0..b])
         }
-        Parsed::Refused(r) => replay::is_last(case, end, refusal::number(r)),
+        Parsed::Refused(r) => replay::is_last(case, at, refusal::number(r)),
     }
+}
+
+// The text as a list of bytes, then the outcome of reading it.
+pub fn parsed(case: &[u32]) -> bool
+    ensures { λ r. ⌜ r ≡ parseCase (now (case .entry)) ⌝ }
+{
+    let list = replay::list(case, 0);
+    let mut text = [0u8; 4096];
+    let k = replay::bytes(list, &mut text);
+    if k != list.len() {
+        return false;
+    }
+    let mut out = [0u32; 10500];
+    let mut names = [0u8; 16642];
+    let answer = parser::parse_automaton(&text[..k], &mut out, &mut names);
+    reading(case, 1 + list.len(), answer, &out, &names)
 }

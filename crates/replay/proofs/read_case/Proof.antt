@@ -1,5 +1,5 @@
 -- `read_case` meets its contract: a line that was stored has room.
-use Rattle.replay.proofs.Lines.{caseLaws}
+use Rattle.replay.proofs.Counting.{caseLaws}
 use Rattle.replay.proofs.read_case.Statement.{statement}
 use Rattle.replay.proofs.read_case.Tie as tie
 

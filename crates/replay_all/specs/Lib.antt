@@ -1,0 +1,8 @@
+-- What the contracts of the test program cite: how a case has the answer of a call, kind by kind.
+pub mod Parts
+pub mod Decided
+pub mod Rows
+pub mod Outcomes
+pub mod Spans
+pub mod Verdicts
+pub mod Agreement
