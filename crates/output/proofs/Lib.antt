@@ -1,8 +1,7 @@
 -- The laws of outputs.
 pub mod Writing
 pub mod Answers
-pub mod Inserting
-pub mod Storing
+pub mod Comparing
 pub mod Heads
 pub mod Merging
 pub mod Halves

@@ -2,6 +2,5 @@
 pub mod Output
 pub mod Made
 pub mod Ordered
-pub mod Storing
 pub mod Sorting
 pub mod Gathering

@@ -9,13 +9,10 @@ ghost use Rattle.lists.specs.Written.{Written};
 use refusal::Refusal;
 
 mod gathering;
-mod ordered;
 mod sorting;
 
 pub use gathering::collect_records;
 pub use gathering::gather_record;
-pub use ordered::insert_record;
-pub use sorting::sort_records;
 
 // The answer of an operation with two outputs: how many words the sheet takes and how many bytes the labels, or a refusal.
 pub enum Made {
