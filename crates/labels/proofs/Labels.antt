@@ -141,3 +141,8 @@ read-write ls = ap (λ k. readEntries k (drop 2 (writeLabels ls))) (count-write 
 pub fault-write : (ls : List (List ℕ)) → AllLabels ls → labelsFault (length ls) (writeLabels ls) ≡ 0
 unfolding labelsFault labelsOk writeLabels
 fault-write ls a = rw (le-leb 2 (length (writeLabels ls)) (omega arith), eq-eqb (length ls % 256) (length ls % 256) refl, eq-eqb (length ls / 256) (length ls / 256) refl, ok-write-entries a)
+
+-- 256 labels fit the output's fixed size
+pub size-write : (ls : List (List ℕ)) → AllLabels ls → length ls ≤ 256 → length (writeLabels ls) ≤ 16642
+unfolding writeLabels
+size-write ls a h = omega (arith, size-entries a)
