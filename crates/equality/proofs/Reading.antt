@@ -1,26 +1,18 @@
--- What the code reads of sheets and records: accept words, and the symbols that two records share. Assumes nothing.
-use Prim.Native.Nat.{ℕ, _+_, _≤_, _<_, min, max}
+-- What the code reads of records: the symbols that two of them share. Assumes nothing.
+use Prim.Native.Nat.{ℕ, _≤_, _<_, min, max}
 use mathlib.Core.Bool.{Bool, true, false, cond}
-use mathlib.Core.List.{List}
 use mathlib.Core.Option.{Option, none, some}
 use mathlib.Core.Path.{_≡_, refl, sym, ap, _∙_}
 use native.Mathlib.Omega.{arith}
 use borrow.Author.Needs.{needs}
 use borrow.Author.Tests.{leb-true, leb-false}
 use lib.Dec.{leb}
-use lib.ListN.{getD, drop}
-use lib.Seq.{getD-take, getD-drop}
 use Rattle.automata.specs.Automaton.{Transition}
 use Rattle.ranges.specs.declared.Common.{Common}
 use Rattle.ranges.specs.declared.Common.the-variants.{Range, Nothing}
 use Rattle.ranges.specs.Span.{Span, intersectRanges, spanOf}
-use Rattle.sheets.specs.Sheet.{stateCount, read}
 use Rattle.equality.specs.declared.First.the-variants as first
-use Rattle.equality.specs.Successors.{acceptOf}
 use Rattle.equality.specs.Code.{FirstOf}
-
-pub accept-at : (s : List ℕ) (p : ℕ) → p < stateCount s → getD s (p + 3) 0 ≡ acceptOf (read s) p
-accept-at s p h = sym (getD-take (stateCount s) (drop 3 s) p 0 h ∙ getD-drop 3 s p 0 ∙ ap (λ (i : ℕ). getD s i 0) (omega arith))
 
 -- the answer of `intersect_ranges`
 module _ (f₁ l₁ f₂ l₂ : ℕ) (r : Common) (e : spanOf r ≡ intersectRanges (record { low = f₁; high = l₁ }) (record { low = f₂; high = l₂ })) where
@@ -66,4 +58,4 @@ module _ (d e : Transition) (low high : ℕ) (r : Common) (is-r : spanOf r ≡ i
         let w = o .2 in
         record { above = omega arith; below = omega arith; first-one = omega arith; last-one = omega arith; first-two = omega arith; last-two = omega arith }
 
-pub ruleset reading = (accept-at, common-none, common-outside, common-symbol, needs)
+pub ruleset reading = (common-none, common-outside, common-symbol, needs)

@@ -46,14 +46,6 @@ pub enum Verdict {
     Refused(Refusal),
 }
 
-// A state's accept word.
-fn accept_word(s: &[u32], p: u32) -> u32
-    requires { ⌜ Accepted (now s) × (p < stateCount (now s)) ⌝ }
-    ensures { λ r. ⌜ r ≡ acceptOf (read (now (s .entry))) p ⌝ }
-{
-    s[p as usize + 3]
-}
-
 // The first symbol from low to high that the records d and e share.
 fn first_common(d: &[u32], e: &[u32], low: u32, high: u32) -> First
     requires { ⌜ (length (now d) ≡ 5) × (length (now e) ≡ 5) ⌝ }
@@ -158,7 +150,7 @@ fn turn(
                 First::Symbol(x) => {
                     let p = ra[5 * j + 4];
                     let q = rb[5 * k + 4];
-                    if accept_word(a, p) != accept_word(b, q) {
+                    if sheets::accept_word(a, p) != sheets::accept_word(b, q) {
                         break 'runs Seen::Differ(x);
                     }
                     k += 1;
@@ -244,7 +236,7 @@ fn walk(a: &[u32], b: &[u32], low: u32, high: u32, word: &mut [u32]) -> Verdict
 {
     let first = a[1];
     let second = b[1];
-    if accept_word(a, first) != accept_word(b, second) {
+    if sheets::accept_word(a, first) != sheets::accept_word(b, second) {
         return Verdict::Different(0);
     }
     let mut starts_a = [0u32; 257];

@@ -1,4 +1,4 @@
--- What the code reads of sheets and runs: accept words, triggers, and the end of a row of one trigger. Assumes nothing.
+-- What the code reads of runs: triggers, and the end of a row of one trigger. Assumes nothing.
 use Prim.Native.Nat.{ℕ, _+_, _-_, _≤_, _<_}
 use mathlib.Core.Bool.{Bool, true, false, not}
 use mathlib.Core.List.{List}
@@ -8,19 +8,12 @@ use borrow.Author.Needs.{needs}
 use borrow.Author.Tests.{eq-eqb, ne-eqb}
 use lib.Dec.{eqb}
 use lib.ListN.{length, getD, take, drop}
-use lib.Seq.{getD-take, getD-drop}
 use Rattle.automata.specs.Automaton.{Transition}
 use Rattle.automata.specs.Records.{recordAt, readRecords}
 use Rattle.automata.proofs.Records.{records-at, records-end, part-record}
-use Rattle.sheets.specs.Sheet.{stateCount, read}
 use Rattle.equivalence.specs.Triggers.{sameTrigger}
 use Rattle.equivalence.specs.Rows.{behindRow, RowEnd}
 use Rattle.equivalence.proofs.Triggers.{not-true, not-false}
-
-pub accept-at : (s : List ℕ) (p : ℕ) → p < stateCount s → getD s (p + 3) 0 ≡ getD (read s .accept) p 0
-accept-at s p h = sym (getD-take (stateCount s) (drop 3 s) p 0 h ∙ getD-drop 3 s p 0 ∙ ap (λ (i : ℕ). getD s i 0) (omega arith))
-
-pub ruleset acceptLaws = (accept-at, needs)
 
 -- two records
 module _ (d e : List ℕ) where

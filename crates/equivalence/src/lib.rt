@@ -22,14 +22,6 @@ pub struct Compared {
     pub alike: bool,
 }
 
-// A state's accept word.
-fn accept_word(s: &[u32], p: u32) -> u32
-    requires { ⌜ Accepted (now s) × (p < stateCount (now s)) ⌝ }
-    ensures { λ r. ⌜ r ≡ getD (read (now (s .entry)) .accept) p 0 ⌝ }
-{
-    s[p as usize + 3]
-}
-
 // Whether two records have the same trigger.
 fn same_trigger(d: &[u32], e: &[u32]) -> bool
     requires { ⌜ (length (now d) ≡ 5) × (length (now e) ≡ 5) ⌝ }
@@ -140,7 +132,7 @@ fn walk_pairs(
     while head < made {
         let p = one[head];
         let q = two[head];
-        if accept_word(a, p) != accept_word(b, q) {
+        if sheets::accept_word(a, p) != sheets::accept_word(b, q) {
             return false;
         }
         let ra = sheets::run(a, starts_a, p);

@@ -1,6 +1,6 @@
 -- Laws of lists that are stored as bytes, and of the cases that have one: the stored bytes are the list.
 use Prim.Native.Nat.{ℕ, _+_, _≤_}
-use mathlib.Core.Bool.{Bool, true, false, cond}
+use mathlib.Core.Bool.{Bool, false, cond}
 use mathlib.Core.List.{List}
 use mathlib.Core.Path.{_≡_, sym, _∙_, ap}
 use native.Mathlib.Omega.{arith}
@@ -15,15 +15,12 @@ use Rattle.labels.specs.declared.Checked.the-variants as checked
 use Rattle.labels.specs.Labels.{labelsFault}
 use Rattle.lists.specs.Written.{Written}
 use Rattle.lists.proofs.Written.{written-length}
-use Rattle.refusal.specs.Decision.{decisionOf}
-use Rattle.refusal.specs.declared.Decision.{Decision}
 use Rattle.refusal.specs.declared.InputRefusal.{InputRefusal}
 use Rattle.refusal.specs.Number.{inputNumber}
 use Rattle.replay.specs.Cases.{listAt, isLast, bytesBefore}
-use Rattle.subautomaton.specs.Answer.{subautomatonAnswer}
 use Rattle.words.specs.Acceptance.{acceptsText, answerOf}
 use Rattle.words.specs.declared.Acceptance.{Acceptance}
-use Rattle.replay_all.specs.Decided.{labelsCase, accepted, textCase, decided, subautomatonOf, subautomatonCase}
+use Rattle.replay_all.specs.Decided.{labelsCase, accepted, textCase}
 
 -- a list that was stored whole
 pub bytes-all : (z m x : List ℕ) (k : ℕ) → Written z 0 (take k x) m k → k ≡ length x → k ≤ length m → take k m ≡ x

@@ -1,5 +1,5 @@
 -- Laws of the cases of a list: each agrees by its kind, and is counted.
-use Prim.Native.Nat.{ℕ, _-_, _≤_, _<_}
+use Prim.Native.Nat.{ℕ, _-_, _<_}
 use mathlib.Core.Bool.{Bool}
 use mathlib.Core.List.{List}
 use mathlib.Core.Path.{_≡_, refl, sym, _∙_, ap, subst}
@@ -12,7 +12,7 @@ use Rattle.replay.specs.declared.Numbers.{Numbers}
 use Rattle.replay.specs.declared.Numbers.the-variants.{Stored, TooMany, Malformed}
 use Rattle.replay.specs.declared.Tally.{Tally}
 use Rattle.replay.specs.Counting.{caseOf, caseAt, begun, tallied}
-use Rattle.replay.specs.Lines.{Line, answer, lineAt}
+use Rattle.replay.specs.Lines.{answer, lineAt}
 use Rattle.replay.proofs.Lines.{Told, line-told, line-part}
 use Rattle.replay_all.specs.declared.Kind.{Kind}
 use Rattle.replay_all.specs.declared.Kind.the-variants as kind

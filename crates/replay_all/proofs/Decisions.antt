@@ -8,7 +8,6 @@ use borrow.Author.Tests.{eq-eqb, ne-eqb}
 use lib.ListN.{length}
 use Rattle.emptiness.specs.Reachable.{reachableAnswer}
 use Rattle.equivalence.specs.Equivalent.{equivalentAnswer}
-use Rattle.refusal.specs.Answer.{Answer}
 use Rattle.refusal.specs.Decision.{decisionOf}
 use Rattle.refusal.specs.declared.Decision.{Decision}
 use Rattle.refusal.specs.declared.Decision.the-variants as decision

@@ -1,5 +1,5 @@
 -- Laws of cases of closures: the rows of the table are compared with the lists of the case.
-use Prim.Native.Nat.{ℕ, suc, _+_, _-_, _*_, _≤_, _<_}
+use Prim.Native.Nat.{ℕ, _+_, _*_, _≤_, _<_}
 use mathlib.Core.Bool.{Bool, true, false, cond, not, _&&_}
 use mathlib.Core.List.{List, [], _∷_}
 use mathlib.Core.Path.{_≡_, refl, sym, _∙_, ap, ap₂}
@@ -9,7 +9,7 @@ use native.Mathlib.Numerals.{add-one}
 use native.Mathlib.Omega.{arith}
 use borrow.Author.Needs.{needs}
 use borrow.Author.Tests.{eq-eqb, ne-eqb, le-leb, lt-leb}
-use lib.Dec.{eqb, leb}
+use lib.Dec.{eqb}
 use lib.ListN.{length, getD, drop, drop-of-length-le}
 use lib.Seq.{drop-cons}
 use Rattle.labels.specs.Labels.{sameLabel}
@@ -17,7 +17,6 @@ use Rattle.lists.specs.Lists.{tabulate}
 use Rattle.lists.proofs.Lists.{tabulate-at, length-tabulate}
 use Rattle.lists.proofs.Parts.{drop-at}
 use Rattle.refusal.specs.declared.InputRefusal.{InputRefusal}
-use Rattle.refusal.specs.Number.{inputNumber}
 use Rattle.replay.specs.Cases.{listAt}
 use Rattle.sets.specs.Sets.{Set, has, membersFrom}
 use Rattle.sets.specs.BitSet.{setAt, entries}
@@ -30,7 +29,6 @@ use Rattle.sheets.specs.Fault.{fault}
 use Rattle.sheets.specs.Sheet.{stateCount, read}
 use Rattle.sheets.proofs.Checking.{refused-some}
 use Rattle.words.specs.Simulation.{closures}
-use Rattle.replay_all.specs.Parts.{behind}
 use Rattle.replay_all.specs.Rows.{areRows, closuresCase}
 
 -- nothing is listed from i on

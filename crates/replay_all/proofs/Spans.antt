@@ -2,13 +2,13 @@
 use Prim.Native.Nat.{ℕ, suc, _+_, _-_, _*_, _/_, _≤_, _<_}
 use mathlib.Core.Bool.{Bool, true, false, cond}
 use mathlib.Core.List.{List, [], _∷_, _++_}
-use mathlib.Core.Path.{_≡_, refl, sym, _∙_, ap, ap₂, subst}
+use mathlib.Core.Path.{_≡_, refl, sym, _∙_, ap, ap₂}
 use native.Mathlib.Numerals.{add-one}
 use native.Mathlib.Omega.{arith}
 use borrow.Author.Needs.{needs}
 use borrow.Author.Tests.{eq-eqb, ne-eqb, lt-ltb, le-ltb, le-leb, lt-leb, ltb-false}
-use lib.Dec.{eqb, ltb, leb}
-use lib.ListN.{length, getD, take, drop, replicate, length-append, length-drop, length-replicate}
+use lib.Dec.{eqb, ltb}
+use lib.ListN.{length, getD, take, drop, replicate, length-drop, length-replicate}
 use lib.Seq.{sets, sets-eq, take-at}
 use Rattle.automata.specs.Automaton.{leaving, rangesOf}
 use Rattle.automata.specs.Records.{readRecords, writeRecords}
@@ -16,14 +16,13 @@ use Rattle.automata.proofs.Records.{read-write}
 use Rattle.labels.specs.Labels.{sameLabel}
 use Rattle.lists.specs.Written.{Written}
 use Rattle.lists.proofs.Parts.{drop-at, sets-append}
-use Rattle.lists.proofs.Written.{written-none, written-append, written-cons, written-length}
+use Rattle.lists.proofs.Written.{written-none, written-append, written-cons}
 use Rattle.ranges.specs.declared.Common.{Common}
 use Rattle.ranges.specs.declared.Common.the-variants as common
 use Rattle.ranges.specs.Missing.{missing, spanWords}
 use Rattle.ranges.specs.Span.{Span, spanOf, intersectRanges, overlapping}
 use Rattle.ranges.proofs.Writing.{words-length}
 use Rattle.refusal.specs.declared.InputRefusal.{InputRefusal}
-use Rattle.refusal.specs.Number.{inputNumber}
 use Rattle.replay.specs.Cases.{listAt}
 use Rattle.sheets.specs.Checked.{checkedNumber}
 use Rattle.sheets.specs.declared.Checked.{Checked}

@@ -5,7 +5,7 @@ use borrow.Author.Needs.{needs}
 use lib.ListN.{length, drop}
 use lib.Seq.{sets}
 use Rattle.replay_all.specs.Spans.{records}
-use Rattle.replay_all.proofs.Spans.{ranges-begun, ranges-next, ranges-count, ranges-ended}
+use Rattle.replay_all.proofs.Spans.{ranges-next, ranges-count, ranges-ended}
 use Rattle.replay_all.proofs.symbols.put_ranges.Statement.{statement}
 use Rattle.replay_all.proofs.symbols.put_ranges.Tie as tie
 

@@ -1,9 +1,0 @@
--- `accept_word` meets its contract: the accept words of a sheet begin at its fourth word.
-use Rattle.equivalence.proofs.Reading.{acceptLaws}
-use Rattle.equivalence.proofs.accept_word.Statement.{statement}
-use Rattle.equivalence.proofs.accept_word.Tie as tie
-
-pub accept-word-spec : {M : Type 1} → statement M
-accept-word-spec =
-    tie.close
-    (tie.spec (λ c. search acceptLaws) (λ c. search acceptLaws) (λ c. search acceptLaws) (λ c. search acceptLaws))
