@@ -10,6 +10,7 @@ use lib.Dec.{ltb}
 use lib.ListN.{length, take, drop, length-replicate}
 use Rattle.lists.specs.Written.{Written}
 use Rattle.lists.proofs.Written.{written-length}
+use Rattle.automata.specs.Automaton.{states}
 use Rattle.automata.specs.WellFormed.{mostTransitions}
 use Rattle.labels.specs.Checked as labelCheck
 use Rattle.labels.specs.Labels.{labelsFault, readLabels, writeLabels, LabelList, labelCount}
@@ -34,11 +35,11 @@ use Rattle.sheets.specs.Sheet.{stateCount, read, write}
 use Rattle.sheets.proofs.Accepted.{check-accepted}
 use Rattle.sheets.proofs.Checking.{sheet-passed, sheet-refused}
 use Rattle.words.proofs.Epsilons.{fresh}
-use Rattle.epsilon.specs.Eliminate.{closureRanges, allStates, eliminated, limited, eliminateAnswer}
+use Rattle.epsilon.specs.Eliminate.{closureRanges, eliminated, limited, eliminateAnswer}
 use Rattle.epsilon.specs.Tables.{TransitionsOf, Ready}
 
 -- the transitions of all states are gathered
-module _ (s : List ℕ) (a : Accepted s) (buf : List ℕ) (end : ℕ) (t : Collected buf end (flatMap (closureRanges (read s)) (allStates (read s)))) where
+module _ (s : List ℕ) (a : Accepted s) (buf : List ℕ) (end : ℕ) (t : Collected buf end (flatMap (closureRanges (read s)) (states (stateCount s)))) where
   pub too-many : 10240 < end → (o l : List ℕ) (ls : List (List ℕ)) → outputOf (Refused (State Transitions)) o l ≡ outputs o l (limited (eliminated (read s)) ls)
   unfolding limited eliminated
   too-many h o l ls = made-refused o l (State Transitions) _ (rw (lt-ltb 2048 _ (t .over h)))

@@ -7,12 +7,11 @@ use native.Mathlib.Omega.{arith}
 use borrow.Author.Needs.{needs}
 use borrow.Author.Tests.{eq-eqb, ne-eqb}
 use lib.Dec.{eqb}
-use lib.ListN.{length, getD, take, drop, drop-of-length-le}
-use Rattle.lists.specs.Lists.{keep, tabulate}
-use Rattle.lists.proofs.Lists.{tabulate-at, length-tabulate}
-use Rattle.lists.proofs.Parts.{drop-at}
-use Rattle.automata.specs.Automaton.{Transition, leaving, rangesOf}
+use lib.ListN.{length, getD, take, drop}
+use Rattle.lists.specs.Lists.{keep}
+use Rattle.automata.specs.Automaton.{Transition, states, leaving, rangesOf}
 use Rattle.automata.specs.Records.{readRecords, writeRecords, recordAt}
+use Rattle.automata.proofs.States.{states-at, states-end}
 use Rattle.automata.proofs.Records.{records-at, records-end, part-record, read-write}
 use Rattle.output.specs.Gathering.{Open, Gathered, Rest}
 use Rattle.output.specs.Ordered.{recordsIn}
@@ -32,7 +31,7 @@ use Rattle.words.specs.Gather.{Tables}
 use Rattle.words.specs.Simulation.{closure}
 use Rattle.words.proofs.Closures.{closure-canon}
 use Rattle.words.proofs.Visiting.{member-here, member-later}
-use Rattle.epsilon.specs.Eliminate.{leavingFrom, movedTo, rangesFrom, closureRanges, allStates}
+use Rattle.epsilon.specs.Eliminate.{leavingFrom, movedTo, rangesFrom, closureRanges}
 use Rattle.epsilon.specs.Tables.{ClosuresOf}
 
 -- one record
@@ -156,36 +155,26 @@ pub ruleset closureLaws = (row-known, closure-begins, closure-run, closure-ended
 
 -- all states, one after the other
 module _ (s : List ℕ) where
-  states-at : (p : ℕ) → p < stateCount s → drop p (allStates (read s)) ≡ p ∷ drop (p + 1) (allStates (read s))
-  unfolding allStates
-  states-at p h =
-      let n : length (tabulate (stateCount s) (λ q. q)) ≡ stateCount s = length-tabulate (stateCount s) (λ q. q) in
-      drop-at (allStates (read s)) p (omega arith) ∙ ap (λ (x : ℕ). x ∷ drop (p + 1) (allStates (read s))) (tabulate-at (stateCount s) (λ q. q) p 0 h)
-
-  states-end : (p : ℕ) → stateCount s ≤ p → drop p (allStates (read s)) ≡ []
-  unfolding allStates
-  states-end p h = drop-of-length-le (tabulate (stateCount s) (λ q. q)) {i = p} (rw (length-tabulate (stateCount s) (λ q. q)) h)
-
-  pub all-begins : (buf : List ℕ) → length buf ≡ 20480 → Rest buf 0 (flatMap (closureRanges (read s)) (drop 0 (allStates (read s)))) (flatMap (closureRanges (read s)) (allStates (read s)))
+  pub all-begins : (buf : List ℕ) → length buf ≡ 20480 → Rest buf 0 (flatMap (closureRanges (read s)) (drop 0 (states (stateCount s)))) (flatMap (closureRanges (read s)) (states (stateCount s)))
   all-begins buf h = rest-none buf h _
 
-  module _ (buf : List ℕ) (end p : ℕ) (es : List Transition) (l : Rest buf end (flatMap (closureRanges (read s)) (drop p (allStates (read s)))) es) where
+  module _ (buf : List ℕ) (end p : ℕ) (es : List Transition) (l : Rest buf end (flatMap (closureRanges (read s)) (drop p (states (stateCount s)))) es) where
     pub all-room : Open buf end
     all-room = l .room
 
     pub all-ended : stateCount s ≤ p → Gathered buf end es
     unfolding flatMap
-    all-ended h = rest-end buf end es (subst (λ (x : List ℕ). Rest buf end (flatMap (closureRanges (read s)) x) es) (states-end p h) l)
+    all-ended h = rest-end buf end es (subst (λ (x : List ℕ). Rest buf end (flatMap (closureRanges (read s)) x) es) (states-end (stateCount s) p h) l)
 
     module _ (h : p < stateCount s) (m : List ℕ) (next : ℕ) (k : Gathered m next (recordsIn buf 0 end ++ closureRanges (read s) p)) where
-      all-split : Rest buf end (closureRanges (read s) p ++ flatMap (closureRanges (read s)) (drop (p + 1) (allStates (read s)))) es
+      all-split : Rest buf end (closureRanges (read s) p ++ flatMap (closureRanges (read s)) (drop (p + 1) (states (stateCount s)))) es
       unfolding flatMap
-      all-split = subst (λ (x : List ℕ). Rest buf end (flatMap (closureRanges (read s)) x) es) (states-at p h) l
+      all-split = subst (λ (x : List ℕ). Rest buf end (flatMap (closureRanges (read s)) x) es) (states-at (stateCount s) p h) l
 
       pub all-over : 20480 ≤ next → Gathered m next es
       all-over = rest-over buf end es _ _ all-split m next k
 
-      pub all-next : next < 20480 → Rest m next (flatMap (closureRanges (read s)) (drop (p + 1) (allStates (read s)))) es
+      pub all-next : next < 20480 → Rest m next (flatMap (closureRanges (read s)) (drop (p + 1) (states (stateCount s)))) es
       all-next = rest-next buf end es _ _ all-split m next k
 
 pub ruleset allLaws = (all-begins, all-room, all-ended, all-over, all-next, needs)

@@ -6,7 +6,7 @@ use mathlib.Core.List.{List, map, flatMap}
 use lib.Dec.{ltb}
 use lib.ListN.{length}
 use Rattle.lists.specs.Lists.{tabulate}
-use Rattle.automata.specs.Automaton.{Transition, Automaton, leaving, rangesOf}
+use Rattle.automata.specs.Automaton.{Transition, Automaton, states, leaving, rangesOf}
 use Rattle.automata.specs.Ordered.{inOrder}
 use Rattle.automata.specs.WellFormed.{mostTransitions}
 use Rattle.labels.specs.Labels.{readLabels}
@@ -37,15 +37,13 @@ closureRanges A p = rangesFrom A p (closure A p)
 unfoldable pub closureKinds : Automaton → ℕ → List ℕ
 closureKinds A n = tabulate n (λ p. kindOf A (closure A p))
 
-unfoldable pub allStates : Automaton → List ℕ
-allStates A = tabulate (A .size) (λ p. p)
-
+-- the automaton without its epsilons: the same states and start, each with the ranges and the acceptance of its closure
 unfoldable pub eliminated : Automaton → Automaton
 eliminated A = record {
   size = A .size;
   start = A .start;
   accept = closureKinds A (A .size);
-  transitions = inOrder (flatMap (closureRanges A) (allStates A));
+  transitions = inOrder (flatMap (closureRanges A) (states (A .size)));
 }
 
 -- 22 where there are too many transitions, or else the automaton with its labels

@@ -5,6 +5,7 @@ ghost use mathlib.Core.Path.{_≡_};
 ghost use Prim.Native.Nat.{_+_, _≤_, _<_};
 ghost use lib.ListN.{length};
 ghost use Rattle.lists.specs.Written.{Written};
+ghost use Rattle.automata.specs.Automaton.{states};
 ghost use Rattle.automata.specs.Records.{recordAt, readRecords};
 ghost use Rattle.labels.specs.Labels.{labelsFault, readLabels};
 ghost use Rattle.output.specs.Gathering.{Open, Gathered, Collected};
@@ -16,7 +17,7 @@ ghost use Rattle.sheets.specs.Sheet.{stateCount, read, write};
 ghost use Rattle.words.specs.Epsilons.{Fresh};
 ghost use Rattle.words.specs.Gather.{Tables};
 ghost use Rattle.words.specs.Simulation.{closure, kindOf};
-ghost use Rattle.epsilon.specs.Eliminate.{movedTo, closureRanges, closureKinds, allStates, eliminated, limited, eliminateAnswer};
+ghost use Rattle.epsilon.specs.Eliminate.{movedTo, closureRanges, closureKinds, eliminated, limited, eliminateAnswer};
 ghost use Rattle.epsilon.specs.Tables.{ClosuresOf, TransitionsOf, Ready};
 use output::Made;
 use refusal::Refusal;
@@ -79,7 +80,7 @@ fn add_closure(
 // The ranges of the closures of all states.
 fn add_closures(s: &[u32], starts: &[u32], closures: &[u64], buf: &mut [u32]) -> usize
     requires { ⌜ Tables (now s) (now starts) (now closures) × (length (now buf) ≡ 20480) ⌝ }
-    ensures { λ e. ⌜ Gathered (now (buf .exit)) e (flatMap (closureRanges (read (now (s .entry)))) (allStates (read (now (s .entry))))) ⌝ }
+    ensures { λ e. ⌜ Gathered (now (buf .exit)) e (flatMap (closureRanges (read (now (s .entry)))) (states (stateCount (now (s .entry))))) ⌝ }
 {
     let n = s[2];
     let mut e: usize = 0;
@@ -97,7 +98,7 @@ fn add_closures(s: &[u32], starts: &[u32], closures: &[u64], buf: &mut [u32]) ->
 // The closures of the sheet's states, and the ranges of them all in order, equal ones once, unless there are too many.
 fn gather(s: &[u32], closures: &mut [u64], buf: &mut [u32]) -> usize
     requires { ⌜ Accepted (now s) × Fresh (now closures) × (length (now buf) ≡ 20480) ⌝ }
-    ensures { λ e. ⌜ ClosuresOf (now (s .entry)) (now (closures .exit)) × Collected (now (buf .exit)) e (flatMap (closureRanges (read (now (s .entry)))) (allStates (read (now (s .entry))))) ⌝ }
+    ensures { λ e. ⌜ ClosuresOf (now (s .entry)) (now (closures .exit)) × Collected (now (buf .exit)) e (flatMap (closureRanges (read (now (s .entry)))) (states (stateCount (now (s .entry))))) ⌝ }
 {
     let mut starts = [0u32; 257];
     sheets::run_starts(s, &mut starts);

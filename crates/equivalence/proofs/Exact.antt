@@ -1,7 +1,7 @@
 -- The pairs of the graph are those that equal triggers reach; there are no more than states of the one times states of the other. Assumes nothing.
 use Prim.Native.Nat.{ℕ, _*_, _<_}
 use mathlib.Core.Bool.{Bool, true, false, not, false≢true}
-use mathlib.Core.List.{List, [], _∷_, map, flatMap, List·Memᴰ·head, List·Memᴰ·tail, List·Memᴰ·append-cases, Memᴰ·append-left, Memᴰ·append-right}
+use mathlib.Core.List.{List, [], _∷_, map, flatMap}
 use mathlib.Core.Logic.{_↔_, ⊎-elim}
 use mathlib.Core.Path.{_≡_, refl, sym, _∙_, ap, subst}
 use native.Mathlib.Nat.{add-comm, suc-mul}
@@ -11,6 +11,7 @@ use lib.Dec.{eqb}
 use lib.ListN.{length, getD, length-append, length-map}
 use Rattle.lists.specs.Lists.{_∈_, keep, tabulate}
 use Rattle.lists.proofs.Lists.{any-out, keep-in, keep-out, tabulate-at, length-tabulate}
+use Rattle.lists.proofs.Every.{flat-in, flat-out}
 use Rattle.lists.proofs.Members.{map-in, map-out, at-in, distinct-length}
 use Rattle.lists.proofs.Tests.{test, and-both, and-parts}
 use Rattle.automata.specs.Automaton.{Transition, Automaton, InBounds, leaving}
@@ -24,16 +25,6 @@ use Rattle.equivalence.specs.Equivalent.{Reached, start, step, Alike, al
 use Rattle.equivalence.proofs.Triggers.{trigger-test, trigger-passes, not-true, not-false, none-out, firsts-out, firsts-in, within-test, within-passes}
 
 -- lists of lists
-flat-in : {X Y : Type 0} (f : X → List Y) {x : X} {y : Y} {l : List X} → x ∈ l → y ∈ f x → y ∈ flatMap f l
-unfolding flatMap
-flat-in f {y = y} {l = z ∷ l} (List·Memᴰ·head e) m = Memᴰ·append-left (flatMap f l) (subst (λ a. y ∈ f a) e m)
-flat-in f {l = z ∷ l} (List·Memᴰ·tail n) m = Memᴰ·append-right (f z) (flat-in f n m)
-
-flat-out : {X Y : Type 0} (f : X → List Y) (y : Y) (l : List X) → y ∈ flatMap f l → (x : X) × x ∈ l × y ∈ f x
-unfolding flatMap
-flat-out f y [] m = elim m [ ]
-flat-out f y (x ∷ l) m = ⊎-elim (λ k. (x, List·Memᴰ·head refl, k)) (λ k. let r = flat-out f y l k in (r .0, List·Memᴰ·tail (r .1), r .2)) (List·Memᴰ·append-cases (f x) m)
-
 flat-length : {X Y : Type 0} (f : X → List Y) (m : ℕ) (l : List X) → ((x : X) → length (f x) ≡ m) → length (flatMap f l) ≡ length l * m
 unfolding flatMap
 flat-length f m [] h = omega arith

@@ -33,9 +33,6 @@ fresh-law n few f e one two a b =
 
 -- d has the sets after the join
 module _ (n1 p q : ℕ) (w : Pairs) (pre : CanOffer n1 p q w) where
-  pub offer-join : Valid (w .sets) × (p < w .sets .n) × (n1 + q < w .sets .n)
-  offer-join = (pre .good .valid, pre .p-in, pre .q-in)
-
   module _ (d : DSU) where
     -- the two were joined before
     had : JoinLaw (w .sets) d p (n1 + q) false → Offered n1 p q w (record { sets = d; one = w .one; two = w .two; made = w .made })

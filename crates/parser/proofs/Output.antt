@@ -12,6 +12,7 @@ use Rattle.grammar.specs.Places.{spelled, Spelt, Drawn}
 use Rattle.grammar.specs.declared.pieces.Arrow.{Arrow}
 use Rattle.grammar.proofs.Many.{text-drawn}
 use Rattle.grammar.proofs.Progress.{holds-found}
+use Rattle.lists.proofs.Members.{map-out}
 use Rattle.lists.specs.Lists.{_∈_, any}
 use Rattle.automata.specs.Automaton.{Transition}
 use Rattle.automata.specs.Ordered.{inOrder}
@@ -86,11 +87,6 @@ labels-names t [] a f = a
 labels-names t (e ∷ es) a f =
     let d = f e (List·Memᴰ·head refl) in
     labels-names t es (labels-add _ (labels-add _ a (spelt-label t (e .from) (d .from-spelt))) (spelt-label t (e .to) (d .to-spelt))) (λ e m. f e (List·Memᴰ·tail m))
-
-map-out : {X Y : Type 0} (f : X → Y) (l : List X) (y : Y) → y ∈ map f l → (x : X) × x ∈ l × (y ≡ f x)
-map-out f [] y m = elim m [ ]
-map-out f (x ∷ l) y (List·Memᴰ·head q) = (x, List·Memᴰ·head refl, q)
-map-out f (x ∷ l) y (List·Memᴰ·tail m) = let r = map-out f l y m in (r .0, List·Memᴰ·tail (r .1), r .2)
 
 -- a text whose names are labels and whose transitions are ranges that are not empty
 module _ (t : List ℕ) (g : Told) (s : Spelt t (g .start)) (f : (e : Arrow) → e ∈ g .arrows → Drawn t e) where

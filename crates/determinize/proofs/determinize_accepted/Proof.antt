@@ -10,7 +10,7 @@ pub determinize-accepted-spec : {M : Type 1} → statement M
 determinize-accepted-spec =
     tie.close
     (tie.spec (λ c. search needs) (λ c. search needs) (λ c. search needs) (λ c κs. search (fresh, needs)) (λ c. search needs)
-    (λ c. search needs) (λ c. search needs) (λ c. search needs) (λ c κs. search (fresh, needs)) (λ c. search needs)
+    (λ c. search needs) (λ c. search needs) (λ c. search needs) (λ c κs. search needs) (λ c. search needs)
     (λ c. search (accepted-many, needs)) (λ c. search needs) (λ c. search (accepted-part, needs)) (λ c. search (accepted-part, needs))
     (λ c. search (accepted-part, needs))
     (λ c κs.

@@ -11,5 +11,5 @@ epsilon-eliminate-spec =
     (λ c κs. search needs) (λ c. search needs) (λ c. search needs) (λ c. search room-stopped) (λ c κs. search needs) (λ c. search needs)
     (λ c κs. sheet-ready _ _ _ _ (c .before .before .before .before .before .before .lacks-room .ensures) (c .before .before .before .before .before .if1 .left) _
     (c .before .before .before .before .check .ensures) (c .before .before .enum-told .given .1))
-    (λ c. search needs) (λ c. search needs) (λ c. search needs) (λ c. search (sheet-given, sheet-stopped)) (λ c. search needs)
+    (λ c. search needs) (λ c. search needs) (λ c. search needs) (λ c. search sheet-given) (λ c. search needs)
     (λ c. search needs) (λ c. search (sheet-given, sheet-stopped)))

@@ -10,4 +10,4 @@ intersect-second-spec =
     tie.close
     (tie.spec
     (λ c κs. search needs) (λ c. search needs) (λ c κs. search (check-accepted, needs)) (λ c. search needs) (λ c. search needs) (λ c. search needs)
-    (λ c. search (second-passed, second-refused)) (λ c. search (second-passed, second-refused)))
+    (λ c. search second-passed) (λ c. search (second-passed, second-refused)))

@@ -16,5 +16,5 @@ intersection-spec =
       room-words (g .out .now) (g .names .now) _ (c .before .before .before .before .before .before .lacks-room .ensures) (c .before .before .before .before .before .if1 .left),
       room-bytes (g .out .now) (g .names .now) _ (c .before .before .before .before .before .before .lacks-room .ensures) (c .before .before .before .before .before .if1 .left),
     ))
-    (λ c. search needs) (λ c. search needs) (λ c. search needs) (λ c. search (first-passed, first-refused)) (λ c. search needs)
+    (λ c. search needs) (λ c. search needs) (λ c. search needs) (λ c. search first-passed) (λ c. search needs)
     (λ c. search needs) (λ c. search (first-passed, first-refused)))
