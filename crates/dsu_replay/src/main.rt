@@ -10,6 +10,8 @@ use dsu::Found;
 use dsu::Outcome;
 ghost use Prim.Native.Nat.{_≤_};
 ghost use mathlib.Core.Path.{_≡_};
+ghost use Rattle.dsu_replay.specs.Values.{chainTo, withOne};
+ghost use Rattle.dsu_replay.specs.Replay.{digitOf, numberAt, lineOf, Readable, tallied, afterFind, afterChange, hasAt, afterLine};
 
 fn wide(x: u32) -> usize
     ensures { λ r. ⌜ r ≡ x ⌝ }
@@ -18,7 +20,9 @@ fn wide(x: u32) -> usize
 }
 
 // Each element's parent is the next and its size one larger, as deep as sizes that grow allow; the last has the parent given.
-fn chain(last: u32) -> DSU {
+fn chain(last: u32) -> DSU
+    ensures { λ r. ⌜ r ≡ chainTo last ⌝ }
+{
     let mut repr = [0u32; 512];
     let mut size = [0u32; 512];
     let mut i: u32 = 0;
@@ -32,7 +36,9 @@ fn chain(last: u32) -> DSU {
 }
 
 // Sets of n, each element alone, but for the parent and the size of element 1.
-fn with_one(n: usize, parent: u32, own: u32) -> DSU {
+fn with_one(n: usize, parent: u32, own: u32) -> DSU
+    ensures { λ r. ⌜ r ≡ withOne n parent own ⌝ }
+{
     let fresh = DSU::new(8);
     let mut d = fresh.sets;
     d.repr[1] = parent;
@@ -116,7 +122,8 @@ enum Line {
 }
 
 fn digit(b: u8) -> usize
-    ensures { λ r. ⌜ r ≤ 9 ⌝ }
+    ensures small { λ r. ⌜ r ≤ 9 ⌝ }
+    ensures is { λ r. ⌜ r ≡ digitOf b ⌝ }
 {
     if b < 48 {
         return 0;
@@ -127,19 +134,37 @@ fn digit(b: u8) -> usize
     (b - 48) as usize
 }
 
-fn read_line() -> Line {
-    let mut line = [0u8; 10];
-    let got = io::read_full(0, &mut line);
-    if got < 10 {
-        return Line::End;
-    }
-    let a = 100 * digit(line[2]) + 10 * digit(line[3]) + digit(line[4]);
-    let b = 100 * digit(line[6]) + 10 * digit(line[7]) + digit(line[8]);
+// The number of the three digits from a place on.
+fn number(line: &[u8; 10], at: usize) -> usize
+    requires { ⌜ at ≤ 7 ⌝ }
+    ensures { λ r. ⌜ r ≡ numberAt (now (line .entry)) at ⌝ }
+{
+    100 * digit(line[at]) + 10 * digit(line[at + 1]) + digit(line[at + 2])
+}
+
+// The line that ten bytes are.
+fn line_of(line: &[u8; 10]) -> Line
+    ensures { λ r. ⌜ r ≡ lineOf (now (line .entry)) ⌝ }
+{
+    let a = number(line, 2);
+    let b = number(line, 6);
     Line::Read {
         kind: line[0],
         a,
         b,
     }
+}
+
+// The next line of standard input. Nothing can be said of which bytes are read.
+fn read_line() -> Line
+    ensures { λ r. ⌜ Readable r ⌝ }
+{
+    let mut line = [0u8; 10];
+    let got = io::read_full(0, &mut line);
+    if got < 10 {
+        return Line::End;
+    }
+    line_of(&line)
 }
 
 // The sets so far, and how many answers were as in the list, or not.
@@ -149,7 +174,9 @@ struct Run {
     differed: u64,
 }
 
-fn counted(mut s: Run, same: bool) -> Run {
+fn counted(mut s: Run, same: bool) -> Run
+    ensures { λ r. ⌜ r ≡ tallied s same ⌝ }
+{
     if same {
         s.agreed = std::num::wrapping_add_u64(s.agreed, 1);
     } else {
@@ -158,7 +185,9 @@ fn counted(mut s: Run, same: bool) -> Run {
     s
 }
 
-fn after_find(mut s: Run, f: FindAnswer, b: usize) -> Run {
+fn after_find(mut s: Run, f: FindAnswer, b: usize) -> Run
+    ensures { λ r. ⌜ r ≡ afterFind s f b ⌝ }
+{
     let sets = f.sets;
     s.sets = sets;
     let found = f.found;
@@ -168,7 +197,9 @@ fn after_find(mut s: Run, f: FindAnswer, b: usize) -> Run {
     }
 }
 
-fn after_change(mut s: Run, a: Answer) -> Run {
+fn after_change(mut s: Run, a: Answer) -> Run
+    ensures { λ r. ⌜ r ≡ afterChange s a ⌝ }
+{
     let sets = a.sets;
     s.sets = sets;
     let outcome = a.outcome;
@@ -178,7 +209,9 @@ fn after_change(mut s: Run, a: Answer) -> Run {
     }
 }
 
-fn has(s: Run, x: [u32; 512], a: usize, b: usize) -> Run {
+fn has(s: Run, x: [u32; 512], a: usize, b: usize) -> Run
+    ensures { λ r. ⌜ r ≡ tallied s (hasAt x a b) ⌝ }
+{
     if a < 512 {
         let v = x[a];
         return counted(s, wide(v) == b);
@@ -186,7 +219,9 @@ fn has(s: Run, x: [u32; 512], a: usize, b: usize) -> Run {
     counted(s, false)
 }
 
-fn turn(s: Run, kind: u8, a: usize, b: usize) -> Run {
+fn turn(s: Run, kind: u8, a: usize, b: usize) -> Run
+    ensures { λ r. ⌜ r ≡ afterLine s kind a b ⌝ }
+{
     let d = s.sets;
     if kind == 110 {
         return after_change(s, DSU::new(a));

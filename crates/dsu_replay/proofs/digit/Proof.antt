@@ -1,0 +1,9 @@
+-- `digit` meets its contract: the tests in the definition's order.
+use Rattle.dsu_replay.proofs.Runs.{lineLaws}
+use Rattle.dsu_replay.proofs.digit.Statement.{statement}
+use Rattle.dsu_replay.proofs.digit.Tie as tie
+
+pub digit-spec : {M : Type 1} → statement M
+digit-spec =
+    tie.close
+    (tie.spec (λ c. search lineLaws) (λ c. search lineLaws) (λ c. search lineLaws) (λ c. search lineLaws))

@@ -1,0 +1,3 @@
+-- What the contracts of the test program cite.
+pub mod Values
+pub mod Replay
