@@ -14,45 +14,9 @@ Inv-loop text at₀ at = (at ≤ length text) × (wellformed text ≡ wellformed
 abbrev μ-loop : tie.MeasureT-loop
 μ-loop text at₀ at = length text - at
 
-loop-holds : tie.Need-loop-holds Inv-loop μ-loop
-loop-holds c = search needs
-
-next-requires : tie.Need-next-requires Inv-loop μ-loop
-next-requires c κs = search needs
-
-enum-known-s : tie.Need-enum-known-s Inv-loop μ-loop
-enum-known-s c = search needs
-
-loop-less : tie.Need-loop-less Inv-loop μ-loop
-loop-less c = search wellformedLoop
-
-loop-again : tie.Need-loop-again Inv-loop μ-loop
-loop-again c = search wellformedLoop
-
-enum-told : tie.Need-enum-told Inv-loop μ-loop
-enum-told c = search needs
-
-returns : tie.Need-returns Inv-loop μ-loop
-returns c = search wellformedLoop
-
-enum-told-2 : tie.Need-enum-told-2 Inv-loop μ-loop
-enum-told-2 c = search needs
-
-returns-2 : tie.Need-returns-2 Inv-loop μ-loop
-returns-2 c = search wellformedLoop
-
 pub is-wellformed-spec : {M : Type 1} → statement M
 is-wellformed-spec =
     tie.close
     (tie.spec
-    Inv-loop
-    μ-loop
-    loop-holds
-    next-requires
-    enum-known-s
-    loop-less
-    loop-again
-    enum-told
-    returns
-    enum-told-2
-    returns-2)
+    Inv-loop μ-loop (λ c. search needs) (λ c κs. search needs) (λ c. search needs) (λ c. search wellformedLoop) (λ c. search wellformedLoop)
+    (λ c. search needs) (λ c. search wellformedLoop) (λ c. search needs) (λ c. search wellformedLoop))

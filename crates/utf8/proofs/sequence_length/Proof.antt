@@ -4,20 +4,8 @@ use Rattle.utf8.proofs.Lead.{ones-0, ones-2, ones-3, ones-4, ones-other
 use Rattle.utf8.proofs.sequence_length.Statement.{statement}
 use Rattle.utf8.proofs.sequence_length.Tie as tie
 
-returns : tie.Need-returns
-returns c = search (ones-0, needs)
-
-returns-2 : tie.Need-returns-2
-returns-2 c = search (ones-2, needs)
-
-returns-3 : tie.Need-returns-3
-returns-3 c = search (ones-3, needs)
-
-returns-4 : tie.Need-returns-4
-returns-4 c = search (ones-4, needs)
-
 returns-5 : tie.Need-returns-5
 returns-5 c = let r = c .match .rest in ones-other _ (c .before .fits .b .fits) (r .0 .0 .0 .1) (r .0 .0 .1) (r .0 .1) (r .1)
 
 pub sequence-length-spec : {M : Type 1} → statement M
-sequence-length-spec = tie.close (tie.spec returns returns-2 returns-3 returns-4 returns-5)
+sequence-length-spec = tie.close (tie.spec (λ c. search (ones-0, needs)) (λ c. search (ones-2, needs)) (λ c. search (ones-3, needs)) (λ c. search (ones-4, needs)) returns-5)

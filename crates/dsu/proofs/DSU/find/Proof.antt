@@ -4,11 +4,5 @@ use Rattle.dsu.proofs.Finding.{find-made}
 use Rattle.dsu.proofs.DSU.find.Statement.{statement}
 use Rattle.dsu.proofs.DSU.find.Tie as tie
 
-find-from-requires : tie.Need-find-from-requires
-find-from-requires c κs = search needs
-
-returns : tie.Need-returns
-returns c = search find-made
-
 pub find-spec : {M : Type 1} → statement M
-find-spec = tie.close (tie.spec find-from-requires returns)
+find-spec = tie.close (tie.spec (λ c κs. search needs) (λ c. search find-made))

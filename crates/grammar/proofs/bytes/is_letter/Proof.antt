@@ -5,9 +5,6 @@ use Rattle.grammar.proofs.Letters.{letter-low}
 use Rattle.grammar.proofs.bytes.is_letter.Statement.{statement}
 use Rattle.grammar.proofs.bytes.is_letter.Tie as tie
 
-returns : tie.Need-returns
-returns c = search letter-low
-
 returns-2 : tie.Need-returns-2
 unfolding isLetter
 returns-2 c = search tests
@@ -23,4 +20,4 @@ returns-4 c = search tests
 pub is-letter-spec : {M : Type 1} → statement M
 is-letter-spec =
     tie.close
-    (tie.spec returns returns-2 returns-3 returns-4)
+    (tie.spec (λ c. search letter-low) returns-2 returns-3 returns-4)
