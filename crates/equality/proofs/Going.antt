@@ -11,8 +11,8 @@ use Rattle.sheets.specs.Runs.{startsOf, RunAt}
 use Rattle.sheets.specs.Sheet.{stateCount, read}
 use Rattle.sheets.proofs.Runs.{run-at, starts-indexed}
 use lib.Seq.{sets}
-use Rattle.equality.specs.declared.Seen.{Seen}
-use Rattle.equality.specs.declared.Seen.the-variants.{Alike, Differ}
+use Rattle.equality.specs.declared.pairs.Seen.{Seen}
+use Rattle.equality.specs.declared.pairs.Seen.the-variants.{Alike, Differ}
 use Rattle.equality.specs.declared.Verdict.the-variants.{Same, Different}
 use Rattle.equality.specs.Successors.{stateAfter, acceptOf}
 use Rattle.equality.specs.Forced.{states}

@@ -15,9 +15,9 @@ use Rattle.sheets.specs.Sheet.{stateCount, read}
 use Rattle.sheets.proofs.Meaning.{read-well}
 use Rattle.dsu.specs.declared.DSU.{DSU}
 use Rattle.dsu.specs.Laws.{Valid, JoinLaw}
-use Rattle.equality.specs.declared.First.{First}
-use Rattle.equality.specs.declared.First.the-variants.{Symbol, Nothing}
-use Rattle.equality.specs.declared.Seen.the-variants.{Alike, Differ}
+use Rattle.equality.specs.declared.pairs.First.{First}
+use Rattle.equality.specs.declared.pairs.First.the-variants.{Symbol, Nothing}
+use Rattle.equality.specs.declared.pairs.Seen.the-variants.{Alike, Differ}
 use Rattle.equality.specs.Successors.{successor, acceptOf}
 use Rattle.equality.specs.Forced.{states}
 use Rattle.equality.specs.Code.{twoOf, Pairs, Common, FirstOf, classes, queue, Stored, withSets, Offered, Ready, Saw}

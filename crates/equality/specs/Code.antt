@@ -13,10 +13,10 @@ use Rattle.dsu.specs.declared.DSU.{DSU}
 use Rattle.dsu.specs.Classes.{Classes, Merges}
 use Rattle.dsu.specs.Laws.{Valid, classOf}
 use Rattle.dsu.specs.Sets.{setsOf}
-use Rattle.equality.specs.declared.First.{First}
-use Rattle.equality.specs.declared.First.the-variants.{Symbol, Nothing}
-use Rattle.equality.specs.declared.Seen.{Seen}
-use Rattle.equality.specs.declared.Seen.the-variants.{Alike, Differ}
+use Rattle.equality.specs.declared.pairs.First.{First}
+use Rattle.equality.specs.declared.pairs.First.the-variants.{Symbol, Nothing}
+use Rattle.equality.specs.declared.pairs.Seen.{Seen}
+use Rattle.equality.specs.declared.pairs.Seen.the-variants.{Alike, Differ}
 use Rattle.equality.specs.Successors.{successor, acceptOf}
 use Rattle.equality.specs.Forced.{Two, states}
 use Rattle.equality.specs.Walking.{Queue, Trail, Walking, Closed, Pushed}

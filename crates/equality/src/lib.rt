@@ -1,288 +1,24 @@
-// Exact equality (document 01, "Equality"): the starts of two deterministic automata are joined, and pairs of states are walked
-// over the common ranges of their records. Each pair joins two classes of states, so that there are fewer pairs than states; for
-// each, every record of the one state is held against every record of the other.
-ghost use mathlib.Core.Path.{_≡_};
-ghost use Prim.Native.Nat.{_≤_, _<_};
-ghost use lib.ListN.{length, getD};
-ghost use Rattle.automata.specs.Records.{recordAt};
+// Exact equality (document 01, "Equality"): both sheets are determinized, and the pairs of states of the two determinizations are walked.
+ghost use Prim.Native.Nat.{_≤_};
+ghost use lib.ListN.{length};
 ghost use Rattle.sheets.specs.Accepted.{Accepted};
-ghost use Rattle.sheets.specs.Sheet.{stateCount, read};
+ghost use Rattle.sheets.specs.Sheet.{read};
 ghost use Rattle.automata.specs.WellFormed.{lastSymbol};
 ghost use Rattle.determinize.specs.Deterministic.{Deterministic};
 ghost use Rattle.determinize.specs.Determinize.{determinize};
-ghost use Rattle.equality.specs.Successors.{acceptOf};
-ghost use Rattle.equality.specs.Walking.{Chained, Spelled};
-ghost use Rattle.equality.specs.Code.{twoOf, FirstOf, pairsOf, trailOf, Stored, Ready, Saw, Going, Given};
-ghost use Rattle.equality.specs.Verdict.{Decided};
 ghost use Rattle.equality.specs.Equality.{withSecond, determinized, compared, Judged};
 use determinize::Determinized;
-use dsu::DSU;
 use refusal::Refusal;
 use refusal::StateRefusal;
 use sheets::Checked;
 
-// The first symbol that two records share, if there is one.
-pub enum First {
-    Symbol(u32),
-    Nothing,
-}
-
-// What the records of a pair give: no difference, or a symbol that leads to one.
-pub enum Seen {
-    Alike,
-    Differ(u32),
-}
-
-// How many pairs there are after a turn, and what its records gave.
-pub struct Turned {
-    pub made: usize,
-    pub seen: Seen,
-}
+mod pairs;
 
 // The verdict of exact equality: same with the joins made, different with the length of the word written, or refused.
 pub enum Verdict {
     Same(usize),
     Different(usize),
     Refused(Refusal),
-}
-
-// The first symbol from low to high that the records d and e share.
-fn first_common(d: &[u32], e: &[u32], low: u32, high: u32) -> First
-    requires { ⌜ (length (now d) ≡ 5) × (length (now e) ≡ 5) ⌝ }
-    ensures { λ r. ⌜ FirstOf (recordAt (now (d .entry)) 0) (recordAt (now (e .entry)) 0) low high r ⌝ }
-{
-    match ranges::intersect_ranges(d[2], d[3], e[2], e[3]) {
-        ranges::Common::Nothing => First::Nothing,
-        ranges::Common::Range(first, last) => {
-            match ranges::intersect_ranges(first, last, low, high) {
-                ranges::Common::Nothing => First::Nothing,
-                ranges::Common::Range(x, _) => First::Symbol(x),
-            }
-        }
-    }
-}
-
-// The pair p, q, met from pair i by x, put behind the others.
-fn push(
-    one: &mut [u32; 512],
-    two: &mut [u32; 512],
-    from: &mut [u32; 512],
-    by: &mut [u32; 512],
-    depth: &mut [u32; 512],
-    made: usize,
-    i: usize,
-    x: u32,
-    p: u32,
-    q: u32,
-)
-    requires { ⌜ (made < 512) × (i < made) × (getD (now depth) i 0 ≤ i) ⌝ }
-    ensures { λ r. ⌜ Stored (now (one .entry)) (now (two .entry)) (now (from .entry)) (now (by .entry)) (now (depth .entry)) made i x p q (now (one .exit)) (now (two .exit)) (now (from .exit)) (now (by .exit)) (now (depth .exit)) ⌝ }
-{
-    one[made] = p;
-    two[made] = q;
-    from[made] = i as u32;
-    by[made] = x;
-    depth[made] = depth[i] + 1;
-}
-
-// The word that leads to the successors of pair i under x, at the front of out; how many symbols it has.
-fn spell(
-    from: &[u32; 512],
-    by: &[u32; 512],
-    depth: &[u32; 512],
-    i: usize,
-    x: u32,
-    out: &mut [u32],
-) -> usize
-    requires { ⌜ Chained (trailOf (now from) (now by) (now depth)) i × (i < 512) × (getD (now depth) i 0 < length (now out)) ⌝ }
-    ensures { λ n. ⌜ Spelled (trailOf (now (from .entry)) (now (by .entry)) (now (depth .entry))) i x n (now (out .entry)) (now (out .exit)) ⌝ }
-{
-    let mut at = depth[i] as usize;
-    let n = at + 1;
-    out[at] = x;
-    let mut c = i;
-    while 0 < at {
-        at -= 1;
-        out[at] = by[c];
-        c = from[c] as usize;
-    }
-    n
-}
-
-// The successors of pair i, which has the records ra and rb, up to the first two that differ in acceptance: joined, and put behind the
-// other pairs where they were not joined before. Pair i is made of one[i] and two[i]; but for the first, it was met from pair from[i]
-// by the symbol by[i], and depth[i] symbols lead to it. repr and size are the join sets of the n states of both.
-fn turn(
-    a: &[u32],
-    b: &[u32],
-    ra: &[u32],
-    rb: &[u32],
-    low: u32,
-    high: u32,
-    repr: &mut [u32; 512],
-    size: &mut [u32; 512],
-    one: &mut [u32; 512],
-    two: &mut [u32; 512],
-    from: &mut [u32; 512],
-    by: &mut [u32; 512],
-    depth: &mut [u32; 512],
-    n: usize,
-    mut made: usize,
-    n1: usize,
-    i: usize,
-) -> Turned
-    requires { ⌜ Ready (now a) (now b) low high (now ra) (now rb) n1 i (pairsOf (now repr) (now size) (now one) (now two) (now from) (now by) (now depth) n made) ⌝ }
-    ensures { λ r. ⌜ Saw (twoOf (now (a .entry)) (now (b .entry)) low high) i (pairsOf (now (repr .exit)) (now (size .exit)) (now (one .exit)) (now (two .exit)) (now (from .exit)) (now (by .exit)) (now (depth .exit)) n (r .made)) (r .seen) ⌝ }
-{
-    let ca = ra.len() / 5;
-    let cb = rb.len() / 5;
-    let mut j: usize = 0;
-    let seen = 'runs: loop {
-        if ca <= j {
-            break 'runs Seen::Alike;
-        }
-        let mut k: usize = 0;
-        while k < cb {
-            match first_common(&ra[5 * j..5 * j + 5], &rb[5 * k..5 * k + 5], low, high) {
-                First::Nothing => {
-                    k += 1;
-                }
-                First::Symbol(x) => {
-                    let p = ra[5 * j + 4];
-                    let q = rb[5 * k + 4];
-                    if sheets::accept_word(a, p) != sheets::accept_word(b, q) {
-                        break 'runs Seen::Differ(x);
-                    }
-                    k += 1;
-                    if dsu::join_in(repr, size, n, p as usize, n1 + q as usize) {
-                        push(one, two, from, by, depth, made, i, x, p, q);
-                        made += 1;
-                    }
-                }
-            }
-        }
-        j += 1;
-    };
-    Turned { made, seen }
-}
-
-// The walk from the joined starts on: each pair in the queue has its turn. starts_a and starts_b say where the records of each
-// state begin.
-fn walk_pairs(
-    a: &[u32],
-    b: &[u32],
-    starts_a: &[u32],
-    starts_b: &[u32],
-    low: u32,
-    high: u32,
-    repr: &mut [u32; 512],
-    size: &mut [u32; 512],
-    one: &mut [u32; 512],
-    two: &mut [u32; 512],
-    from: &mut [u32; 512],
-    by: &mut [u32; 512],
-    depth: &mut [u32; 512],
-    n: usize,
-    mut made: usize,
-    n1: usize,
-    word: &mut [u32],
-) -> Verdict
-    requires { ⌜ Going (now a) (now b) (now «starts_a») (now «starts_b») low high n1 0 (pairsOf (now repr) (now size) (now one) (now two) (now from) (now by) (now depth) n made) (now word) ⌝ }
-    ensures { λ r. ⌜ Decided (twoOf (now (a .entry)) (now (b .entry)) low high) (now (word .entry)) (now (word .exit)) r ⌝ }
-{
-    let mut head: usize = 0;
-    while head < made {
-        let p = one[head];
-        let q = two[head];
-        let ra = sheets::run(a, starts_a, p);
-        let rb = sheets::run(b, starts_b, q);
-        let t = turn(
-            a,
-            b,
-            ra,
-            rb,
-            low,
-            high,
-            repr,
-            size,
-            one,
-            two,
-            from,
-            by,
-            depth,
-            n,
-            made,
-            n1,
-            head,
-        );
-        made = t.made;
-        let seen = t.seen;
-        match seen {
-            Seen::Differ(x) => {
-                return Verdict::Different(spell(from, by, depth, head, x, word));
-            }
-            Seen::Alike => {
-                head += 1;
-            }
-        }
-    }
-    Verdict::Same(made)
-}
-
-// The walk over two sheets in which every symbol from low to high has one transition in every state.
-fn walk(a: &[u32], b: &[u32], low: u32, high: u32, word: &mut [u32]) -> Verdict
-    requires { ⌜ Given (now a) (now b) low high (now word) ⌝ }
-    ensures { λ r. ⌜ Decided (twoOf (now (a .entry)) (now (b .entry)) low high) (now (word .entry)) (now (word .exit)) r ⌝ }
-{
-    let first = a[1];
-    let second = b[1];
-    if sheets::accept_word(a, first) != sheets::accept_word(b, second) {
-        return Verdict::Different(0);
-    }
-    let mut starts_a = [0u32; 257];
-    let mut starts_b = [0u32; 257];
-    sheets::run_starts(a, &mut starts_a);
-    sheets::run_starts(b, &mut starts_b);
-    let n1 = a[2] as usize;
-    let n2 = b[2] as usize;
-    let fresh = DSU::new(n1 + n2);
-    let sets = fresh.sets;
-    let n = sets.n;
-    let mut repr = sets.repr;
-    let mut size = sets.size;
-    dsu::join_in(
-        &mut repr,
-        &mut size,
-        n,
-        first as usize,
-        n1 + second as usize,
-    );
-    let mut one = [0u32; 512];
-    let mut two = [0u32; 512];
-    let mut from = [0u32; 512];
-    let mut by = [0u32; 512];
-    let mut depth = [0u32; 512];
-    one[0] = first;
-    two[0] = second;
-    walk_pairs(
-        a,
-        b,
-        &starts_a,
-        &starts_b,
-        low,
-        high,
-        &mut repr,
-        &mut size,
-        &mut one,
-        &mut two,
-        &mut from,
-        &mut by,
-        &mut depth,
-        n,
-        1,
-        n1,
-        word,
-    )
 }
 
 // The sheet d of a determinization against the determinization of b.
@@ -292,7 +28,7 @@ fn compare_second(d: &[u32], b: &[u32], low: u32, high: u32, word: &mut [u32]) -
 {
     let mut out = [0u32; 10500];
     match determinize::determinize_accepted(b, low, high, &mut out) {
-        Determinized::Sheet(n, _) => walk(d, &out[..n], low, high, word),
+        Determinized::Sheet(n, _) => pairs::walk(d, &out[..n], low, high, word),
         Determinized::Refused(r) => Verdict::Refused(Refusal::State(r)),
     }
 }

@@ -4,8 +4,8 @@ use native.Mathlib.Omega.{arith}
 use Rattle.equality.specs.Code.{pairsOf}
 use Rattle.equality.proofs.Turning.{Turning, turning, turn-accept-a, turn-accept-b, turn-join, turn-small, turn-push, turn-had, turn-put, turn-row, turn-done, turn-differ}
 use borrow.Author.Needs.{needs}
-use Rattle.equality.proofs.turn.Statement.{statement}
-use Rattle.equality.proofs.turn.Tie as tie
+use Rattle.equality.proofs.pairs.turn.Statement.{statement}
+use Rattle.equality.proofs.pairs.turn.Tie as tie
 
 abbrev Inv-loop : tie.InvT-loop
 Inv-loop a b ra rb low high repr₀ size₀ one₀ two₀ from₀ by₀ depth₀ n made₀ n1 i ca cb j k₀ repr size one two from by depth made k = Turning a b low high ra rb n1 i j k (pairsOf repr size one two from by depth n made)

@@ -5,8 +5,8 @@ use native.Mathlib.Omega.{arith}
 use lib.ListN.{length}
 use Rattle.equality.specs.Code.{pairsOf, Going}
 use Rattle.equality.proofs.Going.{going, walk-few, walk-run-a, walk-run-b, walk-spell, walk-differs, walk-same}
-use Rattle.equality.proofs.walk_pairs.Statement.{statement}
-use Rattle.equality.proofs.walk_pairs.Tie as tie
+use Rattle.equality.proofs.pairs.walk_pairs.Statement.{statement}
+use Rattle.equality.proofs.pairs.walk_pairs.Tie as tie
 
 abbrev Inv-loop : tie.InvT-loop
 Inv-loop a b starts-a starts-b low high repr₀ size₀ one₀ two₀ from₀ by₀ depth₀ n made₀ n1 word₀ head₀ repr size one two from by depth made word head = Going a b starts-a starts-b low high n1 head (pairsOf repr size one two from by depth n made) word × (word ≡ word₀)

@@ -3,8 +3,8 @@ use mathlib.Core.Path.{refl}
 use Rattle.equality.proofs.Going.{walk-first, walk-begin}
 use Rattle.equality.proofs.Joining.{begin-join, begin-law}
 use borrow.Author.Needs.{needs}
-use Rattle.equality.proofs.walk.Statement.{statement}
-use Rattle.equality.proofs.walk.Tie as tie
+use Rattle.equality.proofs.pairs.walk.Statement.{statement}
+use Rattle.equality.proofs.pairs.walk.Tie as tie
 
 join-in-requires : tie.Need-join-in-requires
 join-in-requires c κs =

@@ -7,8 +7,8 @@ use lib.Seq.{drop-set-lt}
 use Rattle.equality.specs.Code.{trailOf}
 use Rattle.equality.proofs.Spelling.{Spelling, spell-start, spell-inside, spell-next, spell-done}
 use borrow.Author.Needs.{needs}
-use Rattle.equality.proofs.spell.Statement.{statement}
-use Rattle.equality.proofs.spell.Tie as tie
+use Rattle.equality.proofs.pairs.spell.Statement.{statement}
+use Rattle.equality.proofs.pairs.spell.Tie as tie
 
 abbrev Inv-loop : tie.InvT-loop
 Inv-loop from by depth i x out₀ at₀ n c₀ out at c = Spelling (trailOf from by depth) i x n out₀ out at c
