@@ -1,4 +1,6 @@
--- The laws of states, of records and of their order.
+-- The laws of states, of the transitions that leave one, of pairs of states, of records and of their order.
 pub mod States
+pub mod Leaving
+pub mod Pairs
 pub mod Records
 pub mod Ordered

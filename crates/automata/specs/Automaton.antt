@@ -5,7 +5,7 @@ use mathlib.Core.List.{List, [], _∷_}
 use mathlib.Core.Path.{_≡_}
 use lib.Dec.{eqb, leb}
 use lib.ListN.{getD}
-use Rattle.lists.specs.Lists.{_∈_, keep, tabulate}
+use Rattle.lists.specs.Lists.{_∈_, any, keep, tabulate}
 
 -- kind 0 is an epsilon, kind 1 a range of symbols from first to last
 pub record Transition : Type 0 where
@@ -62,3 +62,11 @@ leaving A q = keep (λ e. eqb (e .from) q) (A .transitions)
 -- the transitions that are ranges
 unfoldable pub rangesOf : List Transition → List Transition
 rangesOf es = keep (λ e. eqb (e .kind) 1) es
+
+-- an epsilon is among the transitions
+unfoldable pub hasEpsilon : List Transition → Bool
+hasEpsilon es = any (λ e. eqb (e .kind) 0) es
+
+-- no transition is an epsilon
+abbrev pub EpsilonFree : Automaton → Type 0
+EpsilonFree A = (e : Transition) → e ∈ A .transitions → e .kind ≡ 1

@@ -11,10 +11,10 @@ use lib.Dec.{ltb}
 use lib.ListN.{length}
 use Rattle.automata.specs.Automaton.{Automaton, read, Accepts, Word}
 use Rattle.automata.specs.WellFormed.{WellFormed, Fits, lastSymbol}
-use Rattle.determinize.specs.Deterministic.{Deterministic}
+use Rattle.automata.specs.Deterministic.{Deterministic, Between}
 use Rattle.determinize.specs.Determinize.{determinize}
 use Rattle.determinize.specs.Sheets.{labelled, determinizeSheet}
-use Rattle.determinize.proofs.Theorems.{determinize-deterministic, determinize-wellformed, determinize-fits}
+use Rattle.determinize.proofs.Theorems.{determinize-deterministic, determinize-between, determinize-wellformed, determinize-fits}
 use Rattle.labels.specs.Forms.{numbered}
 use Rattle.labels.specs.Labels.{labelsFault, writeLabels}
 use Rattle.labels.proofs.Labels.{read-write, fault-write}
@@ -58,6 +58,9 @@ module _ (s : List ℕ) (f : fault s ≡ 0) (D : Automaton) (e : determinize 0 l
   pub deterministic : Deterministic 0 lastSymbol D
   deterministic = determinize-deterministic 0 lastSymbol (Sheet.read s) (well-read .states) D e
 
+  pub between : Between 0 lastSymbol D
+  between = determinize-between 0 lastSymbol (Sheet.read s) (well-read .states) D e
+
   pub fits : Fits D
   fits = determinize-fits 0 lastSymbol (Sheet.read s) (well-read .states) D e
 
@@ -70,8 +73,7 @@ module _ (s : List ℕ) (f : fault s ≡ 0) (D : Automaton) (e : determinize 0 l
   -- it is no nfa, so that its complement only flips acceptance
   no-nfa : isNfa 0 lastSymbol D ≡ false
   no-nfa =
-      nfa-exact 0 lastSymbol D well (λ d m k. (omega arith, deterministic .below d m)) .1
-      (record { no-epsilon = deterministic .ranges; one = deterministic .one })
+      nfa-exact 0 lastSymbol D well (λ d m k. (omega arith, between .below d m)) .1 deterministic
 
   complement-flips : complemented 0 lastSymbol D ≡ flipped D
   unfolding complemented

@@ -6,7 +6,7 @@ use mathlib.Core.Logic.{_⊎_, inl, inr, _↔_}
 use mathlib.Core.Path.{_≡_, refl, sym, _∙_, ap}
 use native.Mathlib.Omega.{arith}
 use Rattle.lists.specs.Lists.{_∈_}
-use Rattle.automata.specs.Automaton.{Transition, Automaton, Run, stay, skip, read, Accepts, Word, none, more}
+use Rattle.automata.specs.Automaton.{Transition, Automaton, Run, stay, skip, read, Accepts, Word, none, more, EpsilonFree}
 use Rattle.automata.specs.WellFormed.{WellFormed, lastSymbol}
 use Rattle.determinize.specs.Determinize.{determinize}
 use Rattle.emptiness.specs.Reachable.{hasReachableAccepting, reachableAnswer}
@@ -15,7 +15,7 @@ use Rattle.equality.specs.Successors.{acceptAfter}
 use Rattle.equality.proofs.Successors.{accepts-after}
 use Rattle.output.specs.Output.{Pattern}
 use Rattle.product.specs.Product.{product, intersection}
-use Rattle.product.specs.Reached.{Blocked, EpsilonFree}
+use Rattle.product.specs.Reached.{Blocked}
 use Rattle.product.proofs.Theorems.{product-words, product-wellformed, product-written, product-read, product-given}
 use Rattle.refusal.specs.Answer.{given}
 use Rattle.sheets.specs.Checked.{sheetFirst}
@@ -77,7 +77,7 @@ module _ (s : List ℕ) (f : fault s ≡ 0) (D : Automaton) (e : determinize 0 l
     words-are : (w : List ℕ) → Accepts (x .automaton) w ↔ (Word 0 lastSymbol w × Accepts D w × (Accepts E w → ⊥))
     words-are w =
         let k = product-words D (flipped E) x made free-one free-other w in
-        let symbols : Accepts D w → Word 0 lastSymbol w = λ r. run-word lastSymbol (deterministic s f D e .below) (r .1) in (
+        let symbols : Accepts D w → Word 0 lastSymbol w = λ r. run-word lastSymbol (between s f D e .below) (r .1) in (
           λ r. let b = k .0 r in (symbols (b .0), b .0, other-words t g E h w (symbols (b .0)) .0 (b .1)),
           λ r. k .1 (r .1, other-words t g E h w (r .0) .1 (r .2)),
         )

@@ -11,9 +11,10 @@ use Rattle.lists.proofs.Tests.{test}
 use Rattle.automata.specs.Automaton.{Automaton}
 use Rattle.automata.specs.WellFormed.{mostTransitions}
 use Rattle.sets.specs.Sets.{Set}
+use Rattle.output.specs.Output.{transitionsFirst}
 use Rattle.refusal.specs.Answer.{refused, given}
 use Rattle.search.specs.Search.{Found, over, found}
-use Rattle.determinize.specs.Determinize.{table, built, limited, answerOf, determinize}
+use Rattle.determinize.specs.Determinize.{table, built, answerOf, determinize}
 
 module _ (lo hi : ℕ) (A : Automaton) where
   -- the three answers
@@ -23,11 +24,11 @@ module _ (lo hi : ℕ) (A : Automaton) where
 
   module _ (T : List Set) (e : table lo hi A ≡ found T) where
     pub answer-many : mostTransitions < length (built lo hi A T .transitions) → determinize lo hi A ≡ refused 22
-    unfolding determinize answerOf limited
+    unfolding determinize answerOf transitionsFirst
     answer-many h = ap (answerOf lo hi A) e ∙ rw (lt-ltb _ _ h)
 
     pub answer-given : length (built lo hi A T .transitions) ≤ mostTransitions → determinize lo hi A ≡ given (built lo hi A T)
-    unfolding determinize answerOf limited
+    unfolding determinize answerOf transitionsFirst
     answer-given h = ap (answerOf lo hi A) e ∙ rw (le-ltb mostTransitions (length (built lo hi A T .transitions)) h)
 
   -- which of them it is

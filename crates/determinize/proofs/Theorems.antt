@@ -22,7 +22,8 @@ use Rattle.refusal.specs.Answer.{refused, given}
 use Rattle.search.specs.Search.{found, over}
 use Rattle.determinize.specs.Partition.{Part, partOf, partition, Parts}
 use Rattle.determinize.specs.Determinize.{table, built, determinize}
-use Rattle.determinize.specs.Deterministic.{Deterministic, Sink}
+use Rattle.automata.specs.Deterministic.{Deterministic, Between}
+use Rattle.determinize.specs.Sink.{Sink}
 use Rattle.determinize.specs.Reached.{MoreThan, AllReached, degrees, MoreTransitions}
 use Rattle.determinize.proofs.Parts.{parts-exact}
 use Rattle.determinize.proofs.Steps.{part-step}
@@ -66,8 +67,12 @@ module _ (lo hi : ℕ) (A : Automaton) (ok : InBounds A) where
     pub determinize-deterministic : Deterministic lo hi D
     determinize-deterministic =
         let l = transition-facts lo hi A ok (by .sets) (by .whole) in
-        rw (by .is)
-        (record { ranges = λ d m. l d m .is-range; above = λ d m. l d m .low; below = λ d m. l d m .high; one = one-built lo hi A (by .sets) })
+        rw (by .is) (record { ranges = λ d m. l d m .is-range; one = one-built lo hi A (by .sets) })
+
+    pub determinize-between : Between lo hi D
+    determinize-between =
+        let l = transition-facts lo hi A ok (by .sets) (by .whole) in
+        rw (by .is) (record { above = λ d m. l d m .low; below = λ d m. l d m .high })
 
     -- a word leads to every state but the last, and the last is the sink
     pub determinize-reached : (j : ℕ) → suc j < D .size → (w : List ℕ) × Word lo hi w × Run D (D .start) w j

@@ -1,13 +1,12 @@
 -- Determinizing (document 01, "Determinizing"): the table of the nonempty sets that words reach, and the automaton made from it. `lo` and `hi` are
 -- the least and the greatest symbol.
 use Prim.Native.Nat.{ℕ, suc, _-_}
-use mathlib.Core.Bool.{cond, not}
+use mathlib.Core.Bool.{not}
 use mathlib.Core.List.{List, [], _∷_, _++_, map}
-use lib.Dec.{ltb}
 use lib.ListN.{length}
 use Rattle.lists.specs.Lists.{keep}
 use Rattle.automata.specs.Automaton.{Transition, Automaton}
-use Rattle.automata.specs.WellFormed.{mostStates, mostTransitions}
+use Rattle.automata.specs.WellFormed.{mostStates}
 use Rattle.search.specs.Search
 use Rattle.search.specs.Search.{Graph, Found, over, found}
 use Rattle.lists.specs.Index.{index, same}
@@ -15,6 +14,7 @@ use Rattle.sets.specs.Sets.{Set, isEmpty}
 use Rattle.words.specs.Simulation.{outgoing, step, startSet, kindOf}
 use Rattle.ranges.specs.Span.{Span}
 use Rattle.ranges.specs.Cuts.{cutAll}
+use Rattle.output.specs.Output.{transitionsFirst}
 use Rattle.refusal.specs.Answer.{Answer, refused, given}
 use Rattle.determinize.specs.Partition.{partition}
 
@@ -60,14 +60,10 @@ built lo hi A T = record {
   transitions = transitionsFrom lo hi A T 0 (states T);
 }
 
--- 22 where there are too many transitions
-unfoldable pub limited : Automaton → Answer Automaton
-limited D = cond (ltb mostTransitions (length (D .transitions))) (refused 22) (given D)
-
--- 21 where there are too many sets
+-- 21 where there are too many sets, 22 where there are too many transitions
 unfoldable pub answerOf : ℕ → ℕ → Automaton → Found Set → Answer Automaton
 answerOf lo hi A over = refused 21
-answerOf lo hi A (found T) = limited (built lo hi A T)
+answerOf lo hi A (found T) = transitionsFirst (built lo hi A T) (given (built lo hi A T))
 
 unfoldable pub determinize : ℕ → ℕ → Automaton → Answer Automaton
 determinize lo hi A = answerOf lo hi A (table lo hi A)

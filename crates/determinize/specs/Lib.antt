@@ -1,7 +1,7 @@
 -- Determinizing: parts, the table of sets and the result, and what words reach.
 pub mod Partition
 pub mod Determinize
-pub mod Deterministic
+pub mod Sink
 pub mod Reached
 pub mod Notes
 pub mod Sheets

@@ -23,7 +23,7 @@ use Rattle.sets.proofs.Sets.{pick-ext, pick-out, picked, has-below}
 use Rattle.sets.proofs.BitSet.{at-canon}
 use Rattle.sets.proofs.Stores.{inserted, length-insert}
 use Rattle.words.specs.Gather.{withAll}
-use Rattle.words.proofs.Epsilons.{named-to, named-next}
+use Rattle.sheets.proofs.Named.{named-to, named-next}
 use Rattle.words.proofs.Gather.{all-none, all-cons, all-one}
 use Rattle.emptiness.specs.Queue.{leadsTo, Line, Longer, Met, Left}
 

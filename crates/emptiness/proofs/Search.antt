@@ -24,8 +24,8 @@ use Rattle.sheets.specs.Accepted.{Accepted}
 use Rattle.sheets.specs.Runs.{RunAt}
 use Rattle.sheets.specs.Sheet.{stateCount, read}
 use Rattle.sheets.proofs.Meaning.{read-well}
+use Rattle.sheets.proofs.Named.{run-named}
 use Rattle.sheets.proofs.Runs.{run-at}
-use Rattle.words.specs.Epsilons.{Named}
 use Rattle.words.specs.Gather.{withAll}
 use Rattle.emptiness.specs.Queue.{leadsTo, Line, Met, Searched, Ready}
 use Rattle.emptiness.specs.Reachable.{Path, stay, follow, reachable}
@@ -61,18 +61,6 @@ module _ (s : List ℕ) (a : Accepted s) where
   ok : InBounds (read s)
   ok = read-well s a .states
 
-  -- the targets of a run
-  pub search-named : (q : ℕ) (run : List ℕ) → run ≡ writeRecords (leaving (read s) q) → Named (readRecords run)
-  unfolding leaving
-  search-named q run e =
-      record {
-        froms = λ d m. omega (arith, ok .froms d (kept d m), a .few-states);
-        tos = λ d m. omega (arith, ok .tos d (kept d m), a .few-states);
-      }
-    where
-      kept : (d : Transition) → d ∈ readRecords run → d ∈ read s .transitions
-      kept d m = keep-out _ d (read s .transitions) (rw (e, read-write) at m) .0
-
   module _ (seen queue : List ℕ) (head tail : ℕ) (t : Searched (read s) seen queue head tail) where
     pub search-line : Line seen queue tail
     search-line = t .line
@@ -101,7 +89,7 @@ module _ (s : List ℕ) (a : Accepted s) where
     search-next h run e after line end m =
         let q : ℕ = getD queue head 0 in
         let es : readRecords run ≡ leaving (read s) q = ap readRecords e ∙ read-write (leaving (read s) q) in
-        let n = search-named q run e in
+        let n = run-named s a q run e in
         record {
           line = m .line;
           within = omega (arith, m .longer .grows);
@@ -156,4 +144,4 @@ search-begin s starts seen queue r after i =
           placed = λ q h. absurd (false≢true (sym (ap (has q) (r .nothing) ∙ has-nil q) ∙ h));
         }
 
-pub ruleset searchLaws = (search-named, search-line, search-run, search-end, search-next, search-begin, needs)
+pub ruleset searchLaws = (run-named, search-line, search-run, search-end, search-next, search-begin, needs)

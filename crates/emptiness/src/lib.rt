@@ -9,7 +9,7 @@ ghost use Rattle.refusal.specs.Decision.{decisionOf};
 ghost use Rattle.sets.specs.BitSet.{setAt};
 ghost use Rattle.sheets.specs.Accepted.{Accepted};
 ghost use Rattle.sheets.specs.Sheet.{read};
-ghost use Rattle.words.specs.Epsilons.{Named};
+ghost use Rattle.sheets.specs.Runs.{Named};
 ghost use Rattle.emptiness.specs.Queue.{Line, Met, Ready};
 ghost use Rattle.emptiness.specs.Reachable.{reachable, hasReachableAccepting, reachableAnswer};
 use refusal::Decision;

@@ -19,7 +19,7 @@ use Rattle.labels.specs.declared.Checked.the-variants as labelAnswer
 use Rattle.labels.proofs.Labels.{label-list, count-read}
 use Rattle.output.specs.Gathering.{Collected}
 use Rattle.output.specs.Made.{outputOf}
-use Rattle.output.specs.Output.{Output, Pattern, outputs, roomFirst, labelsFirst}
+use Rattle.output.specs.Output.{Output, Pattern, outputs, roomFirst, labelsFirst, transitionsFirst}
 use Rattle.output.specs.declared.Made.the-variants.{Lengths, Refused}
 use Rattle.output.proofs.Answers.{made-given, made-refused, labels-accepted, labels-passed, labels-refused, room-lacking, room-enough, room-words, room-bytes}
 use Rattle.refusal.specs.Answer.{Answer}
@@ -35,13 +35,13 @@ use Rattle.sheets.specs.Sheet.{stateCount, read, write}
 use Rattle.sheets.proofs.Accepted.{check-accepted}
 use Rattle.sheets.proofs.Checking.{sheet-passed, sheet-refused}
 use Rattle.words.proofs.Epsilons.{fresh}
-use Rattle.epsilon.specs.Eliminate.{closureRanges, eliminated, limited, eliminateAnswer}
+use Rattle.epsilon.specs.Eliminate.{closureRanges, eliminated, eliminatedWith, eliminateAnswer}
 use Rattle.epsilon.specs.Tables.{TransitionsOf, Ready}
 
 -- the transitions of all states are gathered
 module _ (s : List ℕ) (a : Accepted s) (buf : List ℕ) (end : ℕ) (t : Collected buf end (flatMap (closureRanges (read s)) (states (stateCount s)))) where
-  pub too-many : 10240 < end → (o l : List ℕ) (ls : List (List ℕ)) → outputOf (Refused (State Transitions)) o l ≡ outputs o l (limited (eliminated (read s)) ls)
-  unfolding limited eliminated
+  pub too-many : 10240 < end → (o l : List ℕ) (ls : List (List ℕ)) → outputOf (Refused (State Transitions)) o l ≡ outputs o l (eliminatedWith (read s) ls)
+  unfolding eliminatedWith transitionsFirst eliminated
   too-many h o l ls = made-refused o l (State Transitions) _ (rw (lt-ltb 2048 _ (t .over h)))
 
   few : end ≤ 10240 → length (eliminated (read s) .transitions) ≤ mostTransitions
@@ -53,8 +53,8 @@ module _ (s : List ℕ) (a : Accepted s) (buf : List ℕ) (end : ℕ) (t : Colle
   few-transitions h = record { few = few h; whole = t .listed h .words }
 
   pub all-written : end ≤ 10240 → (o l o′ l′ : List ℕ) (w k : ℕ) (ls : List (List ℕ)) → Written o 0 (write (eliminated (read s))) o′ w → Written l 0 (writeLabels ls) l′ k
-      → outputOf (Lengths w k) o′ l′ ≡ outputs o l (limited (eliminated (read s)) ls)
-  unfolding limited
+      → outputOf (Lengths w k) o′ l′ ≡ outputs o l (eliminatedWith (read s) ls)
+  unfolding eliminatedWith transitionsFirst
   all-written h o l o′ l′ w k ls p q =
       made-given o l o′ l′ w k (record { automaton = eliminated (read s); labels = ls }) p q
       ∙ ap (outputs o l) (sym (rw (le-ltb 2048 (length (eliminated (read s) .transitions)) (few h))))
@@ -92,6 +92,6 @@ module _ (o l s b : List ℕ) (w : Bool) (e : w ≡ (ltb (length o) 10500 || ltb
     unfolding eliminateAnswer
     sheet-stopped i g = made-refused o l (Input i) _ (room-enough o l _ w e h ∙ sheet-refused s _ r f i g)
 
-    pub sheet-given : r ≡ sheetAnswer.Accepted → (x : Output) → x ≡ outputs o l (labelsFirst (stateCount s) b (limited (eliminated (read s)) (readLabels b))) → x ≡ outputs o l (roomFirst o l (eliminateAnswer s b))
+    pub sheet-given : r ≡ sheetAnswer.Accepted → (x : Output) → x ≡ outputs o l (labelsFirst (stateCount s) b (eliminatedWith (read s) (readLabels b))) → x ≡ outputs o l (roomFirst o l (eliminateAnswer s b))
     unfolding eliminateAnswer
     sheet-given g x p = p ∙ ap (outputs o l) (sym (room-enough o l _ w e h ∙ sheet-passed s _ r f g))

@@ -17,7 +17,7 @@ use Rattle.automata.specs.WellFormed.{Sound, WellFormed, mostStates, mostTransi
 use Rattle.automata.proofs.Ordered.{inOrder-ascending}
 use Rattle.labels.specs.Labels.{labelsOk, labelsFault, readLabels, writeLabels}
 use Rattle.labels.proofs.Labels
-use Rattle.output.specs.Output.{Pattern, labelsFirst}
+use Rattle.output.specs.Output.{Pattern, labelsFirst, transitionsFirst}
 use Rattle.refusal.specs.Answer.{refused, given}
 use Rattle.sets.specs.Sets.{Set}
 use Rattle.sheets.specs.Checked.{sheetFirst}
@@ -28,7 +28,7 @@ use Rattle.sheets.proofs.Meaning.{read-well, write-accepted}
 use Rattle.words.specs.Simulation.{closure, kindOf, kind}
 use Rattle.words.proofs.Closures.{closure-sound, closure-complete}
 use Rattle.words.proofs.Kind.{kindOf-least, kindOf-some}
-use Rattle.epsilon.specs.Eliminate.{closureKinds, eliminated, limited, eliminateAnswer}
+use Rattle.epsilon.specs.Eliminate.{closureKinds, eliminated, eliminatedWith, eliminateAnswer}
 use Rattle.epsilon.specs.Meaning.{ClosureRange}
 use Rattle.epsilon.proofs.Members.{eliminated-out, eliminated-in}
 use Rattle.epsilon.proofs.Numbers.{fault-most}
@@ -107,7 +107,7 @@ module _ (s b : List ℕ) where
         → eliminateAnswer s b ≡ given (record { automaton = eliminated (read s); labels = readLabels b }) → Outcome
 
   outcome : Outcome
-  unfolding eliminateAnswer sheetFirst labelsFirst limited labelsFault
+  unfolding eliminateAnswer sheetFirst labelsFirst eliminatedWith transitionsFirst labelsFault
   outcome = go (eqb (fault s) 0) refl
     where
       many : (c : Bool) → ltb mostTransitions (length (eliminated (read s) .transitions)) ≡ c → fault s ≡ 0 → labelsFault (stateCount s) b ≡ 0 → Outcome

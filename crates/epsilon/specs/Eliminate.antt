@@ -1,17 +1,13 @@
 -- Epsilon elimination (document 01, "Beside the equality"): the same states and start, each state with the ranges and the
 -- acceptance of its closure, equal transitions once.
 use Prim.Native.Nat.{ℕ}
-use mathlib.Core.Bool.{cond}
 use mathlib.Core.List.{List, map, flatMap}
-use lib.Dec.{ltb}
-use lib.ListN.{length}
 use Rattle.lists.specs.Lists.{tabulate}
 use Rattle.automata.specs.Automaton.{Transition, Automaton, states, leaving, rangesOf}
 use Rattle.automata.specs.Ordered.{inOrder}
-use Rattle.automata.specs.WellFormed.{mostTransitions}
 use Rattle.labels.specs.Labels.{readLabels}
-use Rattle.output.specs.Output.{Pattern, labelsFirst}
-use Rattle.refusal.specs.Answer.{Answer, refused, given}
+use Rattle.output.specs.Output.{Pattern, labelsFirst, transitionsFirst}
+use Rattle.refusal.specs.Answer.{Answer, given}
 use Rattle.sets.specs.Sets.{Set}
 use Rattle.sheets.specs.Checked.{sheetFirst}
 use Rattle.sheets.specs.Sheet.{stateCount, read}
@@ -46,10 +42,10 @@ eliminated A = record {
   transitions = inOrder (flatMap (closureRanges A) (states (A .size)));
 }
 
--- 22 where there are too many transitions, or else the automaton with its labels
-unfoldable pub limited : Automaton → List (List ℕ) → Answer Pattern
-limited A ls = cond (ltb mostTransitions (length (A .transitions))) (refused 22) (given (record { automaton = A; labels = ls }))
+-- 22 where there are too many transitions, or else the eliminated automaton with the labels ls
+unfoldable pub eliminatedWith : Automaton → List (List ℕ) → Answer Pattern
+eliminatedWith A ls = transitionsFirst (eliminated A) (given (record { automaton = eliminated A; labels = ls }))
 
 -- the answer for the sheet s and its labels b, which are kept
 unfoldable pub eliminateAnswer : List ℕ → List ℕ → Answer Pattern
-eliminateAnswer s b = sheetFirst s (labelsFirst (stateCount s) b (limited (eliminated (read s)) (readLabels b)))
+eliminateAnswer s b = sheetFirst s (labelsFirst (stateCount s) b (eliminatedWith (read s) (readLabels b)))

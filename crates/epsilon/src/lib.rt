@@ -17,7 +17,7 @@ ghost use Rattle.sheets.specs.Sheet.{stateCount, read, write};
 ghost use Rattle.words.specs.Epsilons.{Fresh};
 ghost use Rattle.words.specs.Gather.{Tables};
 ghost use Rattle.words.specs.Simulation.{closure, kindOf};
-ghost use Rattle.epsilon.specs.Eliminate.{movedTo, closureRanges, closureKinds, eliminated, limited, eliminateAnswer};
+ghost use Rattle.epsilon.specs.Eliminate.{movedTo, closureRanges, closureKinds, eliminated, eliminatedWith, eliminateAnswer};
 ghost use Rattle.epsilon.specs.Tables.{ClosuresOf, TransitionsOf, Ready};
 use output::Made;
 use refusal::Refusal;
@@ -147,7 +147,7 @@ fn put_sheet(s: &[u32], closures: &[u64], records: &[u32], out: &mut [u32]) -> u
 // Eliminates the epsilons of an accepted sheet with an accepted list of labels.
 fn eliminate_accepted(s: &[u32], labels: &[u8], out: &mut [u32], names: &mut [u8]) -> Made
     requires { ⌜ Ready (now s) (now out) (now names) × (labelsFault (stateCount (now s)) (now labels) ≡ 0) ⌝ }
-    ensures { λ r. ⌜ outputOf r (now (out .exit)) (now (names .exit)) ≡ outputs (now (out .entry)) (now (names .entry)) (limited (eliminated (read (now (s .entry)))) (readLabels (now (labels .entry)))) ⌝ }
+    ensures { λ r. ⌜ outputOf r (now (out .exit)) (now (names .exit)) ≡ outputs (now (out .entry)) (now (names .entry)) (eliminatedWith (read (now (s .entry))) (readLabels (now (labels .entry)))) ⌝ }
 {
     let mut closures = [0u64; 1024];
     let mut buf = [0u32; 20480];
@@ -163,7 +163,7 @@ fn eliminate_accepted(s: &[u32], labels: &[u8], out: &mut [u32], names: &mut [u8
 // Eliminates the epsilons of an accepted sheet.
 fn eliminate_checked(s: &[u32], labels: &[u8], out: &mut [u32], names: &mut [u8]) -> Made
     requires { ⌜ Ready (now s) (now out) (now names) ⌝ }
-    ensures { λ r. ⌜ outputOf r (now (out .exit)) (now (names .exit)) ≡ outputs (now (out .entry)) (now (names .entry)) (labelsFirst (stateCount (now (s .entry))) (now (labels .entry)) (limited (eliminated (read (now (s .entry)))) (readLabels (now (labels .entry))))) ⌝ }
+    ensures { λ r. ⌜ outputOf r (now (out .exit)) (now (names .exit)) ≡ outputs (now (out .entry)) (now (names .entry)) (labelsFirst (stateCount (now (s .entry))) (now (labels .entry)) (eliminatedWith (read (now (s .entry))) (readLabels (now (labels .entry))))) ⌝ }
 {
     match labels::check(s[2] as usize, labels) {
         labels::Checked::Accepted => eliminate_accepted(s, labels, out, names),

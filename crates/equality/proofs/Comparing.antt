@@ -27,7 +27,7 @@ use Rattle.sheets.proofs.Meaning.{read-well}
 use Rattle.determinize.specs.declared.Determinized.{Determinized}
 use Rattle.determinize.specs.declared.Determinized.the-variants.{Sheet}
 use Rattle.determinize.specs.declared.Determinized.the-variants as outcome
-use Rattle.determinize.specs.Deterministic.{Deterministic}
+use Rattle.automata.specs.Deterministic.{Deterministic}
 use Rattle.determinize.specs.Determinize.{determinize}
 use Rattle.determinize.specs.Sheets.{SheetSize, SheetOutput, sheetOutput, determinizedOf}
 use Rattle.determinize.proofs.Theorems.{determinize-deterministic, determinize-written, determinize-read, determinize-room}

@@ -15,7 +15,7 @@ use Rattle.lists.proofs.Tests.{and-both, and-parts}
 use Rattle.automata.specs.Automaton.{Transition, Automaton, Run, stay, skip, read, Accepts, Word, none, more, InBounds, holds, carries, leaving}
 use Rattle.automata.specs.Records.{recordAt, readRecords, writeRecords}
 use Rattle.automata.proofs.Records.{read-write, read-drop, records-at, length-write}
-use Rattle.determinize.specs.Deterministic.{Deterministic}
+use Rattle.automata.specs.Deterministic.{Deterministic}
 use Rattle.equality.specs.Successors.{firstTarget, successor, stateAfter, acceptOf, acceptAfter}
 
 -- a record of a list of transitions that is written as words

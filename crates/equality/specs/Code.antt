@@ -8,7 +8,7 @@ use Rattle.automata.specs.Records.{writeRecords}
 use Rattle.sheets.specs.Accepted.{Accepted}
 use Rattle.sheets.specs.Runs.{Indexed}
 use Rattle.sheets.specs.Sheet.{stateCount, read}
-use Rattle.determinize.specs.Deterministic.{Deterministic}
+use Rattle.automata.specs.Deterministic.{Deterministic}
 use Rattle.dsu.specs.declared.DSU.{DSU}
 use Rattle.dsu.specs.Classes.{Classes, Merges}
 use Rattle.dsu.specs.Laws.{Valid, classOf}

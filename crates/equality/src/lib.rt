@@ -4,7 +4,7 @@ ghost use lib.ListN.{length};
 ghost use Rattle.sheets.specs.Accepted.{Accepted};
 ghost use Rattle.sheets.specs.Sheet.{read};
 ghost use Rattle.automata.specs.WellFormed.{lastSymbol};
-ghost use Rattle.determinize.specs.Deterministic.{Deterministic};
+ghost use Rattle.automata.specs.Deterministic.{Deterministic};
 ghost use Rattle.determinize.specs.Determinize.{determinize};
 ghost use Rattle.equality.specs.Equality.{withSecond, determinized, compared, Judged};
 use determinize::Determinized;

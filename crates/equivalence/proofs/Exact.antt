@@ -18,8 +18,8 @@ use Rattle.automata.specs.Automaton.{Transition, Automaton, InBounds, leaving}
 use Rattle.search.specs.Search.{Found, over, found, table}
 use Rattle.search.specs.Reached as Search
 use Rattle.search.proofs.Queue.{over-exact, table-all}
-use Rattle.product.specs.Product.{Pair}
-use Rattle.product.proofs.Pairs.{same-decides}
+use Rattle.automata.specs.Pairs.{Pair}
+use Rattle.automata.proofs.Pairs.{pair-decides}
 use Rattle.equivalence.specs.Triggers.{SameTrigger, First, sameTrigger, firsts, within}
 use Rattle.equivalence.specs.Equivalent.{Reached, start, step, Alike, alike, targetsWith, targets, pairs, allAlike, equivalent}
 use Rattle.equivalence.proofs.Triggers.{trigger-test, trigger-passes, not-true, not-false, none-out, firsts-out, firsts-in, within-test, within-passes}
@@ -46,7 +46,7 @@ targets-in {ds} {es} {d} {e} m n s = flat-in (targetsWith es) m (map-in (λ (e :
 module _ (A B : Automaton) where
   pub pairs-decides : Search.Decides (pairs A B .same)
   unfolding pairs
-  pairs-decides = same-decides
+  pairs-decides = pair-decides
 
   graph-reached : {p : Pair} → Search.Reached (pairs A B) p → Reached A B (p .left) (p .right)
   unfolding pairs

@@ -22,7 +22,7 @@ use Rattle.sheets.specs.Runs.{startsOf, RunAt}
 use Rattle.sheets.specs.Sheet.{stateCount, read}
 use Rattle.sheets.proofs.Meaning.{read-well}
 use Rattle.sheets.proofs.Runs.{run-at, starts-indexed}
-use Rattle.totality.proofs.Rows.{leaves}
+use Rattle.automata.proofs.Leaving.{leaves}
 use Rattle.equivalence.specs.Equivalent.{Reached, start, step, Alike, equivalent}
 use Rattle.equivalence.specs.Walking.{Pairs, classes, oneAt, twoAt, Good, Fresh, CanOffer, Offered, Runs, CanTurn, Saw, Turned, Follows, Going}
 use Rattle.equivalence.proofs.Triggers.{trigger-turn, trigger-chain, first-target, not-true, not-false}
@@ -33,7 +33,7 @@ use Rattle.equivalence.proofs.Bisimulation.{walked-alike}
 -- the transitions of a state are in order
 leaving-sorted : (A : Automaton) → WellFormed A → (p : ℕ) → Sorted p (leaving A p)
 unfolding leaving
-leaving-sorted A v p = record { ascends = ascending-keep _ (v .ascends); from = λ e m. leaves A v p e m .1 }
+leaving-sorted A v p = record { ascends = ascending-keep _ (v .ascends); from = λ e m. leaves A p e m .1 }
 
 -- the walk begins with the starts
 module _ (a b : List ℕ) (first : Accepted a) (second : Accepted b) where
@@ -126,8 +126,8 @@ module _ (a b starts-a starts-b : List ℕ) (n1 head : ℕ) (w : Pairs) (g : Goi
       runs = record {
         first = leaders-ascend (oneAt w head) ds sorted-a;
         second = leaders-ascend (twoAt w head) es sorted-b;
-        first-in = λ d m. omega (arith, g .is-n, well-a .states .tos d (leaves (read a) well-a (oneAt w head) d m .0));
-        second-in = λ e m. omega (arith, g .is-n, g .is-n1, well-b .states .tos e (leaves (read b) well-b (twoAt w head) e m .0));
+        first-in = λ d m. omega (arith, g .is-n, well-a .states .tos d (leaves (read a) (oneAt w head) d m .0));
+        second-in = λ e m. omega (arith, g .is-n, g .is-n1, well-b .states .tos e (leaves (read b) (twoAt w head) e m .0));
       }
 
       pub walk-turn : CanTurn n1 (readRecords ra) (readRecords rb) w
@@ -167,8 +167,8 @@ module _ (a b starts-a starts-b : List ℕ) (n1 head : ℕ) (w : Pairs) (g : Goi
           before : (i : ℕ) → i < head → Follows a b r (oneAt w i) (twoAt w i)
           before i l d e p q s =
               t .grown .kept (d .to) (stateCount a + e .to)
-              (omega (arith, g .is-n, well-a .states .tos d (leaves (read a) well-a (oneAt w i) d (p .one) .0)))
-              (omega (arith, g .is-n, well-b .states .tos e (leaves (read b) well-b (twoAt w i) e (q .one) .0))) (g .follows i l d e p q s)
+              (omega (arith, g .is-n, well-a .states .tos d (leaves (read a) (oneAt w i) d (p .one) .0)))
+              (omega (arith, g .is-n, well-b .states .tos e (leaves (read b) (twoAt w i) e (q .one) .0))) (g .follows i l d e p q s)
 
           came : (i : ℕ) → i < r .made → Reached (read a) (read b) (oneAt r i) (twoAt r i)
           came i l =

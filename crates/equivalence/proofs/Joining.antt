@@ -10,7 +10,7 @@ use Rattle.dsu.specs.declared.DSU.{DSU}
 use Rattle.dsu.specs.declared.Answer.{Answer}
 use Rattle.dsu.specs.Classes.{Spanned}
 use Rattle.dsu.specs.Sets.{newOf}
-use Rattle.dsu.specs.Laws.{Valid, classOf, JoinLaw, old, new}
+use Rattle.dsu.specs.Laws.{classOf, JoinLaw, old, new}
 use Rattle.dsu.proofs.Generated.{spanned-alone, spanned-more, spanned-renamed}
 use Rattle.dsu.proofs.Laws.{new-law}
 use Rattle.equivalence.specs.Walking.{Pairs, classes, oneAt, twoAt, Fresh, CanOffer, Offered}

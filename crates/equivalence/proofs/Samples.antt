@@ -6,7 +6,7 @@ use mathlib.Core.Path.{_≡_, refl}
 use Rattle.lists.specs.Lists.{any, keep}
 use Rattle.automata.specs.Automaton.{Transition, Automaton, leaving}
 use Rattle.search.specs.Search.{index, add, meet, explore, table}
-use Rattle.product.specs.Product.{samePair}
+use Rattle.automata.specs.Pairs.{samePair}
 use Rattle.equivalence.specs.Triggers
 use Rattle.equivalence.specs.Equivalent
 

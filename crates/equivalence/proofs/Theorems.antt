@@ -7,17 +7,17 @@ use mathlib.Core.Path.{_≡_, refl, sym, ap, _∙_}
 use native.Mathlib.Omega.{arith}
 use borrow.Author.Tests.{ne-eqb, eqb-true, eqb-false}
 use lib.Dec.{eqb}
-use Rattle.automata.specs.Automaton.{Automaton, Accepts}
-use Rattle.automata.specs.WellFormed.{WellFormed, lastSymbol}
+use Rattle.automata.specs.Automaton.{Automaton, Accepts, EpsilonFree}
+use Rattle.automata.specs.WellFormed.{WellFormed}
 use Rattle.refusal.specs.Answer.{refused, given}
 use Rattle.sheets.specs.Checked.{sheetFirst}
 use Rattle.sheets.specs.Fault.{fault}
 use Rattle.sheets.specs.Sheet.{read}
 use Rattle.sheets.proofs.Accepted.{accepted}
 use Rattle.sheets.proofs.Meaning.{read-well}
-use Rattle.product.specs.Reached.{EpsilonFree}
-use Rattle.totality.proofs.Words.{own-functional}
-use Rattle.equivalence.specs.Equivalent.{Reached, Alike, equivalent, equivalentAnswer, OverlapFree}
+use Rattle.ranges.proofs.Functional.{overlap-functional}
+use Rattle.ranges.specs.Span.{OverlapFree}
+use Rattle.equivalence.specs.Equivalent.{Reached, Alike, equivalent, equivalentAnswer}
 use Rattle.equivalence.proofs.Exact.{exact, exact-false}
 use Rattle.equivalence.proofs.Words.{words-beside, all-turn}
 
@@ -34,8 +34,8 @@ module _ (A B : Automaton) (v : WellFormed A) (u : WellFormed B) where
   pub equivalent-words : EpsilonFree A → EpsilonFree B → OverlapFree A → OverlapFree B → equivalent A B ≡ true → (w : List ℕ) → Accepts A w ↔ Accepts B w
   equivalent-words e f o r t w =
       let all = equivalent-exact .0 t in
-      let a = own-functional 0 lastSymbol A v e o in
-      let b = own-functional 0 lastSymbol B u f r in
+      let a = overlap-functional A v e o in
+      let b = overlap-functional B u f r in
       (words-beside A B v u a b all w, words-beside B A u v b a (all-turn A B all) w)
 
 -- the same of two accepted sheets

@@ -8,8 +8,8 @@ use Rattle.lists.specs.Lists.{_∈_}
 use Rattle.automata.specs.Automaton.{Transition, Automaton, Run, stay, skip, read, Accepts, leaving}
 use Rattle.automata.specs.WellFormed.{WellFormed}
 use Rattle.ranges.proofs.Held.{held}
-use Rattle.totality.proofs.Rows.{leaves, leaving-in}
-use Rattle.totality.proofs.Words.{Functional}
+use Rattle.automata.proofs.Leaving.{leaves, leaving-in}
+use Rattle.ranges.proofs.Functional.{Functional}
 use Rattle.equivalence.specs.Triggers.{First}
 use Rattle.equivalence.specs.Equivalent.{Reached, start, step, Alike}
 use Rattle.equivalence.proofs.Triggers.{trigger-turn}
@@ -17,11 +17,11 @@ use Rattle.equivalence.proofs.Triggers.{trigger-turn}
 -- every transition is the first of its trigger
 own-first : (A : Automaton) → WellFormed A → Functional A → (p : ℕ) (d : Transition) → d ∈ leaving A p → First (leaving A p) d
 own-first A v f p d m =
-    let l = leaves A v p d m in
+    let l = leaves A p d m in
     record {
       one = m;
       lowest = λ e n s.
-          let k = leaves A v p e n in
+          let k = leaves A p e n in
           let full = v .sound d (l .0) .full in
           omega (arith, f .single d e (d .first) (l .0) (k .0) (l .1 ∙ sym (k .1)) (held (d .first) d (le-refl (d .first)) full) (held (d .first) e (omega (arith, s .first)) (omega (arith, s .last))));
     }
@@ -34,9 +34,9 @@ module _ (A B : Automaton) (v : WellFormed A) (u : WellFormed B) (f : Functional
   run-beside {q = q} stay r = (q, stay, r)
   run-beside (skip e m c k s) r = absurd (omega (arith, f .ranges e m))
   run-beside {q = q} (read {p = p} {a = a} e m c k l h s) r =
-      let i = leaving-in A v p e m c in
+      let i = leaving-in A p e m c in
       let (d, n, t) = all p q r .there e i in
-      let o = leaves B u q d n in
+      let o = leaves B q d n in
       let (x, y, z) = run-beside s (step r (own-first A v f p e i) (own-first B u g q d n) t) in
       (x, read {a = a} d (o .0) (o .1) (sym (t .kind) ∙ k) (omega (arith, t .first)) (omega (arith, t .last)) y, z)
 

@@ -1,19 +1,18 @@
 -- `is_equivalent` (document 01, "Equality"). It is true just when no pair of states that equal triggers reach, the first record of each
 -- trigger being followed, differs in acceptance or in its triggers. Triggers are taken in no order.
-use Prim.Native.Nat.{ℕ, _*_, _<_}
+use Prim.Native.Nat.{ℕ, _*_}
 use mathlib.Core.Bool.{Bool, false, not, _&&_}
 use mathlib.Core.List.{List, map, flatMap}
 use mathlib.Core.Path.{_≡_}
 use lib.Dec.{eqb}
 use lib.ListN.{getD}
 use Rattle.lists.specs.Lists.{any, keep}
-use Rattle.automata.specs.Automaton.{Transition, Automaton, leaving, rangesOf}
-use Rattle.ranges.specs.Span.{overlapping}
+use Rattle.automata.specs.Automaton.{Transition, Automaton, leaving}
 use Rattle.refusal.specs.Answer.{Answer, given}
 use Rattle.search.specs.Search.{Graph, Found, over, found, table}
 use Rattle.sheets.specs.Checked.{sheetFirst}
 use Rattle.sheets.specs.Sheet.{read}
-use Rattle.product.specs.Product.{Pair, samePair}
+use Rattle.automata.specs.Pairs.{Pair, samePair}
 use Rattle.equivalence.specs.Triggers.{SameTrigger, First, Within, sameTrigger, firsts, within}
 
 -- the pair of the starts is reached, and the first records of equal triggers lead from a reached pair to another
@@ -60,7 +59,3 @@ equivalent A B = allAlike A B (table (pairs A B) (A .size * B .size))
 -- the answer for two sheets: the first's fault, the second's, or the truth
 unfoldable pub equivalentAnswer : List ℕ → List ℕ → Answer Bool
 equivalentAnswer a b = sheetFirst a (sheetFirst b (given (equivalent (read a) (read b))))
-
--- the ranges of no state overlap (document 01, "Ranges")
-abbrev pub OverlapFree : Automaton → Type 0
-OverlapFree A = (q : ℕ) → q < A .size → overlapping (rangesOf (leaving A q)) ≡ false

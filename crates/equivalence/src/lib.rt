@@ -3,11 +3,11 @@
 // triggers: one pass over both finds equal triggers, the first record of each, and a trigger that one of them lacks.
 ghost use mathlib.Core.Path.{_≡_};
 ghost use Prim.Native.Nat.{_+_, _-_, _≤_, _<_};
-ghost use lib.ListN.{length, getD};
+ghost use lib.ListN.{length};
 ghost use Rattle.automata.specs.Records.{recordAt, readRecords};
 ghost use Rattle.refusal.specs.Decision.{decisionOf};
 ghost use Rattle.sheets.specs.Accepted.{Accepted};
-ghost use Rattle.sheets.specs.Sheet.{stateCount, read};
+ghost use Rattle.sheets.specs.Sheet.{read};
 ghost use Rattle.equivalence.specs.Triggers.{sameTrigger};
 ghost use Rattle.equivalence.specs.Equivalent.{equivalent, equivalentAnswer};
 ghost use Rattle.equivalence.specs.Rows.{RowEnd};

@@ -7,6 +7,7 @@ use lib.Dec.{eqb, ltb}
 use lib.ListN.{length}
 use lib.Seq.{sets}
 use Rattle.automata.specs.Automaton.{Automaton}
+use Rattle.automata.specs.WellFormed.{mostStates, mostTransitions}
 use Rattle.labels.specs.Labels.{writeLabels, labelsFault}
 use Rattle.refusal.specs.Answer.{Answer, refused, given}
 use Rattle.sheets.specs.Sheet.{write}
@@ -47,6 +48,14 @@ labelsSize = 16642
 -- 20 where an output is too short, or else the answer a
 unfoldable pub roomFirst : {X : Type 0} → List ℕ → List ℕ → Answer X → Answer X
 roomFirst o l a = cond (ltb (length o) sheetSize) (refused 20) (cond (ltb (length l) labelsSize) (refused 20) a)
+
+-- 21 where A has over 256 states, or else the answer a
+unfoldable pub statesFirst : {X : Type 0} → Automaton → Answer X → Answer X
+statesFirst A a = cond (ltb mostStates (A .size)) (refused 21) a
+
+-- 22 where A has over 2,048 transitions, or else the answer a
+unfoldable pub transitionsFirst : {X : Type 0} → Automaton → Answer X → Answer X
+transitionsFirst A a = cond (ltb mostTransitions (length (A .transitions))) (refused 22) a
 
 -- the fault of b as the labels of n states, or else the answer a
 unfoldable pub labelsFirst : {X : Type 0} → ℕ → List ℕ → Answer X → Answer X

@@ -17,13 +17,13 @@ use Rattle.ranges.specs.Span.{intersectRanges, spanOf}
 use Rattle.ranges.specs.declared.Common.{Common}
 use Rattle.ranges.specs.declared.Common.the-variants.{Range, Nothing}
 use Rattle.sheets.specs.Sheet.{read}
-use Rattle.product.specs.Product.{Pair, jointOf, jointsOf, jointsFrom, transitionOf, transitionsFrom, placeIn}
+use Rattle.automata.specs.Pairs.{Pair}
+use Rattle.product.specs.Product.{jointOf, jointsOf, jointsFrom, transitionOf, transitionsFrom, placeIn}
 use Rattle.product.specs.Tables.{pairOf, tableOf, Queued, links}
 use Rattle.product.proofs.Joints.{joints-none-left, joints-none-right, joints-left, joints-right, joints-other-left, joints-other-right, joints-two}
-use Rattle.product.proofs.Meeting.{narrow-to, narrow-here, narrow-next}
+use Rattle.sheets.proofs.Named.{named-to, named-next, ready-run, ready-named}
 use Rattle.product.proofs.Queueing.{length-table, queued-room}
-use Rattle.product.proofs.Finding.{entry-at, run-narrow}
-use Rattle.product.proofs.Blocking.{pair-run-left, pair-run-right}
+use Rattle.product.proofs.Finding.{entry-at}
 
 -- two records d and e
 module _ (buf : List ℕ) (end : ℕ) (k : Open buf end) (T : List Pair) (i : ℕ) (d e : List ℕ) where
@@ -51,7 +51,7 @@ module _ (buf : List ℕ) (end : ℕ) (k : Open buf end) (T : List Pair) (i : �
         joints-two (recordAt d 0) (recordAt e 0) hd he ∙ ap (λ o. jointOf o (record { left = getD d 4 0; right = getD e 4 0 })) (sym told ∙ ap spanOf h) in
         rw (j, ← q) g
 
-pub ruleset jointLaws = (joint-other-left, joint-other-right, joint-apart, joint-put, narrow-to, needs)
+pub ruleset jointLaws = (joint-other-left, joint-other-right, joint-apart, joint-put, needs)
 
 module _ (T : List Pair) (i : ℕ) where
   links-none-left : (es : List Transition) → links T i [] es ≡ []
@@ -92,7 +92,7 @@ module _ (buf : List ℕ) (k : ℕ) (T : List Pair) (i : ℕ) (d run : List ℕ)
     pub run-next : next < 20480 → Rest m next (links T i (recordAt d 0 ∷ []) (readRecords (drop (at + 5) run))) es
     run-next o = rest-next buf k es _ _ run-parts m next s o
 
-pub ruleset runLaws = (run-begins, run-ended, narrow-here, narrow-next, needs)
+pub ruleset runLaws = (run-begins, run-ended, named-to, named-next, needs)
 
 -- the records of two runs, of which those of the first are left from a place on
 pub runs-begins : (buf : List ℕ) (end : ℕ) (T : List Pair) (i : ℕ) (first second : List ℕ) → Open buf end
@@ -116,7 +116,7 @@ module _ (buf : List ℕ) (k : ℕ) (T : List Pair) (i : ℕ) (first second : Li
     pub runs-next : next < 20480 → Rest m next (links T i (readRecords (drop (at + 5) first)) (readRecords second)) es
     runs-next o = rest-next buf k es _ _ runs-parts m next s o
 
-pub ruleset runsLaws = (runs-begins, runs-ended, narrow-here, narrow-next, needs)
+pub ruleset runsLaws = (runs-begins, runs-ended, named-to, named-next, needs)
 
 -- the transitions of a pair
 pub pair-links : (a b : List ℕ) (c : ℕ) (first second : List ℕ) → first ≡ writeRecords (leaving (read a) (c / 256)) → second ≡ writeRecords (leaving (read b) (c % 256))
@@ -127,7 +127,7 @@ pair-links a b c first second e f T i old buf end s =
     subst (λ (x : List Transition). Gathered buf end (old ++ x))
     (ap₂ (λ x y. links T i x y) (ap readRecords e ∙ read-write (leaving (read a) (c / 256))) (ap readRecords f ∙ read-write (leaving (read b) (c % 256)))) s
 
-pub ruleset pairLaws = (pair-run-left, pair-run-right, run-narrow, pair-links, needs)
+pub ruleset pairLaws = (ready-run, ready-named, pair-links, needs)
 
 -- the transitions of the pairs from i on are left
 pub pairs-begin : (A B : Automaton) (buf : List ℕ) (T : List Pair) → length buf ≡ 20480 → Rest buf 0 (transitionsFrom (placeIn T) A B 0 (drop 0 T)) (transitionsFrom (placeIn T) A B 0 T)

@@ -11,9 +11,11 @@ use Rattle.lists.specs.Lists.{any}
 use Rattle.lists.proofs.Tests.{test}
 use Rattle.automata.specs.Automaton.{Automaton}
 use Rattle.automata.specs.WellFormed.{mostStates, mostTransitions}
+use Rattle.output.specs.Output.{transitionsFirst}
 use Rattle.refusal.specs.Answer.{refused, given}
 use Rattle.search.specs.Search.{Found, over, found, table}
-use Rattle.product.specs.Product.{Pair, pairs, built, blockedAt, labelOf, limited, answerOf, product}
+use Rattle.automata.specs.Pairs.{Pair}
+use Rattle.product.specs.Product.{pairs, built, blockedAt, labelOf, labelled, answerOf, product}
 
 module _ (A B : Automaton) where
   -- the four answers
@@ -27,11 +29,11 @@ module _ (A B : Automaton) where
     answer-blocked h = ap (answerOf A B) e ∙ rw h
 
     pub answer-many : any (blockedAt A B) T ≡ false → mostTransitions < length (built A B T .transitions) → product A B ≡ refused 22
-    unfolding product answerOf limited
+    unfolding product answerOf labelled transitionsFirst
     answer-many h l = ap (answerOf A B) e ∙ rw (h, lt-ltb mostTransitions (length (built A B T .transitions)) l)
 
     pub answer-given : any (blockedAt A B) T ≡ false → length (built A B T .transitions) ≤ mostTransitions → product A B ≡ given (record { automaton = built A B T; labels = map labelOf T })
-    unfolding product answerOf limited
+    unfolding product answerOf labelled transitionsFirst
     answer-given h l = ap (answerOf A B) e ∙ rw (h, le-ltb mostTransitions (length (built A B T .transitions)) l)
 
   -- which of them it is

@@ -15,16 +15,17 @@ use Rattle.lists.specs.Lists.{_∈_, any, Ascending}
 use Rattle.lists.proofs.Lists.{any-out, keep-out}
 use Rattle.lists.proofs.Members.{ascending-keep}
 use Rattle.lists.proofs.Tests.{test, or-left}
-use Rattle.automata.specs.Automaton.{Transition, leaving}
+use Rattle.automata.specs.Automaton.{Transition, leaving, hasEpsilon}
 use Rattle.automata.specs.Records.{readRecords, writeRecords, recordAt}
 use Rattle.automata.specs.WellFormed.{here, later, Before}
 use Rattle.automata.proofs.Records.{read-write, records-at, records-end}
-use Rattle.sheets.specs.Runs.{RunAt}
+use Rattle.sheets.specs.Runs.{Ready}
 use Rattle.sheets.specs.Sheet.{stateCount, read}
 use Rattle.sheets.proofs.Meaning.{read-well}
-use Rattle.sheets.proofs.Runs.{run-at}
-use Rattle.product.specs.Product.{Pair, isNone, hasEpsilon, blocked, blockedAt}
-use Rattle.product.specs.Tables.{pairOf, tableOf, Ready, Within, EpsilonFirst}
+use Rattle.sheets.proofs.Named.{ready-run}
+use Rattle.automata.specs.Pairs.{Pair}
+use Rattle.product.specs.Product.{isNone, blocked, blockedAt}
+use Rattle.product.specs.Tables.{pairOf, tableOf, Within, EpsilonFirst}
 use Rattle.product.proofs.Finding.{entry-at, entry-in}
 use Rattle.product.proofs.Queueing.{length-table}
 
@@ -98,19 +99,13 @@ module _ (first second : List ℕ) where
 
 pub ruleset blockedLaws = (blocked-none-left, blocked-none-right, blocked-left, blocked-right, blocked-free, needs)
 
-pub pair-run-left : (a aruns : List ℕ) (c : ℕ) → Ready a aruns → pairOf c .left < stateCount a → RunAt a aruns (c / 256)
-pair-run-left a aruns c r h = run-at a (r .accepted) aruns (c / 256) (r .indexed) h
-
-pub pair-run-right : (b bruns : List ℕ) (c : ℕ) → Ready b bruns → pairOf c .right < stateCount b → RunAt b bruns (c % 256)
-pair-run-right b bruns c r h = run-at b (r .accepted) bruns (c % 256) (r .indexed) h
-
 pub pair-blocked : (a b : List ℕ) (c : ℕ) (first second : List ℕ) (r : Bool) → first ≡ writeRecords (leaving (read a) (c / 256)) → second ≡ writeRecords (leaving (read b) (c % 256))
     → r ≡ blocked (readRecords first) (readRecords second) → r ≡ blockedAt (read a) (read b) (pairOf c)
 unfolding blockedAt
 pair-blocked a b c first second r e f h =
     h ∙ ap₂ (λ x y. blocked x y) (ap readRecords e ∙ read-write (leaving (read a) (c / 256))) (ap readRecords f ∙ read-write (leaving (read b) (c % 256)))
 
-pub ruleset pairBlockedLaws = (pair-run-left, pair-run-right, run-first, pair-blocked, needs)
+pub ruleset pairBlockedLaws = (ready-run, run-first, pair-blocked, needs)
 
 -- the pairs from i on decide
 module _ (a b words : List ℕ) (n i : ℕ) (l : n ≤ length words) (e : any (blockedAt (read a) (read b)) (drop i (tableOf words n)) ≡ any (blockedAt (read a) (read b)) (tableOf words n)) where

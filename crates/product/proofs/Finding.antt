@@ -10,7 +10,6 @@ use borrow.Author.Tests.{lt-ltb, le-ltb}
 use lib.ListN.{getD, length, take}
 use lib.Seq.{getD-take, length-take-le}
 use Rattle.lists.specs.Lists.{_∈_}
-use Rattle.lists.proofs.Lists.{keep-out}
 use Rattle.lists.proofs.Members.{at-in, map-out}
 use Rattle.automata.specs.Automaton.{Automaton, InBounds, leaving}
 use Rattle.automata.specs.Records.{readRecords, writeRecords}
@@ -19,12 +18,13 @@ use Rattle.automata.proofs.Records.{read-write}
 use Rattle.search.specs.Search.{Graph, meet, add, index, table}
 use Rattle.search.proofs.Tables.{meet-out}
 use Rattle.search.proofs.Queue.{queue, queue-begin, queue-step, queue-end, queue-over, queue-capped}
-use Rattle.sheets.specs.Runs.{RunAt}
+use Rattle.sheets.specs.Runs.{RunAt, Ready}
 use Rattle.sheets.specs.Sheet.{stateCount, read}
 use Rattle.sheets.proofs.Meaning.{read-well}
-use Rattle.sheets.proofs.Runs.{run-at}
-use Rattle.product.specs.Product.{Pair, samePair, Joint, jointsFrom, pairs}
-use Rattle.product.specs.Tables.{pairOf, tableOf, capped, Queued, Met, targets, Narrow, Ready, Within, foundIn}
+use Rattle.sheets.proofs.Named.{ready-run, ready-named}
+use Rattle.automata.specs.Pairs.{Pair, samePair}
+use Rattle.product.specs.Product.{Joint, jointsFrom, pairs}
+use Rattle.product.specs.Tables.{pairOf, tableOf, capped, Queued, Met, targets, Within, foundIn}
 use Rattle.product.proofs.Joints.{from-out}
 use Rattle.product.proofs.Queueing.{length-table, queued-room}
 use Rattle.product.proofs.Result.{startPair, map-at}
@@ -38,16 +38,6 @@ pub entry-in : (words : List ℕ) (n i : ℕ) → n ≤ length words → i < n �
 entry-in words n i l h =
     subst (λ (p : Pair). p ∈ tableOf words n) (entry-at words n i (pairOf (getD words i 0)) l h) (at-in (tableOf words n) i (pairOf (getD words i 0)) (rw (length-table words n l) h))
 
--- the run of a state leads to states
-pub run-narrow : (s runs : List ℕ) (q : ℕ) (run : List ℕ) → Ready s runs → run ≡ writeRecords (leaving (read s) q) → Narrow (readRecords run)
-unfolding leaving
-run-narrow s runs q run r e =
-    record {
-      tos = λ d m.
-          let i = read-well s (r .accepted) .states .tos d (keep-out _ d (read s .transitions) (rw (e, read-write) at m) .0) in
-          omega (arith, r .accepted .few-states, i);
-    }
-
 -- the pair at i
 module _ (a aruns b bruns : List ℕ) (ra : Ready a aruns) (rb : Ready b bruns) (words t : List ℕ) (n i : ℕ) (k : Queued words t n) (h : i < n)
     (w : Within (stateCount a) (stateCount b) (tableOf words n)) where
@@ -55,10 +45,10 @@ module _ (a aruns b bruns : List ℕ) (ra : Ready a aruns) (rb : Ready b bruns) 
   inside = w .states (pairOf (getD words i 0)) (entry-in words n i (queued-room words t n k) h)
 
   pub visit-left : RunAt a aruns (getD words i 0 / 256)
-  visit-left = run-at a (ra .accepted) aruns (getD words i 0 / 256) (ra .indexed) (inside .0)
+  visit-left = ready-run a aruns ra (getD words i 0 / 256) (inside .0)
 
   pub visit-right : RunAt b bruns (getD words i 0 % 256)
-  visit-right = run-at b (rb .accepted) bruns (getD words i 0 % 256) (rb .indexed) (inside .1)
+  visit-right = ready-run b bruns rb (getD words i 0 % 256) (inside .1)
 
 pub visit-met : (a b : List ℕ) (c : ℕ) (first second : List ℕ) → first ≡ writeRecords (leaving (read a) (c / 256)) → second ≡ writeRecords (leaving (read b) (c % 256))
     → (T : List Pair) (words t : List ℕ) (m : ℕ) → Met T (targets (readRecords first) (readRecords second)) words t m
@@ -68,7 +58,7 @@ visit-met a b c first second e f T words t m r =
     subst (λ (ps : List Pair). Met T ps words t m)
     (ap₂ (λ x y. targets x y) (ap readRecords e ∙ read-write (leaving (read a) (c / 256))) (ap readRecords f ∙ read-write (leaving (read b) (c % 256)))) r
 
-pub ruleset visitLaws = (visit-left, visit-right, run-narrow, visit-met, needs)
+pub ruleset visitLaws = (visit-left, visit-right, ready-named, visit-met, needs)
 
 take-out : {X : Type 0} (k : ℕ) (l : List X) (x : X) → x ∈ take k l → x ∈ l
 take-out zero l x m = elim m [ ]

@@ -13,7 +13,8 @@ use Rattle.lists.specs.Lists.{_∈_, keep}
 use Rattle.lists.proofs.Lists.{keep-in, keep-out, keep-append, length-keep}
 use Rattle.automata.specs.Automaton.{Transition, Automaton, leaving, rangesOf}
 use Rattle.ranges.specs.Span.{intersectRanges}
-use Rattle.product.specs.Product.{Pair, Joint, symbolsOf, jointOf, joint, jointsWith, joints, jointsOf, jointsFrom}
+use Rattle.automata.specs.Pairs.{Pair}
+use Rattle.product.specs.Product.{Joint, symbolsOf, jointOf, joint, jointsWith, joints, jointsOf, jointsFrom}
 use Rattle.product.specs.Reached.{Meet}
 
 -- the joint of two ranges that meet

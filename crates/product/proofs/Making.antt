@@ -32,12 +32,13 @@ use Rattle.sheets.specs.declared.Checked.{Checked}
 use Rattle.sheets.specs.declared.Checked.the-variants as checked
 use Rattle.sheets.specs.Checked.{checkedNumber, sheetFirst}
 use Rattle.sheets.specs.Fault.{fault}
-use Rattle.sheets.specs.Runs.{startsOf}
+use Rattle.sheets.specs.Runs.{startsOf, Ready}
 use Rattle.sheets.specs.Sheet.{stateCount, read, write}
 use Rattle.sheets.proofs.Checking.{sheet-passed, sheet-refused}
 use Rattle.sheets.proofs.Runs.{starts-indexed}
-use Rattle.product.specs.Product.{Pair, pairs, transitionsFrom, placeIn, acceptOf, built, blockedAt, labelOf, product, intersection}
-use Rattle.product.specs.Tables.{tableOf, bucketsOf, Queued, Ready, Within, foundIn, sheetWords, Whole}
+use Rattle.automata.specs.Pairs.{Pair}
+use Rattle.product.specs.Product.{pairs, transitionsFrom, placeIn, acceptOf, built, blockedAt, labelOf, product, intersection}
+use Rattle.product.specs.Tables.{tableOf, bucketsOf, Queued, Within, foundIn, sheetWords, Whole}
 use Rattle.product.proofs.Answers.{answer-over, answer-blocked, answer-many, answer-given}
 use Rattle.product.proofs.Queueing.{length-table, queued-room}
 

@@ -1,6 +1,6 @@
 -- Meeting the pairs to which records lead: the laws by which the loops over two runs are proved.
 use Prim.Native.Nat.{ℕ, _+_, _-_, _≤_, _<_}
-use mathlib.Core.List.{List, [], _∷_, _++_, map, map-append, List·Memᴰ·head, List·Memᴰ·tail, List·Memᴰ·eq-of-singleton}
+use mathlib.Core.List.{List, [], _∷_, _++_, map, map-append}
 use mathlib.Core.Path.{_≡_, refl, sym, _∙_, ap}
 use borrow.Author.Needs.{needs}
 use lib.ListN.{getD, length, take, drop}
@@ -11,7 +11,8 @@ use Rattle.ranges.specs.Span.{intersectRanges, spanOf}
 use Rattle.ranges.specs.declared.Common.{Common}
 use Rattle.ranges.specs.declared.Common.the-variants.{Range, Nothing}
 use Rattle.product.specs.Product.{Joint, jointOf, jointsOf}
-use Rattle.product.specs.Tables.{tableOf, Queued, Met, targets, Narrow}
+use Rattle.sheets.proofs.Named.{named-to, named-next}
+use Rattle.product.specs.Tables.{tableOf, Queued, Met, targets}
 use Rattle.product.proofs.Joints.{joints-none-left, joints-none-right, joints-left, joints-right, joints-other-left, joints-other-right, joints-two}
 use Rattle.product.proofs.Queueing.{met-none, metWith, met-ended, met-full, met-next}
 
@@ -41,22 +42,7 @@ module _ (queue t : List ℕ) (n : ℕ) (k : Queued queue t n) (d e : List ℕ) 
         joints-two (recordAt d 0) (recordAt e 0) hd he ∙ ap (λ o. jointOf o (record { left = getD d 4 0; right = getD e 4 0 })) (sym told ∙ ap spanOf h) in
         rw j r
 
-pub narrow-to : (d : List ℕ) → Narrow (recordAt d 0 ∷ []) → getD d 4 0 < 256
-narrow-to d n = n .tos (recordAt d 0) (List·Memᴰ·head refl)
-
-pub ruleset recordLaws = (record-other-left, record-other-right, record-apart, record-met, narrow-to, needs)
-
--- the targets of the records of a run from a place on
-module _ (run : List ℕ) (at : ℕ) (n : Narrow (readRecords (drop at run))) (h : 5 ≤ length run - at) where
-  pub narrow-here : Narrow (recordAt (take (at + 5 - at) (drop at run)) 0 ∷ [])
-  narrow-here =
-      record {
-        tos = λ e m.
-            n .tos e (rw (records-at run at h) (List·Memᴰ·head (List·Memᴰ·eq-of-singleton m ∙ part-record run at)));
-      }
-
-  pub narrow-next : Narrow (readRecords (drop (at + 5) run))
-  narrow-next = record { tos = λ e m. n .tos e (rw (records-at run at h) (List·Memᴰ·tail m)) }
+pub ruleset recordLaws = (record-other-left, record-other-right, record-apart, record-met, needs)
 
 targets-none-left : (es : List Transition) → targets [] es ≡ []
 unfolding targets
@@ -94,7 +80,7 @@ module _ (d run queue₀ : List ℕ) (n₀ : ℕ) (queue t : List ℕ) (n at : �
 pub run-begins : (d run queue : List ℕ) (n : ℕ) → metWith queue n (targets (recordAt d 0 ∷ []) (readRecords (drop 0 run))) ≡ metWith queue n (targets (recordAt d 0 ∷ []) (readRecords run))
 run-begins d run queue n = refl
 
-pub ruleset runLaws = (run-begins, run-ended, narrow-here, narrow-next, needs)
+pub ruleset runLaws = (run-begins, run-ended, named-to, named-next, needs)
 
 -- the records of two runs, of which those of the first are left from a place on
 module _ (first second queue₀ : List ℕ) (n₀ : ℕ) (queue t : List ℕ) (n at : ℕ) (k : Queued queue t n)
@@ -119,4 +105,4 @@ module _ (first second queue₀ : List ℕ) (n₀ : ℕ) (queue t : List ℕ) (n
 pub runs-begins : (first second queue : List ℕ) (n : ℕ) → metWith queue n (targets (readRecords (drop 0 first)) (readRecords second)) ≡ metWith queue n (targets (readRecords first) (readRecords second))
 runs-begins first second queue n = refl
 
-pub ruleset runsLaws = (runs-begins, runs-ended, runs-full, narrow-here, narrow-next, needs)
+pub ruleset runsLaws = (runs-begins, runs-ended, runs-full, named-to, named-next, needs)

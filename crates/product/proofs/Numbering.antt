@@ -1,7 +1,7 @@
 -- Laws of the number of a pair: the walk through the bucket of its word.
-use Prim.Native.Nat.{ℕ, suc, _+_, _-_, _*_, _/_, _%_, _≤_, _<_}
-use mathlib.Core.Bool.{Bool, true, false, cond, true≢false}
-use mathlib.Core.List.{List, [], _∷_}
+use Prim.Native.Nat.{ℕ, _+_, _-_, _*_, _/_, _%_, _≤_, _<_}
+use mathlib.Core.Bool.{Bool, true, false, true≢false}
+use mathlib.Core.List.{List}
 use mathlib.Core.Logic.{⊎-elim}
 use mathlib.Core.Path.{_≡_, sym, _∙_, ap}
 use native.Mathlib.Omega.{arith}
@@ -15,28 +15,19 @@ use lib.Seq.{getD-take, length-take-le}
 use Rattle.lists.proofs.Tests.{test}
 use Rattle.buckets.specs.Buckets.{inBucket}
 use Rattle.buckets.proofs.Walking.{Walk, walk-begin, walk-next, walk-less, walk-ended}
-use Rattle.search.specs.Search.{index}
 use Rattle.search.proofs.Tables.{index-in, index-at, index-place}
-use Rattle.product.specs.Product.{Pair, samePair, placeIn}
+use Rattle.automata.specs.Pairs.{Pair, samePair}
+use Rattle.lists.proofs.Index.{index-le}
+use Rattle.product.specs.Product.{placeIn}
 use Rattle.product.specs.Tables.{pairOf, tableOf, bucketOf, bucketsOf, Queued}
 use Rattle.product.proofs.Finding.{entry-at}
-use Rattle.product.proofs.Pairs.{same-decides}
+use Rattle.automata.proofs.Pairs.{pair-decides}
 use Rattle.product.proofs.Queueing.{length-table, length-buckets, bucket-low, bucket-less, queued-room, queued-long, word-pair}
 use Rattle.product.proofs.Result.{map-at}
 
 -- word j of the queue is c
 unfoldable pub isWord : List ℕ → ℕ → ℕ → Bool
 isWord queue c j = eqb (getD queue j 0) c
-
--- a place is at most the number of pairs
-place-most : (p : Pair) (T : List Pair) → placeIn T p ≤ length T
-unfolding index
-place-most p [] = omega arith
-place-most p (q ∷ T) = go (samePair p q) (place-most p T)
-  where
-    go : (b : Bool) → index samePair p T ≤ length T → cond b 0 (suc (index samePair p T)) ≤ suc (length T)
-    go true h = omega arith
-    go false h = omega arith
 
 bucket-at : (queue : List ℕ) (n j : ℕ) → n ≤ length queue → j < n → getD (bucketsOf queue n) j 0 ≡ bucketOf (getD queue j 0)
 unfolding bucketsOf
@@ -64,14 +55,14 @@ module _ (queue t : List ℕ) (n : ℕ) (k : Queued queue t n) (f : n ≤ 256) (
   -- the word c at a place, and the place at which it is
   place : (j : ℕ) → j < n → getD queue j 0 ≡ c → j ≡ placeIn (tableOf queue n) (pairOf c)
   place j h e =
-      sym (index-place samePair same-decides (pairOf c) (k .distinct) j (omega (arith, length-table queue n inside)))
+      sym (index-place samePair pair-decides (pairOf c) (k .distinct) j (omega (arith, length-table queue n inside)))
       ∙ ap (placeIn (tableOf queue n)) (entry-at queue n j (pairOf c) inside h ∙ ap pairOf e)
 
   word : placeIn (tableOf queue n) (pairOf c) < n → getD queue (placeIn (tableOf queue n) (pairOf c)) 0 ≡ c
   word h =
-      let m = index-in samePair same-decides (pairOf c) (tableOf queue n) (omega (arith, length-table queue n inside)) in
+      let m = index-in samePair pair-decides (pairOf c) (tableOf queue n) (omega (arith, length-table queue n inside)) in
       let e : pairOf (getD queue (placeIn (tableOf queue n) (pairOf c)) 0) ≡ pairOf c =
-      sym (entry-at queue n (placeIn (tableOf queue n) (pairOf c)) (pairOf c) inside h) ∙ index-at samePair same-decides (pairOf c) (pairOf c) (tableOf queue n) m in
+      sym (entry-at queue n (placeIn (tableOf queue n) (pairOf c)) (pairOf c) inside h) ∙ index-at samePair pair-decides (pairOf c) (pairOf c) (tableOf queue n) m in
       let x : getD queue (placeIn (tableOf queue n) (pairOf c)) 0 / 256 ≡ c / 256 = ap (λ (p : Pair). p .left) e in
       let y : getD queue (placeIn (tableOf queue n) (pairOf c)) 0 % 256 ≡ c % 256 = ap (λ (p : Pair). p .right) e in
       omega arith
@@ -86,7 +77,7 @@ module _ (queue t : List ℕ) (n : ℕ) (k : Queued queue t n) (f : n ≤ 256) (
         absurd (true≢false (sym (eq-eqb _ _ (word h)) ∙ walk-ended _ _ _ i w l (placeIn (tableOf queue n) (pairOf c)) (omega (arith, count)))))
         (λ (q : ltb (placeIn (tableOf queue n) (pairOf c)) n ≡ false).
         let h : n ≤ placeIn (tableOf queue n) (pairOf c) = ltb-false _ n q in
-        omega (arith, place-most (pairOf c) (tableOf queue n), length-table queue n inside))
+        omega (arith, index-le samePair (pairOf c) (tableOf queue n), length-table queue n inside))
         (test (ltb (placeIn (tableOf queue n) (pairOf c)) n))
 
     module _ (l : 0 < i) where
@@ -109,7 +100,7 @@ pub ruleset findLaws = (find-begin, find-first, find-none, find-found, find-next
 -- the number of a pair
 module _ (queue t : List ℕ) (n : ℕ) (k : Queued queue t n) (f : n ≤ 256) (p q r : ℕ) (e : r ≡ placeIn (tableOf queue n) (pairOf (p * 256 + q))) where
   pub number-fits : Fits w32 r
-  number-fits = record { fits = omega (arith, e, place-most (pairOf (p * 256 + q)) (tableOf queue n), length-table queue n (queued-room queue t n k)) }
+  number-fits = record { fits = omega (arith, e, index-le samePair (pairOf (p * 256 + q)) (tableOf queue n), length-table queue n (queued-room queue t n k)) }
 
   pub number-is : q < 256 → r ≡ placeIn (tableOf queue n) (record { left = p; right = q })
   number-is h = e ∙ ap (placeIn (tableOf queue n)) (word-pair p q h)

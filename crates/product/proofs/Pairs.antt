@@ -1,38 +1,24 @@
 -- The pairs that are reached by ranges that meet are those of the graph; there is no table exactly when they are too many.
 use Prim.Native.Nat.{ℕ}
 use mathlib.Core.Logic.{_↔_}
-use mathlib.Core.Path.{_≡_, refl, _∙_, ap}
+use mathlib.Core.Path.{_≡_, _∙_, ap}
 use native.Mathlib.Omega.{arith}
-use borrow.Author.Tests.{eq-eqb, eqb-true}
-use lib.Dec.{eqb}
 use Rattle.lists.proofs.Members.{map-in, map-out}
-use Rattle.lists.proofs.Tests.{and-both, and-parts}
 use Rattle.automata.specs.Automaton.{Automaton}
 use Rattle.automata.specs.WellFormed.{mostStates}
+use Rattle.automata.proofs.Pairs.{pair-decides}
 use Rattle.search.specs.Search.{over, table}
 use Rattle.search.specs.Reached as Search
 use Rattle.search.proofs.Queue.{over-exact}
-use Rattle.product.specs.Product.{Pair, samePair, Joint, jointsFrom, pairs}
+use Rattle.automata.specs.Pairs.{Pair}
+use Rattle.product.specs.Product.{Joint, jointsFrom, pairs}
 use Rattle.product.specs.Reached.{Reached, start, step, ManyPairs}
 use Rattle.product.proofs.Joints.{from-out, from-in}
-
-pub pair-eq : (p q : Pair) → p .left ≡ q .left → p .right ≡ q .right → p ≡ q
-pair-eq p q l r = rw (l, r)
-
-pub same-decides : Search.Decides samePair
-unfolding samePair
-same-decides =
-    record {
-      same-eq = λ p q h.
-          let r = and-parts (eqb (p .left) (q .left)) _ h in
-          pair-eq p q (eqb-true _ _ (r .0)) (eqb-true _ _ (r .1));
-      same-self = λ p. and-both _ _ (eq-eqb (p .left) (p .left) refl) (eq-eqb (p .right) (p .right) refl);
-    }
 
 module _ (A B : Automaton) where
   pub pairs-decides : Search.Decides (pairs A B .same)
   unfolding pairs
-  pairs-decides = same-decides
+  pairs-decides = pair-decides
 
   pub graph-reached : {p : Pair} → Search.Reached (pairs A B) p → Reached A B (p .left) (p .right)
   unfolding pairs

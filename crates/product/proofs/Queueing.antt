@@ -12,9 +12,10 @@ use Rattle.buckets.specs.Buckets.{Entered, entered}
 use Rattle.buckets.proofs.Entering.{entered-next, length-entered}
 use Rattle.search.specs.Search.{meet}
 use Rattle.search.proofs.Tables.{add-known, add-new, meet-append, meet-full, meet-capped, index-lt}
-use Rattle.product.specs.Product.{Pair, samePair, placeIn}
+use Rattle.automata.specs.Pairs.{Pair, samePair}
+use Rattle.product.specs.Product.{placeIn}
 use Rattle.product.specs.Tables.{pairOf, tableOf, capped, bucketOf, bucketsOf, Queued, Met}
-use Rattle.product.proofs.Pairs.{same-decides}
+use Rattle.automata.proofs.Pairs.{pair-decides}
 
 pub length-table : (queue : List ℕ) (n : ℕ) → n ≤ length queue → length (tableOf queue n) ≡ n
 unfolding tableOf
@@ -96,7 +97,7 @@ module _ (queue t : List ℕ) (n p q : ℕ) (k : Queued queue t n) (hq : q < 256
               room = length-set queue n _ ∙ k .room;
               long = w;
               few = omega arith;
-              distinct = rw grown (distinct-end (record { left = p; right = q }) (tableOf queue n) (k .distinct) (λ m. let near = index-lt samePair same-decides (record { left = p; right = q }) m in omega (arith, far)));
+              distinct = rw grown (distinct-end (record { left = p; right = q }) (tableOf queue n) (k .distinct) (λ m. let near = index-lt samePair pair-decides (record { left = p; right = q }) m in omega (arith, far)));
               found = f;
             };
             table = grown ∙ sym (ap capped (add-new samePair (record { left = p; right = q }) (tableOf queue n) far)

@@ -12,18 +12,20 @@ use Rattle.lists.specs.Lists.{_∈_, any, Ascending, Distinct}
 use Rattle.lists.proofs.Lists.{any-in, any-out, keep-in, keep-out}
 use Rattle.lists.proofs.Members.{map-out, at-in, distinct-map, distinct-length, ascending-distinct}
 use Rattle.lists.proofs.Tests.{and-both, and-parts, or-cases, or-left, or-right}
-use Rattle.automata.specs.Automaton.{Transition, Automaton, leaving}
+use Rattle.automata.specs.Automaton.{Transition, Automaton, leaving, hasEpsilon}
 use Rattle.automata.specs.Records.{wordsOf}
 use Rattle.automata.specs.WellFormed.{mostStates, mostTransitions, Before}
 use Rattle.automata.proofs.Ordered.{lex-irreflexive, inOrder-in, inOrder-ascending}
 use Rattle.search.specs.Search.{index, found, table}
 use Rattle.search.proofs.Tables.{index-lt, index-at, index-place}
 use Rattle.search.proofs.Queue.{table-all}
-use Rattle.product.specs.Product.{Pair, samePair, Joint, jointsFrom, pairs, transitionOf, placeIn, built, isNone, hasEpsilon, blocked, blockedAt}
+use Rattle.automata.specs.Pairs.{Pair, samePair}
+use Rattle.product.specs.Product.{Joint, jointsFrom, pairs, transitionOf, placeIn, built, isNone, blocked, blockedAt}
 use Rattle.product.specs.Reached.{Reached, step, Blocked, PairTransition, Arises, ManyTransitions}
 use Rattle.product.proofs.Joints.{jointBy}
 use Rattle.product.proofs.Joints
-use Rattle.product.proofs.Pairs.{pair-eq, same-decides, pairs-decides, graph-reached, reached-graph}
+use Rattle.automata.proofs.Pairs.{pair-eq, pair-decides}
+use Rattle.product.proofs.Pairs.{pairs-decides, graph-reached, reached-graph}
 use Rattle.product.proofs.Result.{startPair, from-in}
 use Rattle.product.proofs.Runs.{pairAt, leads}
 
@@ -105,10 +107,10 @@ module _ (A B : Automaton) (T : List Pair) (e : table (pairs A B) mostStates ≡
   distinct = table-all (pairs A B) (pairs-decides A B) mostStates T e .good .distinct
 
   place : (i : ℕ) → i < length T → index samePair (pairAt A B T e i) T ≡ i
-  place i h = index-place samePair same-decides (startPair A B) distinct i h
+  place i h = index-place samePair pair-decides (startPair A B) distinct i h
 
   at : (p : Pair) → p ∈ T → pairAt A B T e (index samePair p T) ≡ p
-  at p m = index-at samePair same-decides (startPair A B) p T m
+  at p m = index-at samePair pair-decides (startPair A B) p T m
 
   numbered-named : (t : Transition) → t ∈ built A B T .transitions → numbered (named t) ≡ t
   numbered-named t m = let r = leads A B T e t m in same t (place (t .from) (r .from-lt)) (place (t .to) (r .to-lt)) (r .is-range)
@@ -148,7 +150,7 @@ module _ (A B : Automaton) (T : List Pair) (e : table (pairs A B) mostStates ≡
   unfolding built transitionOf
   arises-in t r =
       let i = index samePair (t .from) T in
-      let h = index-lt samePair same-decides (t .from) (from-entry t r) in
+      let h = index-lt samePair pair-decides (t .from) (from-entry t r) in
       let q : pairAt A B T e i ≡ t .from = at (t .from) (from-entry t r) in
       let j = jointBy (r .by-left) (r .by-right) in
       let m : j ∈ jointsFrom A B (pairAt A B T e i) = subst (λ (p : Pair). j ∈ jointsFrom A B p) (sym q) (Joints.from-in A B (t .from) (r .meet)) in

@@ -11,7 +11,8 @@ use lib.ListN.{getD, length}
 use Rattle.lists.specs.Lists.{_∈_}
 use Rattle.lists.proofs.Members.{map-in, map-out}
 use Rattle.automata.specs.Automaton.{Transition, Automaton}
-use Rattle.product.specs.Product.{Pair, Joint, jointsFrom, transitionOf, transitionsFrom, acceptOf}
+use Rattle.automata.specs.Pairs.{Pair}
+use Rattle.product.specs.Product.{Joint, jointsFrom, transitionOf, transitionsFrom, acceptOf}
 
 -- an image at a place within the list
 pub map-at : {X Y : Type 0} (f : X → Y) (l : List X) (k : ℕ) (d : X) (e : Y) → k < length l → getD (map f l) k e ≡ f (getD l k d)

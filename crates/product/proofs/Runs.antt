@@ -10,17 +10,19 @@ use lib.ListN.{getD, length, length-map, List·getD-eq-default}
 use Rattle.lists.specs.Lists.{_∈_}
 use Rattle.lists.proofs.Members.{at-in, map-in}
 use Rattle.lists.proofs.Tests.{test}
-use Rattle.automata.specs.Automaton.{Transition, Automaton, Run, stay, skip, read, Accepts}
+use Rattle.automata.specs.Automaton.{Transition, Automaton, Run, stay, skip, read, Accepts, EpsilonFree}
 use Rattle.automata.specs.WellFormed.{mostStates}
 use Rattle.automata.proofs.Ordered.{inOrder-in, inOrder-out}
 use Rattle.search.specs.Search.{index, found, table}
 use Rattle.search.proofs.Tables.{index-lt, index-at}
 use Rattle.search.proofs.Queue.{table-some, table-start, table-closed}
-use Rattle.product.specs.Product.{Pair, samePair, Joint, jointsFrom, pairs, transitionOf, placeIn, acceptOf, built}
-use Rattle.product.specs.Reached.{Meet, EpsilonFree}
+use Rattle.automata.specs.Pairs.{Pair, samePair}
+use Rattle.product.specs.Product.{Joint, jointsFrom, pairs, transitionOf, placeIn, acceptOf, built}
+use Rattle.product.specs.Reached.{Meet}
 use Rattle.product.proofs.Joints.{jointBy, from-out}
 use Rattle.product.proofs.Joints
-use Rattle.product.proofs.Pairs.{same-decides, pairs-decides}
+use Rattle.automata.proofs.Pairs.{pair-decides}
+use Rattle.product.proofs.Pairs.{pairs-decides}
 use Rattle.product.proofs.Result.{startPair, map-at, accept-both, origin, from-in}
 
 joint-eq : (j : Joint) (l h : ℕ) (p : Pair) → l ≡ j .span .low → h ≡ j .span .high → p ≡ j .to → record { span = record { low = l; high = h }; to = p } ≡ j
@@ -51,7 +53,7 @@ module _ (A B : Automaton) (T : List Pair) (e : table (pairs A B) mostStates ≡
   joint-entry i h j m = table-closed (pairs A B) (pairs-decides A B) mostStates T e (pairAt i) (j .to) (at-in T i (startPair A B) h) (map-in (λ (j : Joint). j .to) m)
 
   pub joint-at : (i : ℕ) → i < length T → (j : Joint) → j ∈ jointsFrom A B (pairAt i) → pairAt (index samePair (j .to) T) ≡ j .to
-  joint-at i h j m = index-at samePair same-decides (startPair A B) (j .to) T (joint-entry i h j m)
+  joint-at i h j m = index-at samePair pair-decides (startPair A B) (j .to) T (joint-entry i h j m)
 
   pub leads : (t : Transition) → t ∈ P .transitions → Leads t
   unfolding built transitionOf
@@ -65,7 +67,7 @@ module _ (A B : Automaton) (T : List Pair) (e : table (pairs A B) mostStates ≡
       let high : t .last ≡ j .span .high = ap (λ (x : Transition). x .last) (r .is) in
       let to : t .to ≡ index samePair (j .to) T = ap (λ (x : Transition). x .to) (r .is) in
       let g = from-out A B (pairAt i) j (r .in) in
-      let l = index-lt samePair same-decides (j .to) (joint-entry i n j (r .in)) in
+      let l = index-lt samePair pair-decides (j .to) (joint-entry i n j (r .in)) in
       let at : pairAt (t .to) ≡ j .to = ap pairAt to ∙ joint-at i n j (r .in) in
       let low′ = ap (λ (x : Joint). x .span .low) (g .of .is) in
       let high′ = ap (λ (x : Joint). x .span .high) (g .of .is) in
@@ -132,7 +134,7 @@ module _ (A B : Automaton) (T : List Pair) (e : table (pairs A B) mostStates ≡
       } in
       let j = jointBy d c in
       let jm = Joints.from-in A B (pairAt i) meet in
-      let ih = both-run f g r s (index samePair (j .to) T) (index-lt samePair same-decides (j .to) (joint-entry i h j jm)) (joint-at i h j jm) in
+      let ih = both-run f g r s (index samePair (j .to) T) (index-lt samePair pair-decides (j .to) (joint-entry i h j jm)) (joint-at i h j jm) in
       record { number = ih .number; near = ih .near; at = ih .at; run = read-both i h meet (ih .run) }
 
   -- a pair's accept word

@@ -16,7 +16,8 @@ use Rattle.lists.proofs.Written.{written-none, written-append, written-more, wr
 use Rattle.labels.specs.Labels.{entry, writeEntries, countBytes, writeLabels, AllLabels, none, more}
 use Rattle.labels.proofs.Listing.{list-none, list-next, list-length, list-room, list-done, label-pair}
 use Rattle.sheets.specs.Sheet.{stateCount, read}
-use Rattle.product.specs.Product.{Pair, acceptOf, labelOf}
+use Rattle.automata.specs.Pairs.{Pair}
+use Rattle.product.specs.Product.{acceptOf, labelOf}
 use Rattle.product.specs.Tables.{pairOf, tableOf, Within, sheetWords}
 use Rattle.product.proofs.Blocking.{within-left, within-right}
 use Rattle.product.proofs.Queueing.{length-table}

@@ -7,7 +7,7 @@ use mathlib.Core.Path.{_≡_, sym, _∙_}
 use native.Mathlib.Omega.{arith}
 use lib.ListN.{length, length-map}
 use Rattle.lists.specs.Lists.{any}
-use Rattle.automata.specs.Automaton.{Automaton, Accepts}
+use Rattle.automata.specs.Automaton.{Automaton, Accepts, EpsilonFree}
 use Rattle.automata.specs.WellFormed.{mostStates, mostTransitions, WellFormed, Fits}
 use Rattle.output.specs.Output.{Pattern}
 use Rattle.refusal.specs.Answer.{refused, given}
@@ -16,9 +16,10 @@ use Rattle.search.proofs.Queue.{table-few}
 use Rattle.sheets.specs.Fault.{fault}
 use Rattle.sheets.specs.Sheet.{read, write}
 use Rattle.sheets.proofs.Meaning.{read-write-sheet, write-accepted}
-use Rattle.product.specs.Product.{Pair, built, blockedAt, labelOf, product}
+use Rattle.automata.specs.Pairs.{Pair}
+use Rattle.product.specs.Product.{built, blockedAt, labelOf, product}
 use Rattle.product.specs.Product
-use Rattle.product.specs.Reached.{ManyPairs, Blocked, ManyTransitions, EpsilonFree}
+use Rattle.product.specs.Reached.{ManyPairs, Blocked, ManyTransitions}
 use Rattle.product.proofs.Pairs.{pairs-decides, over-pairs}
 use Rattle.product.proofs.Runs.{words-both}
 use Rattle.product.proofs.Written.{built-well-formed}

@@ -14,7 +14,8 @@ use Rattle.automata.specs.WellFormed.{mostStates, greatestAccept, WellFormed}
 use Rattle.automata.proofs.Ordered.{inOrder-ascending}
 use Rattle.search.specs.Search.{found, table}
 use Rattle.search.proofs.Queue.{table-some}
-use Rattle.product.specs.Product.{Pair, pairs, acceptOf, built}
+use Rattle.automata.specs.Pairs.{Pair}
+use Rattle.product.specs.Product.{pairs, acceptOf, built}
 use Rattle.product.proofs.Pairs.{pairs-decides}
 use Rattle.product.proofs.Result.{map-at, startPair}
 use Rattle.product.proofs.Runs.{leads}

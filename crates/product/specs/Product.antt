@@ -4,27 +4,20 @@ use Prim.Native.Nat.{ℕ, suc}
 use mathlib.Core.Bool.{Bool, true, false, cond, _&&_, _||_, not}
 use mathlib.Core.List.{List, [], _∷_, _++_, map}
 use mathlib.Core.Option.{Option, none, some}
-use lib.Dec.{eqb, ltb}
+use lib.Dec.{eqb}
 use lib.ListN.{getD, length}
 use Rattle.lists.specs.Lists.{any}
-use Rattle.automata.specs.Automaton.{Transition, Automaton, leaving, rangesOf}
+use Rattle.automata.specs.Automaton.{Transition, Automaton, leaving, rangesOf, hasEpsilon}
 use Rattle.automata.specs.Ordered.{inOrder}
-use Rattle.automata.specs.WellFormed.{mostStates, mostTransitions}
+use Rattle.automata.specs.Pairs.{Pair, samePair}
+use Rattle.automata.specs.WellFormed.{mostStates}
 use Rattle.labels.specs.Forms.{pairLabel}
-use Rattle.output.specs.Output.{Pattern}
+use Rattle.output.specs.Output.{Pattern, transitionsFirst}
 use Rattle.ranges.specs.Span.{Span, intersectRanges}
 use Rattle.refusal.specs.Answer.{Answer, refused, given}
 use Rattle.search.specs.Search.{Graph, index, Found, over, found, table}
 use Rattle.sheets.specs.Checked.{sheetFirst}
 use Rattle.sheets.specs.Sheet.{read}
-
--- a state of the first automaton and one of the second
-pub record Pair : Type 0 where
-  pub left : ℕ
-  pub right : ℕ
-
-unfoldable pub samePair : Pair → Pair → Bool
-samePair p q = eqb (p .left) (q .left) && eqb (p .right) (q .right)
 
 -- the symbols that a range of the first and one of the second share, and the pair to which the two lead
 pub record Joint : Type 0 where
@@ -98,9 +91,6 @@ unfoldable pub isNone : List Transition → Bool
 isNone [] = true
 isNone (e ∷ es) = false
 
-unfoldable pub hasEpsilon : List Transition → Bool
-hasEpsilon es = any (λ e. eqb (e .kind) 0) es
-
 unfoldable pub blocked : List Transition → List Transition → Bool
 blocked ds es = (not (isNone ds) && not (isNone es)) && (hasEpsilon ds || hasEpsilon es)
 
@@ -111,14 +101,14 @@ blockedAt A B p = blocked (leaving A (p .left)) (leaving B (p .right))
 abbrev pub labelOf : Pair → List ℕ
 labelOf p = pairLabel (p .left) (p .right)
 
--- 22 where there are too many transitions
-unfoldable pub limited : Automaton → List (List ℕ) → Answer Pattern
-limited P ls = cond (ltb mostTransitions (length (P .transitions))) (refused 22) (given (record { automaton = P; labels = ls }))
+-- the product of a finished table with its labels
+unfoldable pub labelled : Automaton → Automaton → List Pair → Pattern
+labelled A B T = record { automaton = built A B T; labels = map labelOf T }
 
 -- 21 where there are too many pairs, then 7, then 22
 unfoldable pub answerOf : Automaton → Automaton → Found Pair → Answer Pattern
 answerOf A B over = refused 21
-answerOf A B (found T) = cond (any (blockedAt A B) T) (refused 7) (limited (built A B T) (map labelOf T))
+answerOf A B (found T) = cond (any (blockedAt A B) T) (refused 7) (transitionsFirst (built A B T) (given (labelled A B T)))
 
 unfoldable pub product : Automaton → Automaton → Answer Pattern
 product A B = answerOf A B (table (pairs A B) mostStates)

@@ -6,7 +6,7 @@ use mathlib.Core.Path.{_≡_}
 use lib.ListN.{length}
 use Rattle.lists.specs.Lists.{_∈_, Distinct}
 use Rattle.automata.specs.Automaton.{Transition, Automaton}
-use Rattle.product.specs.Product.{Pair}
+use Rattle.automata.specs.Pairs.{Pair}
 
 -- a range of the first that leaves p and one of the second that leaves q hold the symbol a
 pub record Meet (A B : Automaton) (p q : ℕ) (d e : Transition) (a : ℕ) : Type 0 where
@@ -66,7 +66,3 @@ pub record ManyTransitions (k : ℕ) (A B : Automaton) : Type 0 where
   pub distinct : Distinct transitions
   pub arise : (t : PairTransition) → t ∈ transitions → Arises A B t
   pub many : k < length transitions
-
--- no epsilon
-abbrev pub EpsilonFree : Automaton → Type 0
-EpsilonFree A = (e : Transition) → e ∈ A .transitions → e .kind ≡ 1

@@ -6,13 +6,12 @@ use mathlib.Core.Path.{_≡_}
 use lib.Dec.{ltb}
 use lib.ListN.{length, take}
 use Rattle.lists.specs.Lists.{_∈_, any, Distinct}
-use Rattle.automata.specs.Automaton.{Transition, Automaton}
+use Rattle.automata.specs.Automaton.{Transition, Automaton, hasEpsilon}
 use Rattle.automata.specs.WellFormed.{mostStates}
 use Rattle.buckets.specs.Buckets.{Entered}
 use Rattle.search.specs.Search.{meet, Found, over, found, table}
-use Rattle.sheets.specs.Accepted.{Accepted}
-use Rattle.sheets.specs.Runs.{Indexed}
-use Rattle.product.specs.Product.{Pair, samePair, jointsOf, pairs, transitionOf, placeIn, hasEpsilon, blockedAt}
+use Rattle.automata.specs.Pairs.{Pair, samePair}
+use Rattle.product.specs.Product.{jointsOf, pairs, transitionOf, placeIn, blockedAt}
 
 -- the pair of states of a word
 abbrev pub pairOf : ℕ → Pair
@@ -49,15 +48,6 @@ pub record Met (T ps : List Pair) (queue t : List ℕ) (n : ℕ) : Type 0 where
 -- the pairs to which ranges among ds and es that meet lead
 unfoldable pub targets : List Transition → List Transition → List Pair
 targets ds es = map (λ j. j .to) (jointsOf ds es)
-
--- the transitions lead to states below 256
-pub record Narrow (es : List Transition) : Type 0 where
-  pub tos : (e : Transition) → e ∈ es → e .to < 256
-
--- an accepted sheet and where the runs of its states begin
-pub record Ready (s runs : List ℕ) : Type 0 where
-  pub accepted : Accepted s
-  pub indexed : Indexed s runs
 
 -- pairs of a state below n and one below m
 pub record Within (n m : ℕ) (T : List Pair) : Type 0 where

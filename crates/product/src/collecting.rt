@@ -8,7 +8,8 @@ ghost use Rattle.sheets.specs.Sheet.{stateCount, read};
 ghost use Rattle.output.specs.Gathering.{Open, Gathered, Collected};
 ghost use Rattle.output.specs.Ordered.{recordsIn};
 ghost use Rattle.product.specs.Product.{jointsFrom, transitionOf, transitionsFrom, placeIn};
-ghost use Rattle.product.specs.Tables.{pairOf, tableOf, Queued, Narrow, Ready, Within, links};
+ghost use Rattle.sheets.specs.Runs.{Named, Ready};
+ghost use Rattle.product.specs.Tables.{pairOf, tableOf, Queued, Within, links};
 use ranges::Common;
 
 // The number of the pair of p and q among the first n of the queue, or n.
@@ -31,7 +32,7 @@ fn add_joint(
     buf: &mut [u32],
     end: usize,
 ) -> usize
-    requires { ⌜ (length (now d) ≡ 5) × (length (now e) ≡ 5) × Narrow (recordAt (now d) 0 ∷ []) × Narrow (recordAt (now e) 0 ∷ []) × Queued (now queue) (now t) n × (n ≤ 256) × Open (now buf) end ⌝ }
+    requires { ⌜ (length (now d) ≡ 5) × (length (now e) ≡ 5) × (recordAt (now d) 0 .to < 256) × (recordAt (now e) 0 .to < 256) × Queued (now queue) (now t) n × (n ≤ 256) × Open (now buf) end ⌝ }
     ensures { λ r. ⌜ Gathered (now (buf .exit)) r (recordsIn (now (buf .entry)) 0 end ++ links (tableOf (now (queue .entry)) n) i (recordAt (now (d .entry)) 0 ∷ []) (recordAt (now (e .entry)) 0 ∷ [])) ⌝ }
 {
     if d[1] != 1 {
@@ -60,7 +61,7 @@ fn add_run(
     buf: &mut [u32],
     end: usize,
 ) -> usize
-    requires { ⌜ (length (now d) ≡ 5) × Narrow (recordAt (now d) 0 ∷ []) × Narrow (readRecords (now run)) × Queued (now queue) (now t) n × (n ≤ 256) × Open (now buf) end ⌝ }
+    requires { ⌜ (length (now d) ≡ 5) × (recordAt (now d) 0 .to < 256) × Named (readRecords (now run)) × Queued (now queue) (now t) n × (n ≤ 256) × Open (now buf) end ⌝ }
     ensures { λ r. ⌜ Gathered (now (buf .exit)) r (recordsIn (now (buf .entry)) 0 end ++ links (tableOf (now (queue .entry)) n) i (recordAt (now (d .entry)) 0 ∷ []) (readRecords (now (run .entry)))) ⌝ }
 {
     let mut k = end;
@@ -86,7 +87,7 @@ fn add_runs(
     buf: &mut [u32],
     end: usize,
 ) -> usize
-    requires { ⌜ Narrow (readRecords (now first)) × Narrow (readRecords (now second)) × Queued (now queue) (now t) n × (n ≤ 256) × Open (now buf) end ⌝ }
+    requires { ⌜ Named (readRecords (now first)) × Named (readRecords (now second)) × Queued (now queue) (now t) n × (n ≤ 256) × Open (now buf) end ⌝ }
     ensures { λ r. ⌜ Gathered (now (buf .exit)) r (recordsIn (now (buf .entry)) 0 end ++ links (tableOf (now (queue .entry)) n) i (readRecords (now (first .entry))) (readRecords (now (second .entry)))) ⌝ }
 {
     let mut k = end;

@@ -8,7 +8,8 @@ ghost use Rattle.automata.specs.WellFormed.{mostStates};
 ghost use Rattle.search.specs.Search.{table};
 ghost use Rattle.sheets.specs.Sheet.{stateCount, read};
 ghost use Rattle.product.specs.Product.{pairs};
-ghost use Rattle.product.specs.Tables.{pairOf, tableOf, Queued, Met, targets, Narrow, Ready, Within, foundIn};
+ghost use Rattle.sheets.specs.Runs.{Named, Ready};
+ghost use Rattle.product.specs.Tables.{pairOf, tableOf, Queued, Met, targets, Within, foundIn};
 use ranges::Common;
 
 // The pair of p and q gets the next number, if it has none and there is room. The number of pairs afterwards.
@@ -34,7 +35,7 @@ fn meet_pair(queue: &mut [u32], t: &mut [usize], n: usize, p: u32, q: u32) -> us
 
 // The pair to which the records d and e lead is met, if they are ranges that meet.
 fn meet_record(d: &[u32], e: &[u32], queue: &mut [u32], t: &mut [usize], n: usize) -> usize
-    requires { ⌜ Queued (now queue) (now t) n × (length (now d) ≡ 5) × (length (now e) ≡ 5) × Narrow (recordAt (now d) 0 ∷ []) × Narrow (recordAt (now e) 0 ∷ []) ⌝ }
+    requires { ⌜ Queued (now queue) (now t) n × (length (now d) ≡ 5) × (length (now e) ≡ 5) × (recordAt (now d) 0 .to < 256) × (recordAt (now e) 0 .to < 256) ⌝ }
     ensures { λ r. ⌜ Met (tableOf (now (queue .entry)) n) (targets (recordAt (now (d .entry)) 0 ∷ []) (recordAt (now (e .entry)) 0 ∷ [])) (now (queue .exit)) (now (t .exit)) r ⌝ }
 {
     if d[1] != 1 {
@@ -51,7 +52,7 @@ fn meet_record(d: &[u32], e: &[u32], queue: &mut [u32], t: &mut [usize], n: usiz
 
 // The pairs to which the record d and those of the run lead are met.
 fn meet_run(d: &[u32], run: &[u32], queue: &mut [u32], t: &mut [usize], n: usize) -> usize
-    requires { ⌜ Queued (now queue) (now t) n × (length (now d) ≡ 5) × Narrow (recordAt (now d) 0 ∷ []) × Narrow (readRecords (now run)) ⌝ }
+    requires { ⌜ Queued (now queue) (now t) n × (length (now d) ≡ 5) × (recordAt (now d) 0 .to < 256) × Named (readRecords (now run)) ⌝ }
     ensures { λ r. ⌜ Met (tableOf (now (queue .entry)) n) (targets (recordAt (now (d .entry)) 0 ∷ []) (readRecords (now (run .entry)))) (now (queue .exit)) (now (t .exit)) r ⌝ }
 {
     let mut m = n;
@@ -65,7 +66,7 @@ fn meet_run(d: &[u32], run: &[u32], queue: &mut [u32], t: &mut [usize], n: usize
 
 // The pairs to which the records of two runs lead are met, the first's outermost.
 fn meet_runs(first: &[u32], second: &[u32], queue: &mut [u32], t: &mut [usize], n: usize) -> usize
-    requires { ⌜ Queued (now queue) (now t) n × Narrow (readRecords (now first)) × Narrow (readRecords (now second)) ⌝ }
+    requires { ⌜ Queued (now queue) (now t) n × Named (readRecords (now first)) × Named (readRecords (now second)) ⌝ }
     ensures { λ r. ⌜ Met (tableOf (now (queue .entry)) n) (targets (readRecords (now (first .entry))) (readRecords (now (second .entry)))) (now (queue .exit)) (now (t .exit)) r ⌝ }
 {
     let mut m = n;

@@ -7,6 +7,7 @@ pub mod Scanned
 pub mod Missing
 pub mod Overlap
 pub mod Sorting
+pub mod Functional
 pub mod Runs
 pub mod SortedCuts
 pub mod Writing

@@ -1,12 +1,12 @@
 -- Spans of symbols: what two share, and whether ranges overlap (document 01, "Ranges").
-use Prim.Native.Nat.{ℕ, _≤_, min, max}
+use Prim.Native.Nat.{ℕ, _≤_, _<_, min, max}
 use mathlib.Core.Bool.{Bool, true, false, cond, _&&_, _||_}
 use mathlib.Core.List.{List, [], _∷_}
 use mathlib.Core.Option.{Option, none, some}
 use mathlib.Core.Path.{_≡_}
 use lib.Dec.{leb}
 use Rattle.lists.specs.Lists.{_∈_}
-use Rattle.automata.specs.Automaton.{Transition, holds}
+use Rattle.automata.specs.Automaton.{Transition, Automaton, holds, leaving, rangesOf}
 use Rattle.ranges.specs.declared.Common.{Common}
 use Rattle.ranges.specs.declared.Common.the-variants.{Range, Nothing}
 
@@ -50,6 +50,10 @@ startsBelow end (e ∷ es) = leb (e .first) end || startsBelow (max end (e .last
 unfoldable pub overlapping : List Transition → Bool
 overlapping [] = false
 overlapping (e ∷ es) = startsBelow (e .last) es
+
+-- the ranges of no state overlap
+abbrev pub OverlapFree : Automaton → Type 0
+OverlapFree A = (q : ℕ) → q < A .size → overlapping (rangesOf (leaving A q)) ≡ false
 
 -- two different entries hold the same symbol: the first and a later one, or two later ones
 pub data Shared : List Transition → Type 0 where

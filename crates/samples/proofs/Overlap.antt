@@ -2,7 +2,7 @@
 use mathlib.Core.List.{[], _∷_, flatMap}
 use mathlib.Core.Path.{_≡_, refl}
 use Rattle.lists.specs.Lists.{any, keep, tabulate}
-use Rattle.automata.specs.Automaton.{holds, leaving, rangesOf, states}
+use Rattle.automata.specs.Automaton.{holds, leaving, rangesOf, states, hasEpsilon}
 use Rattle.automata.specs.Ordered.{inOrder, insert}
 use Rattle.automata.specs.Records.{readRecords, writeRecords}
 use Rattle.automata.specs.WellFormed.{lastSymbol}
@@ -15,7 +15,7 @@ use Rattle.sets.specs.Closure.{through, closed}
 use Rattle.sheets.specs.Checked.{sheetFirst}
 use Rattle.sheets.specs.Fault.{isBad, recordFault, recordsFault, transitionsFault, statesFault, fault}
 use Rattle.sheets.specs.Sheet.{read, write}
-use Rattle.totality.specs.Totality.{holesOf, hasEpsilon, isNfaAt, isNfaIn, isNfa, filled, filledIn, totalized, flipped, complemented}
+use Rattle.totality.specs.Totality.{holesOf, isNfaAt, isNfaIn, isNfa, filled, filledIn, totalized, flipped, complemented}
 use Rattle.words.specs.Acceptance.{acceptsWords}
 use Rattle.words.specs.Simulation.{isEpsilon, epsilonRow, closures, closure, outgoing, step, startSet, simulate, least, kindOf, kind}
 use Rattle.samples.proofs.Patterns.{O}

@@ -7,7 +7,8 @@ use Rattle.automata.specs.Automaton.{Transition, Automaton, holds}
 use Rattle.automata.specs.Records.{readRecords}
 use Rattle.automata.specs.WellFormed.{lastSymbol}
 use Rattle.determinize.specs.Partition.{partOf, partition}
-use Rattle.determinize.specs.Determinize.{targets, someOf, subsets, table, states, transitionOf, transitionsOf, transitionsFrom, built, limited, answerOf, determinize}
+use Rattle.determinize.specs.Determinize.{targets, someOf, subsets, table, states, transitionOf, transitionsOf, transitionsFrom, built, answerOf, determinize}
+use Rattle.output.specs.Output.{transitionsFirst}
 use Rattle.ranges.specs.Cuts.{nearer, nextCut, spans, cutAll}
 use Rattle.ranges.specs.Missing.{covered}
 use Rattle.refusal.specs.Answer.{given}
@@ -62,7 +63,7 @@ DC = record {
 }
 
 pub determinized : (determinize 0 lastSymbol (read A) ≡ given DA) × (determinize 0 lastSymbol (read B) ≡ given DB) × (determinize 0 lastSymbol (read C) ≡ given DC)
-unfolding any keep tabulate holds readRecords has pickFrom same index through closed isEpsilon epsilonRow closures closure outgoing step startSet least kindOf nearer nextCut spans cutAll covered partOf partition targets isEmpty someOf subsets Search.add Search.meet Search.explore Search.table table states transitionOf transitionsOf transitionsFrom built limited answerOf determinize
+unfolding any keep tabulate holds readRecords has pickFrom same index through closed isEpsilon epsilonRow closures closure outgoing step startSet least kindOf nearer nextCut spans cutAll covered partOf partition targets isEmpty someOf subsets Search.add Search.meet Search.explore Search.table table states transitionOf transitionsOf transitionsFrom built transitionsFirst answerOf determinize
 determinized = (refl, refl, refl)
 
 pub no-fault : (fault A ≡ 0) × (fault B ≡ 0) × (fault C ≡ 0)

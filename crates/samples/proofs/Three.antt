@@ -12,7 +12,7 @@ use Rattle.lists.specs.Lists.{_∈_, keep}
 use Rattle.lists.proofs.Tests.{test}
 use Rattle.automata.specs.Automaton.{Transition, holds, carries}
 use Rattle.automata.specs.WellFormed.{WellFormed, lastSymbol}
-use Rattle.determinize.specs.Deterministic.{Deterministic}
+use Rattle.automata.specs.Deterministic.{Deterministic}
 use Rattle.determinize.proofs.Theorems.{determinize-deterministic, determinize-wellformed}
 use Rattle.dsu.specs.Classes.{Classes, none, old, new}
 use Rattle.equality.specs.Forced.{Two, Such, Forced, starts, follow, successorIn}

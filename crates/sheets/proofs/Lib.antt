@@ -4,4 +4,5 @@ pub mod Accepted
 pub mod Meaning
 pub mod Below
 pub mod Runs
+pub mod Named
 pub mod Words

@@ -5,11 +5,12 @@ use mathlib.Core.Path.{_≡_}
 use lib.Dec.{ltb}
 use lib.ListN.{length, getD, take, drop}
 use lib.Seq.{sets}
-use Rattle.lists.specs.Lists.{keep, tabulate, Ascending}
+use Rattle.lists.specs.Lists.{_∈_, keep, tabulate, Ascending}
 use Rattle.automata.specs.Automaton.{Transition, leaving}
 use Rattle.automata.specs.Records.{writeRecords}
 use Rattle.automata.specs.WellFormed.{mostStates, mostTransitions}
 use Rattle.sheets.specs.Sheet.{stateCount, recordCount, recordsAt, read}
+use Rattle.sheets.specs.Accepted.{Accepted}
 
 -- how many of the transitions leave a state below q
 unfoldable pub below : ℕ → List Transition → ℕ
@@ -31,6 +32,16 @@ Rising es = Ascending (λ d e. d .from ≤ e .from) es
 pub record Indexed (s starts : List ℕ) : Type 0 where
   pub long : stateCount s < length starts
   pub at : (q : ℕ) → q ≤ stateCount s → getD starts q 0 ≡ below q (read s .transitions)
+
+-- an accepted sheet and where the runs of its states begin
+pub record Ready (s starts : List ℕ) : Type 0 where
+  pub accepted : Accepted s
+  pub indexed : Indexed s starts
+
+-- the states that the transitions name are below 256
+pub record Named (es : List Transition) : Type 0 where
+  pub froms : (e : Transition) → e ∈ es → e .from < mostStates
+  pub tos : (e : Transition) → e ∈ es → e .to < mostStates
 
 -- the records of state q stand in s where starts says
 pub record RunAt (s starts : List ℕ) (q : ℕ) : Type 0 where

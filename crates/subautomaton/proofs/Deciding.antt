@@ -2,7 +2,7 @@
 use Prim.Native.Nat.{ℕ, _+_, _-_, _<_}
 use mathlib.Core.Bool.{Bool, true, false, not, _&&_}
 use mathlib.Core.List.{List, []}
-use mathlib.Core.Path.{_≡_, refl, sym, _∙_, ap, subst}
+use mathlib.Core.Path.{_≡_, refl, sym, _∙_, ap}
 use native.Mathlib.Omega.{arith}
 use borrow.Author.Needs.{needs}
 use borrow.Author.Tests.{eq-eqb, ne-eqb, eqb-true}
@@ -18,12 +18,13 @@ use Rattle.automata.specs.Automaton.{Transition, leaving, states}
 use Rattle.automata.specs.Records.{readRecords}
 use Rattle.labels.specs.Labels.{sameLabel, readLabels}
 use Rattle.labels.proofs.Labels.{length-read}
-use Rattle.sheets.specs.Runs.{startsOf}
+use Rattle.sheets.specs.Runs.{startsOf, Named, Ready}
 use Rattle.sheets.specs.Sheet.{stateCount, read}
 use Rattle.sheets.proofs.Meaning.{read-well}
+use Rattle.sheets.proofs.Named.{sheet-named}
 use Rattle.sheets.proofs.Runs.{starts-indexed}
 use Rattle.subautomaton.specs.Inclusion.{labelOf, isSame, hasState, covers, isCovered, isSubautomaton}
-use Rattle.subautomaton.specs.Tables.{Numbered, isHeld, isHeldIn, fits, fitsFrom, fitsIn, Small, Ready, Inputs, Tabled}
+use Rattle.subautomaton.specs.Tables.{Numbered, isHeld, isHeldIn, fits, fitsFrom, fitsIn, Inputs, Tabled}
 use Rattle.subautomaton.specs.Answer.{patternOf}
 use Rattle.lists.proofs.Every.{all-ext}
 use Rattle.lists.proofs.Tests.{no-true, no-false}
@@ -112,17 +113,13 @@ module _ (a al b bl starts ca cb : List ℕ) (t : Tabled a al b bl starts ca cb)
           g ∙ ap (λ (w : List ℕ). all (fitsIn (read b) ca cb) (readRecords w)) (part-all (stateCount a + 4) a) ∙ sym (by-parts ∙ rw (← e, z, eq-eqb _ _ (sym n)))
 
   -- what the calls ask
-  pub decide-small : Small (readRecords (take (length a - (stateCount a + 4)) (drop (stateCount a + 4) a)))
-  decide-small =
-      let w = read-well a (t .inputs .first) .states in
-      let f = t .inputs .first .few-states in
-      subst (λ (l : List ℕ). Small (readRecords l)) (sym (part-all (stateCount a + 4) a))
-      (record { froms = λ d m. omega (arith, w .froms d m); tos = λ d m. omega (arith, w .tos d m) })
+  pub decide-named : Named (readRecords (take (length a - (stateCount a + 4)) (drop (stateCount a + 4) a)))
+  decide-named = sheet-named a (t .inputs .first)
 
   pub decide-ready : Ready b starts
   decide-ready = record { accepted = t .inputs .second; indexed = t .indexed }
 
-pub ruleset decideLaws = (decide-states, decide-start, decide-covered, decide-small, decide-ready, needs)
+pub ruleset decideLaws = (decide-states, decide-start, decide-covered, decide-named, decide-ready, needs)
 
 -- the tables
 pub tables-made : (a al b bl old starts ca cb : List ℕ) → Inputs a al b bl → starts ≡ sets old 0 (startsOf b) → length old ≡ 257 → Numbered (stateCount a) (readLabels al) (readLabels bl) ca

@@ -1,24 +1,21 @@
 -- The tests of one state and of one record, and the records of a run.
-use Prim.Native.Nat.{ℕ, _+_, _-_, _≤_, _<_}
+use Prim.Native.Nat.{ℕ, _-_, _≤_, _<_}
 use mathlib.Core.Bool.{Bool, true, false}
-use mathlib.Core.List.{List, List·Memᴰ·head, List·Memᴰ·tail}
-use mathlib.Core.Path.{_≡_, sym, _∙_, ap, subst}
+use mathlib.Core.List.{List}
+use mathlib.Core.Path.{_≡_, sym, _∙_, ap}
 use native.Mathlib.Omega.{arith}
 use borrow.Author.Needs.{needs}
 use borrow.Author.Tests.{eq-eqb, ne-eqb, le-leb, lt-leb}
 use lib.Dec.{ltb, leb}
-use lib.ListN.{length, getD, take, drop}
-use Rattle.lists.specs.Lists.{_∈_, any}
-use Rattle.lists.proofs.Lists.{keep-out}
+use lib.ListN.{getD}
+use Rattle.lists.specs.Lists.{any}
 use Rattle.automata.specs.Automaton.{Transition, leaving, states}
 use Rattle.automata.specs.Records.{recordAt, readRecords, writeRecords}
-use Rattle.automata.proofs.Records.{records-at, part-record, read-write}
+use Rattle.automata.proofs.Records.{read-write}
 use Rattle.sheets.specs.Accepted.{Accepted}
-use Rattle.sheets.specs.Runs.{RunAt}
 use Rattle.sheets.specs.Sheet.{stateCount, read}
-use Rattle.sheets.proofs.Meaning.{read-well}
-use Rattle.sheets.proofs.Runs.{run-at}
-use Rattle.subautomaton.specs.Tables.{isHeld, isHeldIn, fits, fitsFrom, fitsIn, Small, Ready}
+use Rattle.sheets.proofs.Named.{named-from, named-to, named-next, ready-run, ready-named}
+use Rattle.subautomaton.specs.Tables.{isHeld, isHeldIn, fits, fitsFrom, fitsIn}
 use Rattle.subautomaton.proofs.Loops.{some-begin, some-ended, some-found, some-next, each-begin, each-ended, each-failed, each-next, record-ended, record-found, record-next, records-ended, records-failed, records-next}
 
 -- the state q of the sheet b
@@ -72,40 +69,9 @@ module _ (d e cb : List ℕ) (to : ℕ) where
 
 pub ruleset fitsLaws = (fits-other, fits-kind, fits-first, fits-last, needs)
 
--- the record at a place, and the rest
-module _ (t : List ℕ) (at : ℕ) (s : Small (readRecords (drop at t))) (h : 5 ≤ length t - at) where
-  first-in : recordAt (take (at + 5 - at) (drop at t)) 0 ∈ readRecords (drop at t)
-  first-in = subst (λ (es : List Transition). recordAt (take (at + 5 - at) (drop at t)) 0 ∈ es) (sym (records-at t at h)) (List·Memᴰ·head (part-record t at))
+pub ruleset runLaws = (record-ended, record-found, record-next, named-to, named-next, needs)
 
-  pub small-from : recordAt (take (at + 5 - at) (drop at t)) 0 .from < 256
-  small-from = s .froms _ first-in
-
-  pub small-to : recordAt (take (at + 5 - at) (drop at t)) 0 .to < 256
-  small-to = s .tos _ first-in
-
-  pub small-next : Small (readRecords (drop (at + 5) t))
-  small-next =
-      let r = rw (records-at t at h) at s in
-      record { froms = λ e m. r .froms e (List·Memᴰ·tail m); tos = λ e m. r .tos e (List·Memᴰ·tail m) }
-
-pub ruleset runLaws = (record-ended, record-found, record-next, small-to, small-next, needs)
-
-pub ruleset recordsLaws = (records-ended, records-failed, records-next, small-from, small-to, small-next, needs)
-
--- the run of a state
-module _ (b starts : List ℕ) (q : ℕ) (r : Ready b starts) (h : q < stateCount b) where
-  pub run-ready : RunAt b starts q
-  run-ready = run-at b (r .accepted) starts q (r .indexed) h
-
-  pub run-small : (t : List ℕ) → t ≡ writeRecords (leaving (read b) q) → Small (readRecords t)
-  unfolding leaving
-  run-small t e =
-      let w = read-well b (r .accepted) .states in
-      let z : readRecords t ≡ leaving (read b) q = ap readRecords e ∙ read-write _ in
-      subst Small (sym z) (record {
-        froms = λ d m. omega (arith, w .froms d (keep-out _ d _ m .0), r .accepted .few-states);
-        tos = λ d m. omega (arith, w .tos d (keep-out _ d _ m .0), r .accepted .few-states);
-      })
+pub ruleset recordsLaws = (records-ended, records-failed, records-next, named-from, named-to, named-next, needs)
 
 module _ (b cb : List ℕ) (from to : ℕ) (d : Transition) (q : ℕ) where
   pub from-other : (getD cb q 0 ≡ from → ⊥) → false ≡ fitsFrom (read b) cb from to d q
@@ -125,4 +91,4 @@ fits-in b ca cb d x e = e
 
 pub ruleset inLaws = (some-begin, some-ended, some-found, some-next, fits-in, needs)
 
-pub ruleset fromLaws = (run-ready, run-small, from-other, from-run, needs)
+pub ruleset fromLaws = (ready-run, ready-named, from-other, from-run, needs)

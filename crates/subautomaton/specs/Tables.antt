@@ -5,7 +5,7 @@ use mathlib.Core.List.{List, []}
 use mathlib.Core.Path.{_≡_}
 use lib.Dec.{eqb, leb, ltb}
 use lib.ListN.{length, getD}
-use Rattle.lists.specs.Lists.{_∈_, any}
+use Rattle.lists.specs.Lists.{any}
 use Rattle.automata.specs.Automaton.{Transition, Automaton, states, leaving}
 use Rattle.labels.specs.Labels.{sameLabel, labelsFault, readLabels}
 use Rattle.lists.specs.Index.{index}
@@ -37,16 +37,6 @@ fitsFrom B cb from to d q = eqb (getD cb q 0) from && any (fits cb to d) (leavin
 -- some state has one
 unfoldable pub fitsIn : Automaton → List ℕ → List ℕ → Transition → Bool
 fitsIn B ca cb d = any (fitsFrom B cb (getD ca (d .from) 0) (getD ca (d .to) 0) d) (states (B .size))
-
--- the states that the transitions name are below 256
-pub record Small (es : List Transition) : Type 0 where
-  pub froms : (e : Transition) → e ∈ es → e .from < 256
-  pub tos : (e : Transition) → e ∈ es → e .to < 256
-
--- a sheet and where the runs of its states begin
-pub record Ready (b starts : List ℕ) : Type 0 where
-  pub accepted : Accepted b
-  pub indexed : Indexed b starts
 
 -- two sheets with their labels
 pub record Inputs (a al b bl : List ℕ) : Type 0 where

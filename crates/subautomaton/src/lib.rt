@@ -11,7 +11,8 @@ ghost use Rattle.refusal.specs.Decision.{decisionOf};
 ghost use Rattle.sheets.specs.Accepted.{Accepted};
 ghost use Rattle.sheets.specs.Sheet.{stateCount, read};
 ghost use Rattle.subautomaton.specs.Inclusion.{isSubautomaton};
-ghost use Rattle.subautomaton.specs.Tables.{Numbered, isHeld, isHeldIn, fits, fitsFrom, fitsIn, Small, Ready, Inputs, Tabled};
+ghost use Rattle.sheets.specs.Runs.{Named, Ready};
+ghost use Rattle.subautomaton.specs.Tables.{Numbered, isHeld, isHeldIn, fits, fitsFrom, fitsIn, Inputs, Tabled};
 ghost use Rattle.subautomaton.specs.Answer.{patternOf, subautomatonAnswer};
 use refusal::Decision;
 
@@ -94,7 +95,7 @@ fn covers(d: &[u32], e: &[u32], cb: &[u32], to: u32) -> bool
 
 // Whether some record of the run covers d.
 fn run_covers(d: &[u32], run: &[u32], cb: &[u32], to: u32) -> bool
-    requires { ⌜ (length (now d) ≡ 5) × (length (now cb) ≡ 256) × Small (readRecords (now run)) ⌝ }
+    requires { ⌜ (length (now d) ≡ 5) × (length (now cb) ≡ 256) × Named (readRecords (now run)) ⌝ }
     ensures { λ r. ⌜ r ≡ any (fits (now (cb .entry)) to (recordAt (now (d .entry)) 0)) (readRecords (now (run .entry))) ⌝ }
 {
     let mut at: usize = 0;
@@ -146,7 +147,7 @@ fn is_covered(d: &[u32], b: &[u32], starts: &[u32], ca: &[u32], cb: &[u32]) -> b
 
 // Whether each of the records is covered.
 fn are_covered(records: &[u32], b: &[u32], starts: &[u32], ca: &[u32], cb: &[u32]) -> bool
-    requires { ⌜ Small (readRecords (now records)) × Ready (now b) (now starts) × (length (now ca) ≡ 256) × (length (now cb) ≡ 256) ⌝ }
+    requires { ⌜ Named (readRecords (now records)) × Ready (now b) (now starts) × (length (now ca) ≡ 256) × (length (now cb) ≡ 256) ⌝ }
     ensures { λ r. ⌜ r ≡ all (fitsIn (read (now (b .entry))) (now (ca .entry)) (now (cb .entry))) (readRecords (now (records .entry))) ⌝ }
 {
     let mut at: usize = 0;

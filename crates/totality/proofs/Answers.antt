@@ -11,7 +11,7 @@ use Rattle.labels.proofs.Labels.{label-list}
 use Rattle.output.specs.declared.Made.{Made}
 use Rattle.output.specs.declared.Made.the-variants.{Refused}
 use Rattle.output.specs.Made.{outputOf}
-use Rattle.output.specs.Output.{Pattern, outputs, roomFirst}
+use Rattle.output.specs.Output.{Pattern, outputs, roomFirst, statesFirst, transitionsFirst}
 use Rattle.refusal.specs.Answer.{refused, given}
 use Rattle.refusal.specs.declared.InputRefusal.{InputRefusal}
 use Rattle.refusal.specs.declared.Refusal.{Refusal}
@@ -33,15 +33,15 @@ use Rattle.totality.proofs.Passing.{passed-inputs, refused-inputs}
 -- the limits of a pattern
 module _ (P : Pattern) where
   pub limited-states : 256 < P .automaton .size → limited P ≡ refused 21
-  unfolding limited
+  unfolding limited statesFirst transitionsFirst
   limited-states h = rw (lt-ltb 256 (P .automaton .size) h)
 
   pub limited-transitions : P .automaton .size ≤ 256 → 2048 < length (P .automaton .transitions) → limited P ≡ refused 22
-  unfolding limited
+  unfolding limited statesFirst transitionsFirst
   limited-transitions h l = rw (le-ltb 256 (P .automaton .size) h, lt-ltb 2048 (length (P .automaton .transitions)) l)
 
   pub limited-given : P .automaton .size ≤ 256 → length (P .automaton .transitions) ≤ 2048 → limited P ≡ given P
-  unfolding limited
+  unfolding limited statesFirst transitionsFirst
   limited-given h l = rw (le-ltb 256 (P .automaton .size) h, le-ltb 2048 (length (P .automaton .transitions)) l)
 
 -- what the operations require after the check, and their answers

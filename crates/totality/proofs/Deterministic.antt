@@ -13,7 +13,7 @@ use lib.Seq.{getD-drop}
 use Rattle.lists.specs.Lists.{_∈_, any, keep}
 use Rattle.lists.proofs.Tests.{test, or-false}
 use Rattle.lists.proofs.Lists.{any-out}
-use Rattle.automata.specs.Automaton.{Transition, Automaton, Accepts, Word, holds, carries, leaving, rangesOf, states}
+use Rattle.automata.specs.Automaton.{Transition, Automaton, Accepts, Word, holds, carries, leaving, rangesOf, states, hasEpsilon}
 use Rattle.automata.specs.Records.{readRecords}
 use Rattle.automata.specs.WellFormed.{WellFormed, lastSymbol}
 use Rattle.ranges.specs.Missing.{missing}
@@ -21,15 +21,16 @@ use Rattle.ranges.specs.Span.{overlapping}
 use Rattle.lists.proofs.Every.{any-none}
 use Rattle.automata.proofs.States.{states-in, states-out}
 use Rattle.ranges.proofs.Overlap.{one-each}
+use Rattle.ranges.proofs.Functional.{overlap-functional}
 use Rattle.ranges.proofs.Sorting.{leaving-sorted}
 use Rattle.sheets.specs.Accepted.{Accepted}
 use Rattle.sheets.specs.Sheet.{recordsAt, read}
 use Rattle.sheets.proofs.Meaning.{read-well}
-use Rattle.totality.specs.Deterministic.{Deterministic}
-use Rattle.totality.specs.Totality.{holesOf, hasEpsilon, isNfaAt, isNfaIn, isNfa, totalized, flipped, complemented}
-use Rattle.totality.proofs.Rows.{leaves, leaving-in}
+use Rattle.automata.specs.Deterministic.{Deterministic}
+use Rattle.totality.specs.Totality.{holesOf, isNfaAt, isNfaIn, isNfa, totalized, flipped, complemented}
+use Rattle.automata.proofs.Leaving.{leaves, leaving-in}
 use Rattle.totality.proofs.Totalized.{totalized-well}
-use Rattle.totality.proofs.Words.{Complete, unranged, held-or-free, totalize-words, flipped-words, own-functional, total-complete, total-functional}
+use Rattle.totality.proofs.Words.{Complete, unranged, held-or-free, totalize-words, flipped-words, total-complete, total-functional}
 
 -- the transitions of a state have no epsilon, no overlap and no hole
 pub record Settled (lo hi : ℕ) (es : List Transition) : Type 0 where
@@ -78,7 +79,7 @@ module _ (lo hi : ℕ) (A : Automaton) where
         go true e =
             let f = flipped-words lo hi (totalized lo hi A) (totalized-well lo hi A v c) (total-complete lo hi A v) (total-functional lo hi A v ranges apart) w i in
             (λ a n. f .0 a (totalize-words lo hi A v w .1 n), λ n. f .1 (λ a. n (totalize-words lo hi A v w .0 a)))
-        go false e = flipped-words lo hi A v (own-complete e) (own-functional lo hi A v ranges apart) w i
+        go false e = flipped-words lo hi A v (own-complete e) (overlap-functional A v ranges apart) w i
 
 -- the transitions under a symbol are the ranges of the state that hold it
 carried : (q x : ℕ) (ts : List Transition) → keep (carries q x) ts ≡ keep (holds x) (keep (λ e. eqb (e .kind) 1) (keep (λ e. eqb (e .from) q) ts))
@@ -104,9 +105,9 @@ module _ (lo hi : ℕ) (A : Automaton) (v : WellFormed A) (within : (e : Transit
   unfolding holesOf hasEpsilon
   nfa-exact = (
     λ n. record {
-      no-epsilon = λ e m.
+      ranges = λ e m.
           let s = nfa-settled lo hi A .0 n (e .from) (v .states .froms e m) in
-          let k = eqb-false (e .kind) 0 (any-none (λ e. eqb (e .kind) 0) (leaving A (e .from)) (s .no-epsilon) e (leaving-in A v (e .from) e m refl)) in
+          let k = eqb-false (e .kind) 0 (any-none (λ e. eqb (e .kind) 0) (leaving A (e .from)) (s .no-epsilon) e (leaving-in A (e .from) e m refl)) in
           ⊎-elim (λ c. c) (λ (c : e .kind < 1). absurd (k (omega arith))) (eq-or-lt-of-le (v .sound e m .known));
       one = λ q x h l u.
           let s = nfa-settled lo hi A .0 n q h in
@@ -125,7 +126,7 @@ module _ (lo hi : ℕ) (A : Automaton) (v : WellFormed A) (within : (e : Transit
           ⊎-elim
           (λ (t : any (λ e. eqb (e .kind) 0) (leaving A q) ≡ true).
           let (e, m, k) = any-out (λ e. eqb (e .kind) 0) (leaving A q) t in
-          absurd (omega (arith, eqb-true (e .kind) 0 k, d .no-epsilon e (leaves A v q e m .0))))
+          absurd (omega (arith, eqb-true (e .kind) 0 k, d .ranges e (leaves A q e m .0))))
           (λ t. t) (test (any (λ e. eqb (e .kind) 0) (leaving A q)))
 
 -- the symbols of a sheet of 32-bit words are at most the last symbol

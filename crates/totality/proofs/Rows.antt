@@ -7,18 +7,19 @@ use mathlib.Core.Path.{_≡_, refl, sym, _∙_, ap, subst}
 use native.Mathlib.Nat.{eq-or-lt-of-le}
 use native.Mathlib.Omega.{arith}
 use borrow.Author.Needs.{needs}
-use borrow.Author.Tests.{ltb-true, ltb-false, eqb-true, eqb-false, eq-eqb, ne-eqb, lt-ltb, le-ltb}
+use borrow.Author.Tests.{ltb-true, ltb-false, eqb-true, eqb-false, ne-eqb, lt-ltb, le-ltb}
 use lib.Dec.{ltb, eqb}
 use lib.ListN.{length, take, drop, length-append, take-append-drop}
 use Rattle.lists.specs.Lists.{_∈_, keep, tabulate, Ascending, none, more}
 use Rattle.lists.specs.Written.{Written}
 use Rattle.lists.proofs.Tests.{test}
-use Rattle.lists.proofs.Lists.{keep-in, keep-out, keep-all, keep-none, tabulate-end}
+use Rattle.lists.proofs.Lists.{keep-all, keep-none, tabulate-end}
 use Rattle.lists.proofs.Members.{ascending-keep}
 use Rattle.automata.specs.Automaton.{Transition, Automaton, leaving, rangesOf, states}
 use Rattle.automata.specs.Ordered.{inOrder}
 use Rattle.automata.specs.Records.{readRecords, writeRecords}
 use Rattle.automata.specs.WellFormed.{here, later, Before, WellFormed}
+use Rattle.automata.proofs.Leaving.{leaves, leaving-range}
 use Rattle.automata.proofs.Ordered.{inOrder-same}
 use Rattle.automata.proofs.Records.{read-write, length-write, write-append}
 use Rattle.ranges.specs.Missing.{Holes, Apart}
@@ -37,18 +38,6 @@ use Rattle.totality.proofs.States.{run-records, run-sorted, run-room, r
 
 -- the transitions of one state
 module _ (A : Automaton) (w : WellFormed A) (q : ℕ) where
-  pub leaves : (e : Transition) → e ∈ leaving A q → e ∈ A .transitions × (e .from ≡ q)
-  unfolding leaving
-  leaves e m = let k = keep-out (λ e. eqb (e .from) q) e (A .transitions) m in (k .0, eqb-true _ _ (k .1))
-
-  pub leaving-in : (e : Transition) → e ∈ A .transitions → e .from ≡ q → e ∈ leaving A q
-  unfolding leaving
-  leaving-in e m c = keep-in (λ e. eqb (e .from) q) m (eq-eqb (e .from) q c)
-
-  pub ranged : (e : Transition) → e ∈ leaving A q → e .kind ≡ 1 → e ∈ rangesOf (leaving A q)
-  unfolding rangesOf
-  ranged e m k = keep-in (λ e. eqb (e .kind) 1) m (eq-eqb (e .kind) 1 k)
-
   module _ (lo hi : ℕ) where
     -- its holes are the maximal runs of symbols that none of its ranges holds
     pub state-holes : Holes lo hi (rangesOf (leaving A q)) (holesOf lo hi (leaving A q))
@@ -78,28 +67,28 @@ module _ (A : Automaton) (w : WellFormed A) (q : ℕ) where
         where
           kinds : (e : Transition) → e ∈ leaving A q → (e .kind ≡ 0) ⊎ (e .kind ≡ 1)
           kinds e m =
-              let k = w .sound e (leaves e m .0) .known in
+              let k = w .sound e (leaves A q e m .0) .known in
               ⊎-elim (λ c. inr c) (λ (c : e .kind < 1). inl (omega arith)) (eq-or-lt-of-le k)
 
           range-kind : (e : Transition) → e ∈ leaving A q → {x : ℕ} → x < e .first → e .kind ≡ 1
-          range-kind e m l = ⊎-elim (λ k. absurd (omega (arith, w .sound e (leaves e m .0) .blank k .0))) (λ k. k) (kinds e m)
+          range-kind e m l = ⊎-elim (λ k. absurd (omega (arith, w .sound e (leaves A q e m .0) .blank k .0))) (λ k. k) (kinds e m)
 
           hole-first : (e : Transition) (h : Span) → e ∈ leaving A q → h .low < e .first → e .kind ≡ 1 → Before (holeTo sink q h) e
-          hole-first e h m l k = later (sym (leaves e m .1)) (later (sym k) (here l))
+          hole-first e h m l k = later (sym (leaves A q e m .1)) (later (sym k) (here l))
 
           epsilon-first : (e : Transition) (h : Span) → e ∈ leaving A q → e .kind ≡ 0 → Before e (holeTo sink q h)
-          epsilon-first e h m k = let l : e .kind < 1 = omega arith in later (leaves e m .1) (here l)
+          epsilon-first e h m k = let l : e .kind < 1 = omega arith in later (leaves A q e m .1) (here l)
 
           below-low : (e : Transition) (h : Span) → e ∈ leaving A q → h ∈ holesOf lo hi (leaving A q) → e .first ≤ h .low → e .kind ≡ 1 → e .first < h .low
           below-low e h m n l k =
               let free = state-holes .exact (h .low) .0 (h, n, record { above = omega arith; below = state-holes .full h n }) .2 in
               ⊎-elim
               (λ (c : e .first ≡ h .low).
-              absurd (false≢true (sym (free e (ranged e m k)) ∙ held (h .low) e (omega arith) (let f = w .sound e (leaves e m .0) .full in omega arith))))
+              absurd (false≢true (sym (free e (leaving-range A q e m k)) ∙ held (h .low) e (omega arith) (let f = w .sound e (leaves A q e m .0) .full in omega arith))))
               (λ c. c) (eq-or-lt-of-le l)
 
           range-first : (e : Transition) (h : Span) → e ∈ leaving A q → e .kind ≡ 1 → e .first < h .low → Before e (holeTo sink q h)
-          range-first e h m k l = later (leaves e m .1) (later k (here l))
+          range-first e h m k l = later (leaves A q e m .1) (later k (here l))
 
 -- merging loses nothing
 pub length-merged : (sink q : ℕ) (es : List Transition) (hs : List Span) → Mergeable sink q es hs → length (inOrder (es ++ map (holeTo sink q) hs)) ≡ length es + length hs

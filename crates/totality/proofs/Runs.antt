@@ -8,12 +8,12 @@ use borrow.Author.Tests.{eq-eqb, ne-eqb}
 use lib.Dec.{ltb}
 use lib.ListN.{length, getD, drop}
 use Rattle.lists.specs.Lists.{any}
-use Rattle.automata.specs.Automaton.{rangesOf}
+use Rattle.automata.specs.Automaton.{rangesOf, hasEpsilon}
 use Rattle.automata.specs.Records.{readRecords}
 use Rattle.automata.proofs.Records.{records-at, records-end}
 use Rattle.ranges.specs.Span.{overlapping}
 use Rattle.ranges.specs.Missing.{missing}
-use Rattle.totality.specs.Totality.{holesOf, hasEpsilon, isNfaAt}
+use Rattle.totality.specs.Totality.{holesOf, isNfaAt}
 
 -- the records from `at` on decide whether there is an epsilon
 module _ (s : List ℕ) (at : ℕ) (e : hasEpsilon (readRecords s) ≡ hasEpsilon (readRecords (drop at s))) where

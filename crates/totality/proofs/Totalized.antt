@@ -15,7 +15,8 @@ use Rattle.automata.specs.WellFormed.{here, Before, Sound, WellFormed}
 use Rattle.automata.proofs.Ordered.{inOrder-in, inOrder-out, inOrder-ascending}
 use Rattle.ranges.specs.Span.{Span}
 use Rattle.totality.specs.Totality.{holesOf, holeTo, filled, filledIn, loopOn, totalized, otherWord, flipped, complemented, isNfa}
-use Rattle.totality.proofs.Rows.{leaves, leaving-in, state-holes}
+use Rattle.automata.proofs.Leaving.{leaves, leaving-in}
+use Rattle.totality.proofs.Rows.{state-holes}
 use Rattle.lists.proofs.Every.{flat-in, flat-out}
 use Rattle.automata.proofs.States.{states-in, states-out, states-ascend}
 
@@ -33,7 +34,7 @@ module _ (lo hi : ℕ) (A : Automaton) (w : WellFormed A) where
       inside : e ∈ filledIn lo hi A (states (A .size)) → Origin lo hi A e
       inside k =
           let (q, i, j) = flat-out (λ q. filled lo hi (A .size) q (leaving A q)) e (states (A .size)) k in
-          ⊎-elim (λ l. kept (leaves A w q e l .0)) (λ l. let (h, n, c) = Memᴰ·of-map (holeTo (A .size) q) (holesOf lo hi (leaving A q)) l in hole q h (states-out (A .size) q i) n (sym c))
+          ⊎-elim (λ l. kept (leaves A q e l .0)) (λ l. let (h, n, c) = Memᴰ·of-map (holeTo (A .size) q) (holesOf lo hi (leaving A q)) l in hole q h (states-out (A .size) q i) n (sym c))
           (List·Memᴰ·append-cases (leaving A q) (inOrder-out e (leaving A q ++ map (holeTo (A .size) q) (holesOf lo hi (leaving A q))) j))
 
   -- every transition is kept, every hole is there, and so is the loop
@@ -42,7 +43,7 @@ module _ (lo hi : ℕ) (A : Automaton) (w : WellFormed A) where
   kept-in {e} m =
       Memᴰ·append-left _
       (flat-in (λ q. filled lo hi (A .size) q (leaving A q)) (states-in (A .size) (e .from) (w .states .froms e m))
-      (inOrder-in (Memᴰ·append-left _ (leaving-in A w (e .from) e m refl))))
+      (inOrder-in (Memᴰ·append-left _ (leaving-in A (e .from) e m refl))))
 
   pub hole-in : (q : ℕ) (h : Span) → q < A .size → h ∈ holesOf lo hi (leaving A q) → holeTo (A .size) q h ∈ totalized lo hi A .transitions
   unfolding totalized filledIn filled
@@ -118,7 +119,7 @@ module _ (lo hi : ℕ) (A : Automaton) (w : WellFormed A) (c : lo ≤ hi) where
 
       fill-from : (q : ℕ) (e : Transition) → e ∈ fill q → e .from ≡ q
       fill-from q e m =
-          ⊎-elim (λ k. leaves A w q e k .1) (λ k. let (h, n, c) = Memᴰ·of-map (holeTo (A .size) q) (holesOf lo hi (leaving A q)) k in rw (← c))
+          ⊎-elim (λ k. leaves A q e k .1) (λ k. let (h, n, c) = Memᴰ·of-map (holeTo (A .size) q) (holesOf lo hi (leaving A q)) k in rw (← c))
           (List·Memᴰ·append-cases (leaving A q) (inOrder-out e (leaving A q ++ map (holeTo (A .size) q) (holesOf lo hi (leaving A q))) m))
 
       rises : Ascending Before (filledIn lo hi A (states (A .size)) ++ loopOn lo hi (A .size) ∷ [])

@@ -1,7 +1,7 @@
 -- The words of totalized and of complemented automata, against runs.
 use Prim.Native.Nat.{ℕ, _≤_, _<_}
 use mathlib.Core.Bool.{true, false, false≢true}
-use mathlib.Core.List.{List, [], _∷_, List·Memᴰ·cases-cons}
+use mathlib.Core.List.{List, _∷_}
 use mathlib.Core.Logic.{_⊎_, inl, inr, ⊎-elim, _↔_}
 use mathlib.Core.Path.{_≡_, refl, sym, _∙_, ap, subst}
 use native.Mathlib.Nat.{eq-or-lt-of-le}
@@ -12,16 +12,16 @@ use lib.ListN.{length, getD, List·getD-eq-default}
 use Rattle.lists.specs.Lists.{_∈_, any}
 use Rattle.lists.proofs.Tests.{test}
 use Rattle.lists.proofs.Lists.{any-out, keep-out}
-use Rattle.automata.specs.Automaton.{Transition, Automaton, Run, stay, skip, read, Accepts, Word, none, more, holds, leaving, rangesOf}
+use Rattle.automata.specs.Automaton.{Transition, Automaton, Run, stay, skip, read, Accepts, Word, none, more, holds, leaving, rangesOf, EpsilonFree}
 use Rattle.automata.specs.WellFormed.{WellFormed}
+use Rattle.automata.proofs.Leaving.{leaves, leaving-in, leaving-range}
 use Rattle.ranges.specs.Missing.{Within}
-use Rattle.ranges.specs.Span.{Span, overlapping, Shared}
+use Rattle.ranges.specs.Span.{Span, OverlapFree}
+use Rattle.ranges.proofs.Functional.{Functional, overlap-functional}
 use Rattle.lists.proofs.Every.{any-none}
 use Rattle.ranges.proofs.Held.{held, holds-ends}
-use Rattle.ranges.proofs.Overlap.{overlap-shared}
-use Rattle.ranges.proofs.Sorting.{leaving-sorted}
 use Rattle.totality.specs.Totality.{holesOf, holeTo, loopOn, totalized, otherWord, flipped}
-use Rattle.totality.proofs.Rows.{leaves, leaving-in, ranged, state-holes}
+use Rattle.totality.proofs.Rows.{state-holes}
 use Rattle.totality.proofs.Totalized.{Origin, kept, hole, loop, origin, kept-in, hole-in, loop-in, accept-same, accept-zero, other-at}
 
 -- a run goes through in an automaton that has all the transitions
@@ -87,11 +87,6 @@ module _ (lo hi : ℕ) (A : Automaton) (v : WellFormed A) where
 pub record Complete (lo hi : ℕ) (B : Automaton) : Type 0 where
   pub next : (p x : ℕ) → p < B .size → lo ≤ x → x ≤ hi → (e : Transition) × e ∈ B .transitions × (e .from ≡ p) × (e .kind ≡ 1) × (e .first ≤ x) × (x ≤ e .last)
 
--- there is no epsilon, and no symbol leads from a state to two
-pub record Functional (B : Automaton) : Type 0 where
-  pub ranges : (e : Transition) → e ∈ B .transitions → e .kind ≡ 1
-  pub single : (d e : Transition) (x : ℕ) → d ∈ B .transitions → e ∈ B .transitions → d .from ≡ e .from → holds x d ≡ true → holds x e ≡ true → d .to ≡ e .to
-
 run-unique : {B : Automaton} → Functional B → {p q q′ : ℕ} {w : List ℕ} → Run B p w q → Run B p w q′ → q ≡ q′
 run-unique f stay stay = refl
 run-unique f stay (skip e m c k r) = absurd (omega (arith, f .ranges e m))
@@ -128,25 +123,14 @@ flipped-words lo hi B v c f w i = (
       (test (eqb (getD (B .accept) q 0) 0)),
 )
 
--- members that hold the same symbol are one, where none is shared
-same-member : (x : ℕ) (d e : Transition) (es : List Transition) → (Shared es → ⊥) → d ∈ es → e ∈ es → holds x d ≡ true → holds x e ≡ true → d ≡ e
-same-member x d e [] n a b h k = elim a [ ]
-same-member x d e (c ∷ es) n a b h k =
-    ⊎-elim
-    (λ (p : d ≡ c).
-    ⊎-elim (λ (q : e ≡ c). p ∙ sym q) (λ m. absurd (n (Shared.first e x m (rw p at h) k))) (List·Memᴰ·cases-cons b))
-    (λ m.
-    ⊎-elim (λ (q : e ≡ c). absurd (n (Shared.first d x m (rw q at k) h))) (λ l. same-member x d e es (λ s. n (Shared.later s)) m l h k) (List·Memᴰ·cases-cons b))
-    (List·Memᴰ·cases-cons a)
-
 module _ (lo hi : ℕ) (A : Automaton) (v : WellFormed A) where
   pub unranged : (q : ℕ) (e : Transition) → e ∈ rangesOf (leaving A q) → e ∈ A .transitions × (e .from ≡ q) × (e .kind ≡ 1)
   unfolding rangesOf
-  unranged q e m = let k = keep-out (λ e. eqb (e .kind) 1) e (leaving A q) m in let l = leaves A v q e (k .0) in (l .0, l .1, eqb-true _ _ (k .1))
+  unranged q e m = let k = keep-out (λ e. eqb (e .kind) 1) e (leaving A q) m in let l = leaves A q e (k .0) in (l .0, l .1, eqb-true _ _ (k .1))
 
   -- a symbol of a hole is held by no range of the state
   free-symbol : (q : ℕ) (h : Span) → h ∈ holesOf lo hi (leaving A q) → (x : ℕ) → h .low ≤ x → x ≤ h .high → (e : Transition) → e ∈ A .transitions → e .from ≡ q → e .kind ≡ 1 → holds x e ≡ false
-  free-symbol q h m x l u e n c k = state-holes A v q lo hi .exact x .0 (h, m, record { above = l; below = u }) .2 e (ranged A v q e (leaving-in A v q e n c) k)
+  free-symbol q h m x l u e n c k = state-holes A v q lo hi .exact x .0 (h, m, record { above = l; below = u }) .2 e (leaving-range A q e (leaving-in A q e n c) k)
 
   -- a symbol has a transition in a state, or lies in a hole
   pub held-or-free : (p x : ℕ) → lo ≤ x → x ≤ hi
@@ -170,17 +154,7 @@ module _ (lo hi : ℕ) (A : Automaton) (v : WellFormed A) where
           ⊎-elim (λ (e, m, c, k, f, g). (e, kept-in lo hi A v m, c, k, f, g)) (λ (h, m, i). (holeTo (A .size) p h, hole-in lo hi A v p h g m, refl, refl, i .above, i .below))
           (held-or-free p x l u)
 
-  module _ (ranges : (e : Transition) → e ∈ A .transitions → e .kind ≡ 1) (apart : (q : ℕ) → q < A .size → overlapping (rangesOf (leaving A q)) ≡ false) where
-    pub own-functional : Functional A
-    own-functional =
-        record {
-          ranges = ranges;
-          single = λ d e x m n c h k.
-              let q = d .from in
-              let none : Shared (rangesOf (leaving A q)) → ⊥ = λ s. false≢true (sym (apart q (v .states .froms d m)) ∙ overlap-shared (rangesOf (leaving A q)) (leaving-sorted A q v) .1 s) in
-              ap (λ (t : Transition). t .to) (same-member x d e (rangesOf (leaving A q)) none (ranged A v q d (leaving-in A v q d m refl) (ranges d m)) (ranged A v q e (leaving-in A v q e n (sym c)) (ranges e n)) h k);
-        }
-
+  module _ (ranges : EpsilonFree A) (apart : OverlapFree A) where
     pub total-functional : Functional (totalized lo hi A)
     total-functional = record { ranges = λ e m. one e (origin lo hi A v e m); single = λ d e x m n c h k. same d e x (origin lo hi A v d m) (origin lo hi A v e n) c h k }
       where
@@ -190,7 +164,7 @@ module _ (lo hi : ℕ) (A : Automaton) (v : WellFormed A) where
         one e (loop c) = rw c
 
         mixed : (d e : Transition) (x : ℕ) → d ∈ A .transitions → Origin lo hi A e → ((q : ℕ) (h : Span) → h ∈ holesOf lo hi (leaving A q) → e ≡ holeTo (A .size) q h → d .from ≡ e .from → holds x d ≡ true → holds x e ≡ true → ⊥) → d .from ≡ e .from → holds x d ≡ true → holds x e ≡ true → d .to ≡ e .to
-        mixed d e x m (kept n) f c h k = own-functional .single d e x m n c h k
+        mixed d e x m (kept n) f c h k = overlap-functional A v ranges apart .single d e x m n c h k
         mixed d e x m (hole q g l n b) f c h k = absurd (f q g n b c h k)
         mixed d e x m (loop b) f c h k = absurd (omega (arith, v .states .froms d m, c ∙ ap (λ (t : Transition). t .from) b))
 

@@ -2,13 +2,10 @@
 use Prim.Native.Nat.{ℕ}
 use mathlib.Core.Bool.{Bool, true, cond}
 use mathlib.Core.List.{List, [], _∷_, _++_}
-use lib.Dec.{ltb}
-use lib.ListN.{length}
 use Rattle.automata.specs.Automaton.{Automaton}
-use Rattle.automata.specs.WellFormed.{mostStates, mostTransitions}
 use Rattle.labels.specs.Labels.{readLabels}
 use Rattle.labels.specs.Forms.{sinkLabel}
-use Rattle.output.specs.Output.{Pattern, roomFirst, labelsFirst}
+use Rattle.output.specs.Output.{Pattern, roomFirst, labelsFirst, statesFirst, transitionsFirst}
 use Rattle.refusal.specs.Answer.{Answer, refused, given}
 use Rattle.refusal.specs.Number.{numberOf}
 use Rattle.sheets.specs.Checked.{sheetFirst}
@@ -20,9 +17,7 @@ use Rattle.totality.specs.Totality.{isNfa, totalized, flipped, complemen
 
 -- 21 where there are too many states, 22 where there are too many transitions, or else the result
 unfoldable pub limited : Pattern → Answer Pattern
-limited P =
-    cond (ltb mostStates (P .automaton .size)) (refused 21)
-    (cond (ltb mostTransitions (length (P .automaton .transitions))) (refused 22) (given P))
+limited P = statesFirst (P .automaton) (transitionsFirst (P .automaton) (given P))
 
 unfoldable pub isNfaAnswer : ℕ → ℕ → List ℕ → Answer Bool
 isNfaAnswer lo hi s = sheetFirst s (given (isNfa lo hi (read s)))

@@ -2,4 +2,3 @@
 pub mod Totality
 pub mod Answers
 pub mod Merging
-pub mod Deterministic

@@ -6,7 +6,7 @@ use mathlib.Core.List.{List, [], _∷_, _++_, map, flatMap}
 use lib.Dec.{eqb, ltb}
 use lib.ListN.{length}
 use Rattle.lists.specs.Lists.{any}
-use Rattle.automata.specs.Automaton.{Transition, Automaton, states, leaving, rangesOf}
+use Rattle.automata.specs.Automaton.{Transition, Automaton, states, leaving, rangesOf, hasEpsilon}
 use Rattle.automata.specs.Ordered.{inOrder}
 use Rattle.ranges.specs.Span.{Span, overlapping}
 use Rattle.ranges.specs.Missing.{missing}
@@ -18,10 +18,6 @@ holesOf lo hi es = missing lo hi (rangesOf es)
 -- the holes of the states qs
 unfoldable pub holesIn : ℕ → ℕ → Automaton → List ℕ → List Span
 holesIn lo hi A qs = flatMap (λ q. holesOf lo hi (leaving A q)) qs
-
--- an epsilon is among them
-unfoldable pub hasEpsilon : List Transition → Bool
-hasEpsilon es = any (λ e. eqb (e .kind) 0) es
 
 -- the transitions of one state have an epsilon, an overlap or a hole
 unfoldable pub isNfaAt : ℕ → ℕ → List Transition → Bool

@@ -2,11 +2,11 @@
 ghost use mathlib.Core.Path.{_≡_};
 ghost use Prim.Native.Nat.{_+_, _*_, _≤_, _<_};
 ghost use lib.ListN.{length};
-ghost use Rattle.automata.specs.Automaton.{states, rangesOf};
+ghost use Rattle.automata.specs.Automaton.{states, rangesOf, hasEpsilon};
 ghost use Rattle.automata.specs.Records.{readRecords};
 ghost use Rattle.ranges.specs.Missing.{Sorted};
 ghost use Rattle.sheets.specs.Sheet.{stateCount, read};
-ghost use Rattle.totality.specs.Totality.{hasEpsilon, isNfaAt, isNfa, holesIn};
+ghost use Rattle.totality.specs.Totality.{isNfaAt, isNfa, holesIn};
 ghost use Rattle.totality.specs.Merging.{Ready};
 
 // Whether an epsilon stands in the run.

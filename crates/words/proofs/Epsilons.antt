@@ -1,7 +1,7 @@
 -- The laws by which the closures are proved: the table's rows get their own numbers, then the targets of epsilons, then Warshall's rounds.
 use Prim.Native.Nat.{ℕ, suc, _+_, _-_, _*_, _≤_, _<_}
 use mathlib.Core.Bool.{true, false, _||_}
-use mathlib.Core.List.{List, [], _∷_, List·Memᴰ·head, List·Memᴰ·tail}
+use mathlib.Core.List.{List, [], _∷_}
 use mathlib.Core.Logic.{⊎-elim}
 use mathlib.Core.Path.{_≡_, refl, sym, _∙_, ap, subst, subst⁻¹}
 use native.Mathlib.Nat.{eq-or-lt-of-le}
@@ -28,9 +28,10 @@ use Rattle.sets.proofs.Stores.{inserted, insert-other, length-insert}
 use Rattle.sheets.specs.Accepted.{Accepted}
 use Rattle.sheets.specs.Sheet.{stateCount, recordsAt, read}
 use Rattle.sheets.proofs.Meaning.{read-well}
+use Rattle.sheets.proofs.Named.{named-from, named-to, named-next, sheet-named}
 use Rattle.words.specs.Simulation.{isEpsilon, epsilonRow, closures}
 use Rattle.words.specs.Gather.{withAll}
-use Rattle.words.specs.Epsilons.{Fresh, SelvesAdded, Named, withEpsilons, EpsilonsAdded, EpsilonsLeft}
+use Rattle.words.specs.Epsilons.{Fresh, SelvesAdded, withEpsilons, EpsilonsAdded, EpsilonsLeft}
 use Rattle.words.proofs.Gather.{all-none, all-cons, all-skip, all-one}
 
 eqb-comm : (a b : ℕ) → eqb a b ≡ eqb b a
@@ -106,16 +107,6 @@ unfolding withEpsilons
 epsilons-end t run u at s h =
     record { row = λ p l. sym (all-none (isEpsilon p) (setAt u (4 * p)) (at-canon u (4 * p))) ∙ ap (withAll (setAt u (4 * p)) (isEpsilon p)) (sym (records-end run at h)) ∙ s .row p l }
 
-module _ (run : List ℕ) (at : ℕ) (n : Named (readRecords (drop at run))) (h : 5 ≤ length run - at) where
-  pub named-from : getD (take (at + 5 - at) (drop at run)) 0 0 < 256
-  named-from = subst (λ (e : Transition). e .from < 256) (sym (part-record run at)) (n .froms (recordAt run at) (rw (records-at run at h) (List·Memᴰ·head refl)))
-
-  pub named-to : getD (take (at + 5 - at) (drop at run)) 4 0 < 256
-  named-to = subst (λ (e : Transition). e .to < 256) (sym (part-record run at)) (n .tos (recordAt run at) (rw (records-at run at h) (List·Memᴰ·head refl)))
-
-  pub named-next : Named (readRecords (drop (at + 5) run))
-  named-next = record { froms = λ e m. n .froms e (rw (records-at run at h) (List·Memᴰ·tail m)); tos = λ e m. n .tos e (rw (records-at run at h) (List·Memᴰ·tail m)) }
-
 pub ruleset epsilonsLaws = (epsilons-begin, epsilons-next, epsilons-end, named-from, named-to, named-next, needs)
 
 pub fresh : Fresh (replicate 1024 0)
@@ -132,14 +123,6 @@ module _ (s : List ℕ) (a : Accepted s) where
 
   ok : InBounds (read s)
   ok = read-well s a .states
-
-  pub closures-named : Named (readRecords (take (length s - recordsAt s) (drop (recordsAt s) s)))
-  unfolding records
-  closures-named =
-      record {
-        froms = λ e m. let l = ok .froms e (rw same-records at m) in omega (arith, a .few-states, l);
-        tos = λ e m. let l = ok .tos e (rw same-records at m) in omega (arith, a .few-states, l);
-      }
 
   -- nothing outside the states is named
   outside : (p q : ℕ) → p < stateCount s → stateCount s ≤ q → (eqb p q || any (isEpsilon p q) (read s .transitions)) ≡ false
@@ -180,4 +163,4 @@ module _ (s : List ℕ) (a : Accepted s) where
     unfolding closures entries
     closures-done v k = k .rows ∙ ap (closed (stateCount s) (stateCount s)) (tabulate-ext (stateCount s) _ _ row)
 
-pub ruleset closureLaws = (closures-named, closures-below, closures-done, needs)
+pub ruleset closureLaws = (sheet-named, closures-below, closures-done, needs)

@@ -1,7 +1,7 @@
 -- The laws by which a step is proved: gathering record by record, and member by member.
 use Prim.Native.Nat.{ℕ, _+_, _-_, _*_, _≤_, _<_}
 use mathlib.Core.Bool.{Bool, true, false, _&&_, _||_}
-use mathlib.Core.List.{List, [], _∷_, List·Memᴰ·head, List·Memᴰ·tail}
+use mathlib.Core.List.{List, [], _∷_}
 use mathlib.Core.Logic.{⊎-elim}
 use mathlib.Core.Path.{_≡_, refl, sym, _∙_, ap, subst}
 use native.Mathlib.Omega.{arith}
@@ -24,7 +24,9 @@ use Rattle.sets.specs.Words.{unionAt}
 use Rattle.sets.proofs.Sets.{has-pick, pick-ext}
 use Rattle.sets.proofs.BitSet.{at-canon}
 use Rattle.sets.proofs.Stores.{unioned}
-use Rattle.words.specs.Gather.{withAll, takes, gathered, Targets}
+use Rattle.sheets.specs.Runs.{Named}
+use Rattle.sheets.proofs.Named.{named-target}
+use Rattle.words.specs.Gather.{withAll, takes, gathered}
 
 or-assoc : (a b c : Bool) → (a || (b || c)) ≡ ((a || b) || c)
 or-assoc true b c = refl
@@ -132,12 +134,8 @@ module _ (old c : List ℕ) (a : ℕ) (run : List ℕ) (t : List ℕ) (at : ℕ)
           λ d m. sorted-above a (recordAt run at) (rangesIn (drop (at + 5) run)) (subst Sorted r s) g d (rw r at m) in
           gather-nothing c a t (readRecords (drop at run)) (takes-none a (readRecords (drop at run)) f) ∙ e
 
--- the targets of the records from a place on
-module _ (run c : List ℕ) (at : ℕ) (t : Targets (readRecords (drop at run)) c) (h : 5 ≤ length run - at) where
-  pub target-here : 4 * getD run (at + 4) 0 + 4 ≤ length c
-  target-here = t .inside (recordAt run at) (rw (records-at run at h) (List·Memᴰ·head refl))
+-- the table of closures has a row for the target of the record at a place
+pub target-row : (run c : List ℕ) (at : ℕ) → Named (readRecords (drop at run)) → 5 ≤ length run - at → length c ≡ 1024 → 4 * getD run (at + 4) 0 + 4 ≤ length c
+target-row run c at n h l = omega (arith, named-target run at n h)
 
-  pub target-next : Targets (readRecords (drop (at + 5) run)) c
-  target-next = record { inside = λ e m. t .inside e (rw (records-at run at h) (List·Memᴰ·tail m)) }
-
-pub ruleset targetLaws = (target-here, needs)
+pub ruleset targetLaws = (target-row, needs)

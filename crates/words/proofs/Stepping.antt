@@ -25,12 +25,13 @@ use Rattle.sets.proofs.Sets.{has-pick, pick-ext, pick-canon, mem-has, has-mem, 
 use Rattle.sets.proofs.BitSet.{at-canon, entry-at}
 use Rattle.sets.proofs.Stores.{cleared}
 use Rattle.sets.proofs.Members.{visit-start, visit-has, visit-next, from-end}
-use Rattle.sheets.specs.Runs.{RunAt}
+use Rattle.sheets.specs.Runs.{Named, RunAt}
 use Rattle.sheets.specs.Sheet.{stateCount, read}
 use Rattle.sheets.proofs.Meaning.{read-well}
+use Rattle.sheets.proofs.Named.{run-named}
 use Rattle.sheets.proofs.Runs.{run-at}
 use Rattle.words.specs.Simulation.{closure, outgoing, step}
-use Rattle.words.specs.Gather.{takes, reaches, gathered, Targets, Tables, withReached, withAll}
+use Rattle.words.specs.Gather.{takes, reaches, gathered, Tables, withReached, withAll}
 use Rattle.words.proofs.Visiting.{member-here, member-later}
 use Rattle.words.proofs.Outgoing.{member-cut-begins, member-cut-next, member-cut-ended}
 use Rattle.words.proofs.Gather.{all-none, all-cons, all-one}
@@ -91,15 +92,9 @@ module _ (s starts c : List ℕ) (t : Tables s starts c) (a : ℕ) where
   ok : InBounds (read s)
   ok = read-well s (t .accepted) .states
 
-  -- the run of q has its targets in the table
-  pub step-targets : (q : ℕ) (run : List ℕ) → run ≡ writeRecords (leaving (read s) q) → Targets (readRecords run) c
-  unfolding leaving
-  step-targets q run e =
-      record {
-        inside = λ d m.
-            let i = ok .tos d (keep-out _ d (read s .transitions) (rw (e, read-write) at m) .0) in
-            omega (arith, t .long, t .accepted .few-states, i);
-      }
+  -- the states that the run of q names have rows in the table
+  pub step-named : (q : ℕ) (run : List ℕ) → run ≡ writeRecords (leaving (read s) q) → Named (readRecords run)
+  step-named = run-named s (t .accepted)
 
   -- and its ranges are sorted
   pub step-sorted : (q : ℕ) (run : List ℕ) → run ≡ writeRecords (leaving (read s) q) → Sorted (rangesOf (readRecords run))
@@ -156,4 +151,4 @@ module _ (s starts c : List ℕ) (t : Tables s starts c) (a : ℕ) where
     step-ended q u i l =
         sym (all-none (reaches (read s) a) (setAt u 0) (at-canon u 0)) ∙ ap (withReached (read s) a u) (sym (from-end (setAt cur 0) (at-canon cur 0) q l)) ∙ i
 
-pub ruleset stepLaws = (step-run, step-targets, step-sorted, step-begins, step-next, step-ended, cut-begins, cut-next, cut-ended, member-here, member-later, needs)
+pub ruleset stepLaws = (step-run, step-named, step-sorted, step-begins, step-next, step-ended, cut-begins, cut-next, cut-ended, member-here, member-later, needs)

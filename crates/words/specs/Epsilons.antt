@@ -5,7 +5,6 @@ use mathlib.Core.List.{List, []}
 use mathlib.Core.Path.{_≡_}
 use lib.Dec.{eqb}
 use lib.ListN.{length}
-use Rattle.lists.specs.Lists.{_∈_}
 use Rattle.automata.specs.Automaton.{Transition}
 use Rattle.sets.specs.Sets.{Set, has, pick}
 use Rattle.sets.specs.BitSet.{setAt}
@@ -21,11 +20,6 @@ pub record Fresh (t : List ℕ) : Type 0 where
 pub record SelvesAdded (t u : List ℕ) (n : ℕ) : Type 0 where
   pub below : (p : ℕ) → p < n → setAt u (4 * p) ≡ pick 256 (λ q. has q (setAt t (4 * p)) || eqb p q)
   pub above : (p : ℕ) → n ≤ p → setAt u (4 * p) ≡ setAt t (4 * p)
-
--- the states that the transitions name are below 256
-pub record Named (es : List Transition) : Type 0 where
-  pub froms : (e : Transition) → e ∈ es → e .from < 256
-  pub tos : (e : Transition) → e ∈ es → e .to < 256
 
 -- row p of the table t with the targets of the epsilons from p
 unfoldable pub withEpsilons : List ℕ → ℕ → List Transition → Set

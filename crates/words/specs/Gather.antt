@@ -1,11 +1,11 @@
 -- What the code of a step gathers: the closures of the targets of transitions, in a set that it holds in four words.
-use Prim.Native.Nat.{ℕ, _+_, _*_, _≤_}
+use Prim.Native.Nat.{ℕ, _*_}
 use mathlib.Core.Bool.{Bool, _&&_, _||_}
 use mathlib.Core.List.{List}
 use mathlib.Core.Path.{_≡_}
 use lib.Dec.{eqb}
 use lib.ListN.{length}
-use Rattle.lists.specs.Lists.{_∈_, any}
+use Rattle.lists.specs.Lists.{any}
 use Rattle.automata.specs.Automaton.{Transition, Automaton, holds, leaving}
 use Rattle.sets.specs.Sets.{Set, has, pick}
 use Rattle.sets.specs.BitSet.{setAt, entries}
@@ -29,10 +29,6 @@ reaches A a r p = any (λ e. takes a e && has r (closure A (e .to))) (leaving A 
 -- the set in t with the rows of the table c for the targets of the transitions that take a
 unfoldable pub gathered : List ℕ → List ℕ → ℕ → List Transition → Set
 gathered t c a es = withAll (setAt t 0) (λ r e. takes a e && has r (setAt c (4 * e .to))) es
-
--- the rows of the targets stand in the table
-pub record Targets (es : List Transition) (c : List ℕ) : Type 0 where
-  pub inside : (e : Transition) → e ∈ es → 4 * e .to + 4 ≤ length c
 
 -- the tables of an accepted sheet: where its runs begin, and the closures
 pub record Tables (s starts c : List ℕ) : Type 0 where

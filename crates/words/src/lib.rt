@@ -14,10 +14,11 @@ ghost use Rattle.sets.specs.BitSet.{setAt, entries};
 ghost use Rattle.sets.specs.Sets.{Canon};
 ghost use Rattle.sets.specs.Words.{unionAt};
 ghost use Rattle.sheets.specs.Sheet.{stateCount, read};
-ghost use Rattle.words.specs.Gather.{gathered, Targets, Tables};
+ghost use Rattle.words.specs.Gather.{gathered, Tables};
 ghost use Rattle.words.specs.Simulation.{closures, outgoing, step, startSet, simulate, least, kindOf, kind};
-ghost use Rattle.words.specs.Epsilons.{Fresh, SelvesAdded, Named, EpsilonsAdded};
+ghost use Rattle.words.specs.Epsilons.{Fresh, SelvesAdded, EpsilonsAdded};
 ghost use Rattle.sheets.specs.Accepted.{Accepted};
+ghost use Rattle.sheets.specs.Runs.{Named};
 ghost use Rattle.utf8.specs.Utf8.{decode, wellformed};
 ghost use Rattle.words.specs.Acceptance.{acceptsWords, acceptsText, answerOf, pointsOf};
 use refusal::InputRefusal;
@@ -80,7 +81,7 @@ fn take_closure(next: &mut [u64], closures: &[u64], state: u32)
 // next takes in the closures of the targets of the run whose range holds the symbol. Answers the least of top and the cuts above the symbol, which are
 // every first and every last plus 1. Behind a range that starts above the symbol no range holds it or is cut below that start.
 fn follow(run: &[u32], symbol: u32, closures: &[u64], next: &mut [u64], top: u64) -> u64
-    requires { ⌜ Targets (readRecords (now run)) (now closures) × Sorted (rangesOf (readRecords (now run))) × (4 ≤ length (now next)) ⌝ }
+    requires { ⌜ Named (readRecords (now run)) × (length (now closures) ≡ 1024) × Sorted (rangesOf (readRecords (now run))) × (4 ≤ length (now next)) ⌝ }
     ensures cut { λ r. ⌜ r ≡ nextCut symbol top (rangesOf (readRecords (now (run .entry)))) ⌝ }
     ensures reached { λ r. ⌜ setAt (now (next .exit)) 0 ≡ gathered (now (next .entry)) (now (closures .entry)) symbol (readRecords (now (run .entry))) ⌝ }
 {

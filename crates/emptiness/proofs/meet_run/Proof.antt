@@ -2,7 +2,7 @@
 use Prim.Native.Nat.{_-_, _≤_}
 use lib.ListN.{length, drop}
 use Rattle.automata.specs.Records.{readRecords}
-use Rattle.words.specs.Epsilons.{Named}
+use Rattle.sheets.specs.Runs.{Named}
 use Rattle.emptiness.specs.Queue.{Left}
 use Rattle.emptiness.proofs.Queue.{runLaws}
 use Rattle.emptiness.proofs.meet_run.Statement.{statement}

@@ -5,13 +5,14 @@ use lib.ListN.{length, drop}
 use Rattle.lists.specs.Lists.{all}
 use Rattle.automata.specs.Records.{readRecords}
 use Rattle.sheets.specs.Sheet.{read}
-use Rattle.subautomaton.specs.Tables.{fitsIn, Small}
+use Rattle.sheets.specs.Runs.{Named}
+use Rattle.subautomaton.specs.Tables.{fitsIn}
 use Rattle.subautomaton.proofs.Matching.{recordsLaws}
 use Rattle.subautomaton.proofs.are_covered.Statement.{statement}
 use Rattle.subautomaton.proofs.are_covered.Tie as tie
 
 abbrev Inv-loop : tie.InvT-loop
-Inv-loop records b starts ca cb at₀ at = (at ≤ length records) × Small (readRecords (drop at records)) × (all (fitsIn (read b) ca cb) (readRecords records) ≡ all (fitsIn (read b) ca cb) (readRecords (drop at records)))
+Inv-loop records b starts ca cb at₀ at = (at ≤ length records) × Named (readRecords (drop at records)) × (all (fitsIn (read b) ca cb) (readRecords records) ≡ all (fitsIn (read b) ca cb) (readRecords (drop at records)))
 
 abbrev μ-loop : tie.MeasureT-loop
 μ-loop records b starts ca cb at₀ at = length records - at

@@ -4,13 +4,14 @@ use mathlib.Core.Path.{_≡_}
 use lib.ListN.{length, drop}
 use Rattle.lists.specs.Lists.{any}
 use Rattle.automata.specs.Records.{recordAt, readRecords}
-use Rattle.subautomaton.specs.Tables.{fits, Small}
+use Rattle.sheets.specs.Runs.{Named}
+use Rattle.subautomaton.specs.Tables.{fits}
 use Rattle.subautomaton.proofs.Matching.{runLaws}
 use Rattle.subautomaton.proofs.run_covers.Statement.{statement}
 use Rattle.subautomaton.proofs.run_covers.Tie as tie
 
 abbrev Inv-loop : tie.InvT-loop
-Inv-loop d run cb to at₀ at = (at ≤ length run) × Small (readRecords (drop at run)) × (any (fits cb to (recordAt d 0)) (readRecords run) ≡ any (fits cb to (recordAt d 0)) (readRecords (drop at run)))
+Inv-loop d run cb to at₀ at = (at ≤ length run) × Named (readRecords (drop at run)) × (any (fits cb to (recordAt d 0)) (readRecords run) ≡ any (fits cb to (recordAt d 0)) (readRecords (drop at run)))
 
 abbrev μ-loop : tie.MeasureT-loop
 μ-loop d run cb to at₀ at = length run - at

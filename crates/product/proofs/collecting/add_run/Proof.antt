@@ -5,13 +5,14 @@ use lib.ListN.{length, drop}
 use Rattle.automata.specs.Records.{recordAt, readRecords}
 use Rattle.output.specs.Ordered.{recordsIn}
 use Rattle.output.specs.Gathering.{Rest}
-use Rattle.product.specs.Tables.{tableOf, links, Narrow}
+use Rattle.sheets.specs.Runs.{Named}
+use Rattle.product.specs.Tables.{tableOf, links}
 use Rattle.product.proofs.Adding.{runLaws, run-over, run-next}
 use Rattle.product.proofs.collecting.add_run.Statement.{statement}
 use Rattle.product.proofs.collecting.add_run.Tie as tie
 
 abbrev Inv-loop : tie.InvT-loop
-Inv-loop d run i queue t n buf₀ end k₀ at₀ buf k at = (at ≤ length run) × Narrow (readRecords (drop at run)) × Rest buf k (links (tableOf queue n) i (recordAt d 0 ∷ []) (readRecords (drop at run))) (recordsIn buf₀ 0 end ++ links (tableOf queue n) i (recordAt d 0 ∷ []) (readRecords run))
+Inv-loop d run i queue t n buf₀ end k₀ at₀ buf k at = (at ≤ length run) × Named (readRecords (drop at run)) × Rest buf k (links (tableOf queue n) i (recordAt d 0 ∷ []) (readRecords (drop at run))) (recordsIn buf₀ 0 end ++ links (tableOf queue n) i (recordAt d 0 ∷ []) (readRecords run))
 
 abbrev μ-loop : tie.MeasureT-loop
 μ-loop d run i queue t n buf₀ end k₀ at₀ buf k at = length run - at
@@ -21,7 +22,7 @@ add-run-spec =
     tie.close
     (tie.spec
     Inv-loop μ-loop (λ c. search runLaws) (λ c. search runLaws) (λ c. search runLaws) (λ c. search runLaws) (λ c. search runLaws)
-    (λ c. search runLaws) (λ c. search runLaws) (λ c κs. search runLaws) (λ c. search runLaws)
+    (λ c. search runLaws) (λ c. search runLaws) (λ c κs. (search runLaws, search runLaws, search runLaws, search runLaws, search runLaws, search runLaws, search runLaws)) (λ c. search runLaws)
     (λ c. let a = c .before .before .before .before .before .before .before .before .before .before .before .before .before .args in
     let l = c .before .before .before .before .before .before .before .loop in
     run-over _ _ _ _ (a .d .now) (a .run .now) (l .at) _ (l .inv .2) (c .before .before .before .before .before .before .loop-test .taken) _ _

@@ -5,13 +5,14 @@ use lib.ListN.{length, drop}
 use Rattle.automata.specs.Records.{readRecords}
 use Rattle.output.specs.Ordered.{recordsIn}
 use Rattle.output.specs.Gathering.{Rest}
-use Rattle.product.specs.Tables.{tableOf, links, Narrow}
+use Rattle.sheets.specs.Runs.{Named}
+use Rattle.product.specs.Tables.{tableOf, links}
 use Rattle.product.proofs.Adding.{runsLaws, runs-over, runs-next}
 use Rattle.product.proofs.collecting.add_runs.Statement.{statement}
 use Rattle.product.proofs.collecting.add_runs.Tie as tie
 
 abbrev Inv-loop : tie.InvT-loop
-Inv-loop first second i queue t n buf₀ end k₀ at₀ buf k at = (at ≤ length first) × Narrow (readRecords (drop at first)) × Rest buf k (links (tableOf queue n) i (readRecords (drop at first)) (readRecords second)) (recordsIn buf₀ 0 end ++ links (tableOf queue n) i (readRecords first) (readRecords second))
+Inv-loop first second i queue t n buf₀ end k₀ at₀ buf k at = (at ≤ length first) × Named (readRecords (drop at first)) × Rest buf k (links (tableOf queue n) i (readRecords (drop at first)) (readRecords second)) (recordsIn buf₀ 0 end ++ links (tableOf queue n) i (readRecords first) (readRecords second))
 
 abbrev μ-loop : tie.MeasureT-loop
 μ-loop first second i queue t n buf₀ end k₀ at₀ buf k at = length first - at

@@ -4,14 +4,15 @@ use mathlib.Core.List.{[], _∷_}
 use mathlib.Core.Path.{_≡_}
 use lib.ListN.{length, drop}
 use Rattle.automata.specs.Records.{recordAt, readRecords}
-use Rattle.product.specs.Tables.{Queued, targets, Narrow}
+use Rattle.sheets.specs.Runs.{Named}
+use Rattle.product.specs.Tables.{Queued, targets}
 use Rattle.product.proofs.Meeting.{runLaws, run-next}
 use Rattle.product.proofs.Queueing.{metWith}
 use Rattle.product.proofs.exploring.meet_run.Statement.{statement}
 use Rattle.product.proofs.exploring.meet_run.Tie as tie
 
 abbrev Inv-loop : tie.InvT-loop
-Inv-loop d run queue₀ t₀ n m₀ at₀ queue t m at = (at ≤ length run) × Queued queue t m × Narrow (readRecords (drop at run)) × (metWith queue m (targets (recordAt d 0 ∷ []) (readRecords (drop at run))) ≡ metWith queue₀ n (targets (recordAt d 0 ∷ []) (readRecords run)))
+Inv-loop d run queue₀ t₀ n m₀ at₀ queue t m at = (at ≤ length run) × Queued queue t m × Named (readRecords (drop at run)) × (metWith queue m (targets (recordAt d 0 ∷ []) (readRecords (drop at run))) ≡ metWith queue₀ n (targets (recordAt d 0 ∷ []) (readRecords run)))
 
 abbrev μ-loop : tie.MeasureT-loop
 μ-loop d run queue₀ t₀ n m₀ at₀ queue t m at = length run - at
@@ -21,7 +22,7 @@ meet-run-spec =
     tie.close
     (tie.spec
     Inv-loop μ-loop (λ c. search runLaws) (λ c. search runLaws) (λ c. search runLaws) (λ c. search runLaws) (λ c. search runLaws)
-    (λ c. search runLaws) (λ c. search runLaws) (λ c κs. search runLaws) (λ c. search runLaws) (λ c. search runLaws)
+    (λ c. search runLaws) (λ c. search runLaws) (λ c κs. (search runLaws, search runLaws, search runLaws, search runLaws, search runLaws)) (λ c. search runLaws) (λ c. search runLaws)
     (λ c. (
       search runLaws,
       c .before .before .before .before .meet-record .ensures .queued,

@@ -3,14 +3,15 @@ use Prim.Native.Nat.{_-_, _≤_}
 use mathlib.Core.Path.{_≡_}
 use lib.ListN.{length, drop}
 use Rattle.automata.specs.Records.{readRecords}
-use Rattle.product.specs.Tables.{Queued, targets, Narrow}
+use Rattle.sheets.specs.Runs.{Named}
+use Rattle.product.specs.Tables.{Queued, targets}
 use Rattle.product.proofs.Meeting.{runsLaws, runs-next}
 use Rattle.product.proofs.Queueing.{metWith}
 use Rattle.product.proofs.exploring.meet_runs.Statement.{statement}
 use Rattle.product.proofs.exploring.meet_runs.Tie as tie
 
 abbrev Inv-loop : tie.InvT-loop
-Inv-loop first second queue₀ t₀ n m₀ at₀ queue t m at = (at ≤ length first) × Queued queue t m × Narrow (readRecords (drop at first)) × (metWith queue m (targets (readRecords (drop at first)) (readRecords second)) ≡ metWith queue₀ n (targets (readRecords first) (readRecords second)))
+Inv-loop first second queue₀ t₀ n m₀ at₀ queue t m at = (at ≤ length first) × Queued queue t m × Named (readRecords (drop at first)) × (metWith queue m (targets (readRecords (drop at first)) (readRecords second)) ≡ metWith queue₀ n (targets (readRecords first) (readRecords second)))
 
 abbrev μ-loop : tie.MeasureT-loop
 μ-loop first second queue₀ t₀ n m₀ at₀ queue t m at = length first - at

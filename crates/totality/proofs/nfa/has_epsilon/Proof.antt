@@ -3,7 +3,7 @@ use Prim.Native.Nat.{_-_, _≤_}
 use mathlib.Core.Path.{_≡_}
 use lib.ListN.{length, drop}
 use Rattle.automata.specs.Records.{readRecords}
-use Rattle.totality.specs.Totality.{hasEpsilon}
+use Rattle.automata.specs.Automaton.{hasEpsilon}
 use Rattle.totality.proofs.Runs.{epsilonLaws}
 use Rattle.totality.proofs.nfa.has_epsilon.Statement.{statement}
 use Rattle.totality.proofs.nfa.has_epsilon.Tie as tie
