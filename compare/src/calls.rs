@@ -19,8 +19,9 @@ pub mod totalize;
 use std::collections::BTreeMap;
 use std::fmt::{self, Display};
 
-use crate::expect::Outcome;
-use crate::generate::Rng;
+use crate::expect::{Built, Outcome};
+use crate::generate::{Rng, pairs, sheets, tiny};
+use crate::lent::{Lent, Output, answer_fault};
 use crate::port;
 
 /// How much is compared, and from which seed.
@@ -34,6 +35,36 @@ impl Plan {
     /// The numbers for one call.
     pub fn rng(&self, call: &str) -> Rng {
         Rng::named(self.seed, call)
+    }
+
+    /// Gives every tiny sheet and then random ones to `check`, with the numbers for one call.
+    fn sheets(&self, call: &str, mut check: impl FnMut(&mut Rng, &'static str, Vec<u32>)) {
+        let mut rng = self.rng(call);
+        for number in 0..tiny::ALL {
+            check(&mut rng, "tiny", tiny::sheet(number).words());
+        }
+        for _ in 0..self.rounds {
+            let (sort, sheet) = sheets::any(&mut rng);
+            check(&mut rng, sort, sheet);
+        }
+    }
+
+    /// The same with pairs: of tiny sheets with one state, the edges, and then random ones.
+    fn pairs(&self, call: &str, mut check: impl FnMut(&mut Rng, &'static str, Vec<u32>, Vec<u32>)) {
+        let mut rng = self.rng(call);
+        for first in 0..tiny::ONE {
+            for second in 0..tiny::ONE {
+                let (a, b) = (tiny::sheet(first), tiny::sheet(second));
+                check(&mut rng, "tiny", a.words(), b.words());
+            }
+        }
+        for (a, b) in pairs::edges() {
+            check(&mut rng, "edge", a.words(), b.words());
+        }
+        for _ in 0..self.rounds {
+            let (sort, a, b) = pairs::any(&mut rng);
+            check(&mut rng, sort, a, b);
+        }
     }
 }
 
@@ -73,6 +104,51 @@ impl Tally {
         if self.shortest.as_ref().is_none_or(|shortest| shown.len() < shortest.len()) {
             self.shortest = Some(shown);
         }
+    }
+
+    /// Counts an input of a call to which an output was lent.
+    fn note_output<T>(
+        &mut self,
+        sort: &'static str,
+        expected: &Outcome<T>,
+        fault: Option<String>,
+        input: &[(&str, &dyn Shown)],
+        out: &Output,
+    ) {
+        let (words, bytes) = (out.sheet.len(), out.labels.len());
+        let lent: [(&str, &dyn Shown); 2] = [("words lent", &words), ("bytes lent", &bytes)];
+        self.note(sort, expected, fault, &[input, &lent].concat());
+    }
+
+    /// Makes a call that answers a question, and compares what it wrote.
+    fn question(
+        &mut self,
+        sort: &'static str,
+        expected: Outcome<u32>,
+        input: &[(&str, &dyn Shown)],
+        call: impl FnOnce(&mut u32) -> u32,
+    ) {
+        let mut answer = Lent::new(1);
+        let result = call(&mut answer[0]);
+        let fault = answer_fault(result, &answer, &expected);
+        self.note(sort, &expected, fault, input);
+    }
+
+    /// Makes a call that writes a sheet and its labels, and compares what it wrote. `expect` tells
+    /// what is expected of it where it is lent enough.
+    fn output(
+        &mut self,
+        rng: &mut Rng,
+        sort: &'static str,
+        expect: impl FnOnce() -> Outcome<Built>,
+        input: &[(&str, &dyn Shown)],
+        call: impl FnOnce(&mut [u32], &mut [u8], &mut u64, &mut u64) -> u32,
+    ) {
+        let mut out = Output::new(rng);
+        let expected = out.outcome().and_then(|()| expect());
+        let result = call(&mut out.sheet, &mut out.labels, &mut out.words[0], &mut out.bytes[0]);
+        let fault = out.fault(result, &expected);
+        self.note_output(sort, &expected, fault, input, &out);
     }
 }
 

@@ -1,6 +1,7 @@
 //! Memory lent to a call, filled with a pattern, so that every word written can be told.
 
 use std::fmt::Debug;
+use std::ops::{Deref, DerefMut};
 
 use crate::expect::{self, Built, Outcome};
 use crate::generate::Rng;
@@ -44,23 +45,6 @@ impl<T: Pattern> Lent<T> {
         Lent { memory, len }
     }
 
-    pub fn len(&self) -> usize {
-        self.len
-    }
-
-    pub fn is_empty(&self) -> bool {
-        self.len == 0
-    }
-
-    pub fn as_mut_ptr(&mut self) -> *mut T {
-        self.memory[GUARD..].as_mut_ptr()
-    }
-
-    /// The lent elements.
-    pub fn get(&self) -> &[T] {
-        &self.memory[GUARD..GUARD + self.len]
-    }
-
     /// What is wrong, where `front` should stand at the front and all else be as it was.
     pub fn fault(&self, name: &str, front: &[T]) -> Option<String> {
         let expected = |place: usize| match place.checked_sub(GUARD) {
@@ -71,6 +55,21 @@ impl<T: Pattern> Lent<T> {
         let at = place as isize - GUARD as isize;
         let (found, expected) = (self.memory[place], expected(place));
         Some(format!("{name} has {found:?} at {at} in place of {expected:?}"))
+    }
+}
+
+/// The lent elements.
+impl<T> Deref for Lent<T> {
+    type Target = [T];
+
+    fn deref(&self) -> &[T] {
+        &self.memory[GUARD..GUARD + self.len]
+    }
+}
+
+impl<T> DerefMut for Lent<T> {
+    fn deref_mut(&mut self) -> &mut [T] {
+        &mut self.memory[GUARD..GUARD + self.len]
     }
 }
 

@@ -25,6 +25,15 @@ pub fn intersection(a: Automaton, b: Automaton) -> Option<Automaton> {
     operations::intersection(a, b).ok()
 }
 
+/// Whether the product of each of two determinizations with the other's complement is empty.
+pub fn crossed_products_are_empty(d: &Automaton, e: &Automaton) -> bool {
+    let is_empty = |d: &Automaton, e: &Automaton| {
+        let product = intersection(d.clone(), complement(e.clone()));
+        !has_reachable_accepting_state(&product.expect("there are no epsilons"))
+    };
+    is_empty(d, e) && is_empty(e, d)
+}
+
 /// The common symbols of two ranges.
 pub fn intersect_ranges(a: (u32, u32), b: (u32, u32)) -> Option<(u32, u32)> {
     utils::intersect_ranges(Trigger::Range(a), Trigger::Range(b)).expect("both are ranges")

@@ -1,114 +1,101 @@
-//! The port's calls as its static library exports them, as far as the archive has them.
+//! The port's calls as its static library exports them, as far as the archive has them, each as a safe
+//! function over slices.
 //!
-//! A slice is a pointer and a length. A call returns 0, or a refusal's number and then has written
-//! nothing.
+//! In C a slice is a pointer and a length. A call returns 0, or a refusal's number and then has
+//! written nothing.
 
-/// The type of calls with the same parameters, and for each such call a function that gives it where
-/// build.rs found it in the archive.
+/// For each call a function that gives it where build.rs found it in the archive. The brackets list
+/// the slices that the call reads, the slices that it writes to and the numbers that it writes; in
+/// this order they are its parameters.
 macro_rules! exported {
-    ($(#[$doc:meta])* $shape:ident $parameters:tt $($call:ident $symbol:ident $found:ident),+) => {
-        $(#[$doc])*
-        pub type $shape = unsafe extern "C" fn $parameters -> u32;
-
-        $(
-            #[cfg($found)]
-            pub fn $call() -> Option<$shape> {
-                unsafe extern "C" {
-                    fn $symbol $parameters -> u32;
-                }
-                Some($symbol)
+    ($(
+        $call:ident: $shape:ident = $symbol:ident if $found:ident
+        [$($input:ident: $read:ty),+] [$($output:ident: $written:ty),*] [$($number:ident: $set:ty),+]
+    )+) => {$(
+        #[cfg($found)]
+        pub fn $call() -> Option<$shape> {
+            unsafe extern "C" {
+                fn $symbol(
+                    $($input: *const $read, _: usize,)+
+                    $($output: *mut $written, _: usize,)*
+                    $($number: *mut $set),+
+                ) -> u32;
             }
+            Some(|$($input,)+ $($output,)* $($number),+| unsafe {
+                $symbol(
+                    $($input.as_ptr(), $input.len(),)+
+                    $($output.as_mut_ptr(), $output.len(),)*
+                    $($number),+
+                )
+            })
+        }
 
-            #[cfg(not($found))]
-            pub fn $call() -> Option<$shape> {
-                None
-            }
-        )+
-    };
+        #[cfg(not($found))]
+        pub fn $call() -> Option<$shape> {
+            None
+        }
+    )+};
 }
 
-exported! {
-    /// A sheet and a word, asked a question.
-    AcceptsWords (sheet: *const u32, sheet_len: usize, word: *const u32, word_len: usize, answer: *mut u32)
-    accepts_words ringmatch_accepts_words has_accepts_words
-}
+/// A sheet and a word, asked a question.
+pub type AcceptsWords = fn(&[u32], &[u32], &mut u32) -> u32;
+/// A sheet and a text, asked a question.
+pub type AcceptsText = fn(&[u32], &[u8], &mut u32) -> u32;
+/// A sheet to another.
+pub type Determinize = fn(&[u32], &mut [u32], &mut [u8], &mut u64, &mut u64) -> u32;
+/// Two sheets to another.
+pub type Intersection = fn(&[u32], &[u32], &mut [u32], &mut [u8], &mut u64, &mut u64) -> u32;
+/// A sheet and its labels to others.
+pub type Operation = fn(&[u32], &[u8], &mut [u32], &mut [u8], &mut u64, &mut u64) -> u32;
+/// A sheet, asked a question.
+pub type Question = fn(&[u32], &mut u32) -> u32;
+/// Two sheets, asked a question.
+pub type IsEquivalent = fn(&[u32], &[u32], &mut u32) -> u32;
+/// Two sheets with labels, asked a question.
+pub type IsSubautomaton = fn(&[u32], &[u8], &[u32], &[u8], &mut u32) -> u32;
+/// A text to a sheet.
+pub type ParseAutomaton = fn(&[u8], &mut [u32], &mut [u8], &mut u64, &mut u64, &mut u64) -> u32;
+/// Two sheets to a verdict.
+pub type Equality = fn(&[u32], &[u32], &mut [u32], &mut u32, &mut u64) -> u32;
 
 exported! {
-    /// A sheet and a text, asked a question.
-    AcceptsText (sheet: *const u32, sheet_len: usize, text: *const u8, text_len: usize, answer: *mut u32)
-    accepts_text ringmatch_accepts_text has_accepts_text
-}
+    accepts_words: AcceptsWords = ringmatch_accepts_words if has_accepts_words
+    [sheet: u32, word: u32] [] [answer: u32]
 
-exported! {
-    /// A sheet to another.
-    Determinize (
-        sheet: *const u32, sheet_len: usize,
-        out: *mut u32, out_len: usize, labels_out: *mut u8, labels_out_len: usize,
-        words: *mut u64, bytes: *mut u64
-    )
-    determinize ringmatch_determinize has_determinize
-}
+    accepts_text: AcceptsText = ringmatch_accepts_text if has_accepts_text
+    [sheet: u32, text: u8] [] [answer: u32]
 
-exported! {
-    /// Two sheets to another.
-    Intersection (
-        a: *const u32, a_len: usize, b: *const u32, b_len: usize,
-        out: *mut u32, out_len: usize, labels_out: *mut u8, labels_out_len: usize,
-        words: *mut u64, bytes: *mut u64
-    )
-    intersection ringmatch_intersection has_intersection
-}
+    determinize: Determinize = ringmatch_determinize if has_determinize
+    [sheet: u32] [out: u32, labels_out: u8] [words: u64, bytes: u64]
 
-exported! {
-    /// A sheet and its labels to others.
-    Operation (
-        sheet: *const u32, sheet_len: usize, labels: *const u8, labels_len: usize,
-        out: *mut u32, out_len: usize, labels_out: *mut u8, labels_out_len: usize,
-        words: *mut u64, bytes: *mut u64
-    )
-    totalize ringmatch_totalize has_totalize,
-    complement ringmatch_complement has_complement,
-    epsilon_eliminate ringmatch_epsilon_eliminate has_epsilon_eliminate
-}
+    intersection: Intersection = ringmatch_intersection if has_intersection
+    [a: u32, b: u32] [out: u32, labels_out: u8] [words: u64, bytes: u64]
 
-exported! {
-    /// A sheet, asked a question.
-    Question (sheet: *const u32, sheet_len: usize, answer: *mut u32)
-    is_nfa ringmatch_is_nfa has_is_nfa,
-    has_reachable_accepting_state ringmatch_has_reachable_accepting_state has_has_reachable_accepting_state
-}
+    totalize: Operation = ringmatch_totalize if has_totalize
+    [sheet: u32, labels: u8] [out: u32, labels_out: u8] [words: u64, bytes: u64]
 
-exported! {
-    /// Two sheets, asked a question.
-    IsEquivalent (a: *const u32, a_len: usize, b: *const u32, b_len: usize, answer: *mut u32)
-    is_equivalent ringmatch_is_equivalent has_is_equivalent
-}
+    complement: Operation = ringmatch_complement if has_complement
+    [sheet: u32, labels: u8] [out: u32, labels_out: u8] [words: u64, bytes: u64]
 
-exported! {
-    /// Two sheets with labels, asked a question.
-    IsSubautomaton (
-        a: *const u32, a_len: usize, a_labels: *const u8, a_labels_len: usize,
-        b: *const u32, b_len: usize, b_labels: *const u8, b_labels_len: usize,
-        answer: *mut u32
-    )
-    is_subautomaton ringmatch_is_subautomaton has_is_subautomaton
-}
+    epsilon_eliminate: Operation = ringmatch_epsilon_eliminate if has_epsilon_eliminate
+    [sheet: u32, labels: u8] [out: u32, labels_out: u8] [words: u64, bytes: u64]
 
-exported! {
-    /// A text to a sheet.
-    ParseAutomaton (
-        text: *const u8, text_len: usize,
-        out: *mut u32, out_len: usize, labels_out: *mut u8, labels_out_len: usize,
-        read: *mut u64, words: *mut u64, bytes: *mut u64
-    )
-    parse_automaton ringmatch_parse_automaton has_parse_automaton
-}
+    is_nfa: Question = ringmatch_is_nfa if has_is_nfa
+    [sheet: u32] [] [answer: u32]
 
-exported! {
-    /// Two sheets to a verdict.
-    Equality (
-        a: *const u32, a_len: usize, b: *const u32, b_len: usize,
-        word_out: *mut u32, word_out_len: usize, same: *mut u32, number: *mut u64
-    )
-    equality ringmatch_equality has_equality
+    has_reachable_accepting_state: Question
+    = ringmatch_has_reachable_accepting_state if has_has_reachable_accepting_state
+    [sheet: u32] [] [answer: u32]
+
+    is_equivalent: IsEquivalent = ringmatch_is_equivalent if has_is_equivalent
+    [a: u32, b: u32] [] [answer: u32]
+
+    is_subautomaton: IsSubautomaton = ringmatch_is_subautomaton if has_is_subautomaton
+    [a: u32, a_labels: u8, b: u32, b_labels: u8] [] [answer: u32]
+
+    parse_automaton: ParseAutomaton = ringmatch_parse_automaton if has_parse_automaton
+    [text: u8] [out: u32, labels_out: u8] [read: u64, words: u64, bytes: u64]
+
+    equality: Equality = ringmatch_equality if has_equality
+    [a: u32, b: u32] [word_out: u32] [same: u32, number: u64]
 }

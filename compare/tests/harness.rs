@@ -1,133 +1,103 @@
 //! The comparison finds nothing in calls that answer as expected, and finds the sham ones.
 //!
-//! The calls here stand in for the port's; they have its C signatures and answer by `expect`.
-
-use std::slice::{from_raw_parts, from_raw_parts_mut};
+//! The calls here stand in for the port's; they have its signatures over slices and answer by `expect`.
 
 use compare::calls::{self, Plan, Tally};
 use compare::expect::{self, Built, Outcome, Verdict};
+use compare::port;
 use compare::sheet::{DIFFERENCE_WORDS, plain_labels, write_labels};
 
 const PLAN: Plan = Plan { seed: 1, rounds: 500 };
 
-/// What is lent for an output, as the C signatures pass it.
-struct Out(*mut u32, usize, *mut u8, usize, *mut u64, *mut u64);
-
-impl Out {
-    /// Writes an outcome as the port must.
-    unsafe fn write(self, outcome: impl FnOnce() -> Outcome<Built>) -> u32 {
-        let outcome = expect::outputs(self.1, self.3).and_then(|()| outcome());
-        let built = match outcome {
-            Ok(built) => built,
-            Err(number) => return number,
-        };
-        unsafe {
-            from_raw_parts_mut(self.0, self.1)[..built.sheet.len()].copy_from_slice(&built.sheet);
-            from_raw_parts_mut(self.2, self.3)[..built.labels.len()].copy_from_slice(&built.labels);
-            *self.4 = built.sheet.len() as u64;
-            *self.5 = built.labels.len() as u64;
-        }
-        0
-    }
-}
-
-/// Writes the answer to a question as the port must.
-unsafe fn answer(outcome: Outcome<u32>, answer: *mut u32) -> u32 {
-    match outcome {
-        Ok(value) => {
-            unsafe { *answer = value };
+/// Writes an output as the port must.
+fn write(
+    outcome: impl FnOnce() -> Outcome<Built>,
+    out: &mut [u32],
+    labels_out: &mut [u8],
+    words: &mut u64,
+    bytes: &mut u64,
+) -> u32 {
+    match expect::outputs(out.len(), labels_out.len()).and_then(|()| outcome()) {
+        Ok(Built { sheet, labels }) => {
+            out[..sheet.len()].copy_from_slice(&sheet);
+            labels_out[..labels.len()].copy_from_slice(&labels);
+            (*words, *bytes) = (sheet.len() as u64, labels.len() as u64);
             0
         }
         Err(number) => number,
     }
 }
 
-type Words = *const u32;
-type Bytes = *const u8;
-
-unsafe extern "C" fn accepts_words(s: Words, sn: usize, w: Words, wn: usize, a: *mut u32) -> u32 {
-    unsafe { answer(expect::accepts_words(from_raw_parts(s, sn), from_raw_parts(w, wn)), a) }
-}
-
-unsafe extern "C" fn accepts_text(s: Words, sn: usize, t: Bytes, tn: usize, a: *mut u32) -> u32 {
-    unsafe { answer(expect::accepts_text(from_raw_parts(s, sn), from_raw_parts(t, tn)), a) }
-}
-
-unsafe extern "C" fn is_nfa(s: Words, sn: usize, a: *mut u32) -> u32 {
-    unsafe { answer(expect::is_nfa(from_raw_parts(s, sn)), a) }
-}
-
-unsafe extern "C" fn is_equivalent(s: Words, sn: usize, t: Words, tn: usize, a: *mut u32) -> u32 {
-    unsafe { answer(expect::is_equivalent(from_raw_parts(s, sn), from_raw_parts(t, tn)), a) }
-}
-
-unsafe extern "C" fn has_reachable_accepting_state(s: Words, sn: usize, a: *mut u32) -> u32 {
-    unsafe { answer(expect::has_reachable_accepting_state(from_raw_parts(s, sn)), a) }
-}
-
-#[rustfmt::skip]
-unsafe extern "C" fn is_subautomaton(
-    a: Words, an: usize, al: Bytes, aln: usize, b: Words, bn: usize, bl: Bytes, bln: usize,
-    yes: *mut u32,
-) -> u32 {
-    let outcome = unsafe {
-        expect::is_subautomaton(
-            from_raw_parts(a, an), from_raw_parts(al, aln),
-            from_raw_parts(b, bn), from_raw_parts(bl, bln),
-        )
+/// A call that asks a question, under the name that `expect` has for it.
+macro_rules! question_call {
+    ($name:ident($($list:ident: $type:ty),+)) => {
+        fn $name($($list: &[$type],)+ answer: &mut u32) -> u32 {
+            match expect::$name($($list),+) {
+                Ok(value) => {
+                    *answer = value;
+                    0
+                }
+                Err(number) => number,
+            }
+        }
     };
-    unsafe { answer(outcome, yes) }
 }
 
-#[rustfmt::skip]
-unsafe extern "C" fn parse_automaton(
-    t: Bytes, tn: usize, out: *mut u32, out_len: usize, labels: *mut u8, labels_len: usize,
-    read: *mut u64, words: *mut u64, bytes: *mut u64,
+question_call!(accepts_words(sheet: u32, word: u32));
+question_call!(accepts_text(sheet: u32, text: u8));
+question_call!(is_nfa(sheet: u32));
+question_call!(has_reachable_accepting_state(sheet: u32));
+question_call!(is_equivalent(a: u32, b: u32));
+question_call!(is_subautomaton(a: u32, a_labels: u8, b: u32, b_labels: u8));
+
+fn parse_automaton(
+    text: &[u8],
+    out: &mut [u32],
+    labels_out: &mut [u8],
+    read: &mut u64,
+    words: &mut u64,
+    bytes: &mut u64,
 ) -> u32 {
-    let outcome = expect::parse_automaton(unsafe { from_raw_parts(t, tn) });
+    let outcome = expect::parse_automaton(text);
     let count = outcome.clone().map_or(0, |parsed| parsed.read);
-    let out = Out(out, out_len, labels, labels_len, words, bytes);
-    let result = unsafe { out.write(|| outcome.map(|parsed| parsed.built)) };
+    let result = write(|| outcome.map(|parsed| parsed.built), out, labels_out, words, bytes);
     if result == 0 {
-        unsafe { *read = count };
+        *read = count;
     }
     result
 }
 
 /// A call with an output sheet, whose outcome is `$outcome` of its inputs.
 macro_rules! output_call {
-    ($name:ident($($list:ident $len:ident: $type:ty),+), $outcome:expr) => {
-        #[allow(clippy::too_many_arguments)]
-        unsafe extern "C" fn $name(
-            $($list: *const $type, $len: usize,)+
-            out: *mut u32, out_len: usize, labels: *mut u8, labels_len: usize,
-            words: *mut u64, bytes: *mut u64,
+    ($name:ident($($list:ident: $type:ty),+), $outcome:expr) => {
+        fn $name(
+            $($list: &[$type],)+
+            out: &mut [u32], labels_out: &mut [u8], words: &mut u64, bytes: &mut u64,
         ) -> u32 {
-            let out = Out(out, out_len, labels, labels_len, words, bytes);
-            unsafe { out.write(|| $outcome($(from_raw_parts($list, $len)),+)) }
+            write(|| $outcome($($list),+), out, labels_out, words, bytes)
         }
     };
 }
 
-output_call!(determinize(s sn: u32), expect::determinize);
-output_call!(intersection(a an: u32, b bn: u32), expect::intersection);
-output_call!(totalize(s sn: u32, l ln: u8), expect::totalize);
-output_call!(complement(s sn: u32, l ln: u8), expect::complement);
-output_call!(epsilon_eliminate(s sn: u32, l ln: u8), expect::epsilon_eliminate);
+output_call!(determinize(s: u32), expect::determinize);
+output_call!(intersection(a: u32, b: u32), expect::intersection);
+output_call!(totalize(s: u32, l: u8), expect::totalize);
+output_call!(complement(s: u32, l: u8), expect::complement);
+output_call!(epsilon_eliminate(s: u32, l: u8), expect::epsilon_eliminate);
 
 // Sham builds that document 01 names, and some that suggest themselves.
-output_call!(hands_back(s sn: u32), |s: &[u32]| {
+output_call!(hands_back(s: u32), |s: &[u32]| {
     let sheet = expect::accepted(s)?;
     let labels = write_labels(&plain_labels(sheet.states()));
     Ok(Built { sheet: s.to_vec(), labels })
 });
-output_call!(early_21(s sn: u32), |s| expect::accepted(s).and(Err(21)));
-output_call!(refuses_all(a an: u32, b bn: u32), |a, b| {
+output_call!(early_21(s: u32), |s| expect::accepted(s).and(Err(21)));
+output_call!(refuses_all(a: u32, b: u32), |a, b| {
     expect::accepted(a)?;
     expect::accepted(b)?;
     Err(7)
 });
-output_call!(late_epsilon(a an: u32, b bn: u32), |a, b| {
+output_call!(late_epsilon(a: u32, b: u32), |a, b| {
     // 7 wherever both sheets have records and one an epsilon, reached or not.
     let (s, t) = (expect::accepted(a)?, expect::accepted(b)?);
     let epsilon = s.records.iter().chain(&t.records).any(|record| record[1] == 0);
@@ -136,7 +106,7 @@ output_call!(late_epsilon(a an: u32, b bn: u32), |a, b| {
     }
     expect::intersection(a, b)
 });
-output_call!(totalizes_always(s sn: u32, l ln: u8), |s, l| {
+output_call!(totalizes_always(s: u32, l: u8), |s, l| {
     let total = expect::totalize(s, l)?;
     let mut flipped = total.clone();
     let states = flipped.sheet[2] as usize;
@@ -149,32 +119,23 @@ output_call!(totalizes_always(s sn: u32, l ln: u8), |s, l| {
 /// Exact equality by `$verdict`, which is given the expected verdict.
 macro_rules! equality_call {
     ($name:ident, $verdict:expr) => {
-        #[allow(clippy::too_many_arguments)]
-        unsafe extern "C" fn $name(
-            a: Words,
-            an: usize,
-            b: Words,
-            bn: usize,
-            word_out: *mut u32,
-            word_len: usize,
-            same: *mut u32,
-            number: *mut u64,
+        fn $name(
+            a: &[u32],
+            b: &[u32],
+            word_out: &mut [u32],
+            same: &mut u32,
+            number: &mut u64,
         ) -> u32 {
-            if word_len < DIFFERENCE_WORDS {
+            if word_out.len() < DIFFERENCE_WORDS {
                 return 20;
             }
-            let outcome = unsafe { expect::equality(from_raw_parts(a, an), from_raw_parts(b, bn)) };
-            match outcome.map($verdict) {
+            match expect::equality(a, b).map($verdict) {
                 Err(number) => return number,
-                Ok(Verdict::Same { joins }) => unsafe {
-                    *same = 1;
-                    *number = joins;
-                },
-                Ok(Verdict::Different { word, .. }) => unsafe {
-                    from_raw_parts_mut(word_out, word_len)[..word.len()].copy_from_slice(&word);
-                    *same = 0;
-                    *number = word.len() as u64;
-                },
+                Ok(Verdict::Same { joins }) => (*same, *number) = (1, joins),
+                Ok(Verdict::Different { word, .. }) => {
+                    word_out[..word.len()].copy_from_slice(&word);
+                    (*same, *number) = (0, word.len() as u64);
+                }
             }
             0
         }
@@ -243,4 +204,25 @@ fn sham_answers_are_found() {
     assert!(disagreements(|p, t| equality::compare(always_different, p, t)) > 0);
     assert!(disagreements(|p, t| equality::compare(one_join_more, p, t)) > 0);
     assert!(disagreements(|p, t| equality::compare(wrong_word, p, t)) > 0);
+}
+
+#[test]
+fn stray_writes_are_found() {
+    let behind: port::Determinize = |sheet, out, labels_out, words, bytes| {
+        let result = determinize(sheet, out, labels_out, words, bytes);
+        if let (0, Some(word)) = (result, out.get_mut(*words as usize)) {
+            *word ^= 1;
+        }
+        result
+    };
+    let after_refusal: port::Determinize = |sheet, out, labels_out, words, bytes| {
+        let result = determinize(sheet, out, labels_out, words, bytes);
+        if result != 0 {
+            *bytes = 0;
+        }
+        result
+    };
+    for call in [behind, after_refusal] {
+        assert!(disagreements(|p, t| calls::determinize::compare(call, p, t)) > 0);
+    }
 }

@@ -50,76 +50,31 @@ fn checked<T>(code: u32, answer: T) -> Result<T, Refusal> {
     if code == 0 { Ok(answer) } else { Err(Refusal::of_number(code)) }
 }
 
-/// The outputs of an operation.
-struct Outputs {
-    sheet: Vec<u32>,
-    labels: Vec<u8>,
-    words: u64,
-    bytes: u64,
+/// The answer that a call gives.
+fn answered(call: impl FnOnce(&mut u32) -> u32) -> Result<bool, Refusal> {
+    let mut answer = 0;
+    let code = call(&mut answer);
+    checked(code, answer != 0)
 }
 
-impl Outputs {
-    fn new() -> Outputs {
-        Outputs { sheet: vec![0; SHEET_WORDS], labels: vec![0; LABEL_BYTES], words: 0, bytes: 0 }
-    }
-
-    fn automaton(mut self, code: u32) -> Result<Automaton, Refusal> {
-        checked(code, ())?;
-        self.sheet.truncate(self.words as usize);
-        self.labels.truncate(self.bytes as usize);
-        Ok(Automaton { sheet: self.sheet, labels: self.labels })
-    }
+/// The automaton that a call writes to the outputs and their lengths.
+fn built(
+    call: impl FnOnce(&mut [u32], &mut [u8], &mut u64, &mut u64) -> u32,
+) -> Result<Automaton, Refusal> {
+    let (mut sheet, mut labels) = (vec![0; SHEET_WORDS], vec![0; LABEL_BYTES]);
+    let (mut words, mut bytes) = (0, 0);
+    let code = call(&mut sheet, &mut labels, &mut words, &mut bytes);
+    checked(code, ())?;
+    sheet.truncate(words as usize);
+    labels.truncate(bytes as usize);
+    Ok(Automaton { sheet, labels })
 }
-
-type Operation = unsafe extern "C" fn(
-    *const u32,
-    usize,
-    *const u8,
-    usize,
-    *mut u32,
-    usize,
-    *mut u8,
-    usize,
-    *mut u64,
-    *mut u64,
-) -> u32;
 
 /// An operation that keeps labels.
+type Operation = fn(&[u32], &[u8], &mut [u32], &mut [u8], &mut u64, &mut u64) -> u32;
+
 fn operate(call: Operation, a: &Automaton) -> Result<Automaton, Refusal> {
-    let mut out = Outputs::new();
-    let code = unsafe {
-        call(
-            a.sheet.as_ptr(),
-            a.sheet.len(),
-            a.labels.as_ptr(),
-            a.labels.len(),
-            out.sheet.as_mut_ptr(),
-            out.sheet.len(),
-            out.labels.as_mut_ptr(),
-            out.labels.len(),
-            &mut out.words,
-            &mut out.bytes,
-        )
-    };
-    out.automaton(code)
-}
-
-type Question = unsafe extern "C" fn(*const u32, usize, *mut u32) -> u32;
-type QuestionOfTwo = unsafe extern "C" fn(*const u32, usize, *const u32, usize, *mut u32) -> u32;
-
-/// A question on one automaton, by its sheet.
-fn ask(call: Question, a: &Automaton) -> Result<bool, Refusal> {
-    let mut answer = 0;
-    let code = unsafe { call(a.sheet.as_ptr(), a.sheet.len(), &mut answer) };
-    checked(code, answer != 0)
-}
-
-/// A question on an automaton's sheet and other words: those of a second sheet, or a word.
-fn ask_with(call: QuestionOfTwo, a: &Automaton, words: &[u32]) -> Result<bool, Refusal> {
-    let mut answer = 0;
-    let code =
-        unsafe { call(a.sheet.as_ptr(), a.sheet.len(), words.as_ptr(), words.len(), &mut answer) };
-    checked(code, answer != 0)
+    built(|out, labels_out, words, bytes| call(&a.sheet, &a.labels, out, labels_out, words, bytes))
 }
 
 impl Automaton {
@@ -130,27 +85,17 @@ impl Automaton {
 
     /// Whether the text in UTF-8 is accepted; malformed text is refused.
     pub fn accepts_bytes(&self, text: &[u8]) -> Result<bool, Refusal> {
-        let mut answer = 0;
-        let code = unsafe {
-            foreign::ringmatch_accepts_text(
-                self.sheet.as_ptr(),
-                self.sheet.len(),
-                text.as_ptr(),
-                text.len(),
-                &mut answer,
-            )
-        };
-        checked(code, answer != 0)
+        answered(|answer| foreign::ringmatch_accepts_text(&self.sheet, text, answer))
     }
 
     /// Whether the word is accepted: a ring series, oldest ring first.
     pub fn accepts_words(&self, word: &[u32]) -> Result<bool, Refusal> {
-        ask_with(foreign::ringmatch_accepts_words, self, word)
+        answered(|answer| foreign::ringmatch_accepts_words(&self.sheet, word, answer))
     }
 
     /// Whether it has an epsilon, an overlap or a hole.
     pub fn is_nfa(&self) -> Result<bool, Refusal> {
-        ask(foreign::ringmatch_is_nfa, self)
+        answered(|answer| foreign::ringmatch_is_nfa(&self.sheet, answer))
     }
 
     /// The automaton of the same words without epsilons.
@@ -160,20 +105,9 @@ impl Automaton {
 
     /// The deterministic automaton of the same words, in which every symbol has one transition in every state.
     pub fn determinize(&self) -> Result<Automaton, Refusal> {
-        let mut out = Outputs::new();
-        let code = unsafe {
-            foreign::ringmatch_determinize(
-                self.sheet.as_ptr(),
-                self.sheet.len(),
-                out.sheet.as_mut_ptr(),
-                out.sheet.len(),
-                out.labels.as_mut_ptr(),
-                out.labels.len(),
-                &mut out.words,
-                &mut out.bytes,
-            )
-        };
-        out.automaton(code)
+        built(|out, labels_out, words, bytes| {
+            foreign::ringmatch_determinize(&self.sheet, out, labels_out, words, bytes)
+        })
     }
 }
 
@@ -190,52 +124,27 @@ pub fn complement(a: &Automaton) -> Result<Automaton, Refusal> {
 
 /// The product. Where neither has an epsilon it accepts just the words that both accept.
 pub fn intersection(a: &Automaton, b: &Automaton) -> Result<Automaton, Refusal> {
-    let mut out = Outputs::new();
-    let code = unsafe {
-        foreign::ringmatch_intersection(
-            a.sheet.as_ptr(),
-            a.sheet.len(),
-            b.sheet.as_ptr(),
-            b.sheet.len(),
-            out.sheet.as_mut_ptr(),
-            out.sheet.len(),
-            out.labels.as_mut_ptr(),
-            out.labels.len(),
-            &mut out.words,
-            &mut out.bytes,
-        )
-    };
-    out.automaton(code)
+    built(|out, labels_out, words, bytes| {
+        foreign::ringmatch_intersection(&a.sheet, &b.sheet, out, labels_out, words, bytes)
+    })
 }
 
 /// Whether some word is accepted.
 pub fn has_reachable_accepting_state(a: &Automaton) -> Result<bool, Refusal> {
-    ask(foreign::ringmatch_has_reachable_accepting_state, a)
+    answered(|answer| foreign::ringmatch_has_reachable_accepting_state(&a.sheet, answer))
 }
 
 /// The older comparison by exact ranges. Without epsilons or overlaps true implies equal words; false implies nothing. For whether two
 /// automata accept the same words see [`equality`].
 pub fn is_equivalent(a: &Automaton, b: &Automaton) -> Result<bool, Refusal> {
-    ask_with(foreign::ringmatch_is_equivalent, a, &b.sheet)
+    answered(|answer| foreign::ringmatch_is_equivalent(&a.sheet, &b.sheet, answer))
 }
 
 /// Whether the states, accepting states and start of `p` are those of `q` by their labels, and each transition of `p` is covered by one of `q`.
 pub fn is_subautomaton(p: &Automaton, q: &Automaton) -> Result<bool, Refusal> {
-    let mut answer = 0;
-    let code = unsafe {
-        foreign::ringmatch_is_subautomaton(
-            p.sheet.as_ptr(),
-            p.sheet.len(),
-            p.labels.as_ptr(),
-            p.labels.len(),
-            q.sheet.as_ptr(),
-            q.sheet.len(),
-            q.labels.as_ptr(),
-            q.labels.len(),
-            &mut answer,
-        )
-    };
-    checked(code, answer != 0)
+    answered(|answer| {
+        foreign::ringmatch_is_subautomaton(&p.sheet, &p.labels, &q.sheet, &q.labels, answer)
+    })
 }
 
 /// The pattern at the front of a text, and the rest of the text.
@@ -246,22 +155,10 @@ pub fn parse_automaton(input: &str) -> Result<(&str, Automaton), Refusal> {
 
 /// The same of bytes.
 pub fn parse_automaton_bytes(input: &[u8]) -> Result<(&[u8], Automaton), Refusal> {
-    let mut out = Outputs::new();
     let mut read = 0;
-    let code = unsafe {
-        foreign::ringmatch_parse_automaton(
-            input.as_ptr(),
-            input.len(),
-            out.sheet.as_mut_ptr(),
-            out.sheet.len(),
-            out.labels.as_mut_ptr(),
-            out.labels.len(),
-            &mut read,
-            &mut out.words,
-            &mut out.bytes,
-        )
-    };
-    let automaton = out.automaton(code)?;
+    let automaton = built(|out, labels_out, words, bytes| {
+        foreign::ringmatch_parse_automaton(input, out, labels_out, &mut read, words, bytes)
+    })?;
     Ok((&input[read as usize..], automaton))
 }
 
@@ -269,18 +166,7 @@ pub fn parse_automaton_bytes(input: &[u8]) -> Result<(&[u8], Automaton), Refusal
 pub fn equality(a: &Automaton, b: &Automaton) -> Result<Verdict, Refusal> {
     let mut word = vec![0; DIFFERENCE_WORDS];
     let (mut same, mut number) = (0, 0);
-    let code = unsafe {
-        foreign::ringmatch_equality(
-            a.sheet.as_ptr(),
-            a.sheet.len(),
-            b.sheet.as_ptr(),
-            b.sheet.len(),
-            word.as_mut_ptr(),
-            word.len(),
-            &mut same,
-            &mut number,
-        )
-    };
+    let code = foreign::ringmatch_equality(&a.sheet, &b.sheet, &mut word, &mut same, &mut number);
     checked(code, ())?;
     if same == 1 {
         return Ok(Verdict::Same { joins: number });

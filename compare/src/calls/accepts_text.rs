@@ -2,7 +2,6 @@
 
 use super::{Plan, Tally};
 use crate::generate::{sheets, words};
-use crate::lent::{Lent, answer_fault};
 use crate::sheet::{RANGE, Sheet};
 use crate::{expect, port};
 
@@ -18,12 +17,9 @@ fn high_characters() -> Sheet {
 pub fn compare(call: port::AcceptsText, plan: &Plan, tally: &mut Tally) {
     let mut check = |sort, sheet: &Vec<u32>, text: Vec<u8>| {
         let expected = expect::accepts_text(sheet, &text);
-        let mut answer = Lent::new(1);
-        let result = unsafe {
-            call(sheet.as_ptr(), sheet.len(), text.as_ptr(), text.len(), answer.as_mut_ptr())
-        };
-        let fault = answer_fault(result, &answer, &expected);
-        tally.note(sort, &expected, fault, &[("sheet", sheet), ("text", &text)]);
+        tally.question(sort, expected, &[("sheet", sheet), ("text", &text)], |answer| {
+            call(sheet, &text, answer)
+        });
     };
     let sheet = high_characters().words();
     for text in words::short_texts() {

@@ -2,7 +2,6 @@
 
 use super::{Plan, Tally};
 use crate::generate::{sheets, tiny, words};
-use crate::lent::{Lent, answer_fault};
 use crate::{expect, port};
 
 /// Words that are tried on each tiny sheet, whose ranges end at these symbols.
@@ -12,12 +11,9 @@ const TINY_WORDS: [&[u32]; 9] =
 pub fn compare(call: port::AcceptsWords, plan: &Plan, tally: &mut Tally) {
     let mut check = |sort, sheet: &Vec<u32>, word: Vec<u32>| {
         let expected = expect::accepts_words(sheet, &word);
-        let mut answer = Lent::new(1);
-        let result = unsafe {
-            call(sheet.as_ptr(), sheet.len(), word.as_ptr(), word.len(), answer.as_mut_ptr())
-        };
-        let fault = answer_fault(result, &answer, &expected);
-        tally.note(sort, &expected, fault, &[("sheet", sheet), ("word", &word)]);
+        tally.question(sort, expected, &[("sheet", sheet), ("word", &word)], |answer| {
+            call(sheet, &word, answer)
+        });
     };
     for number in 0..tiny::ALL {
         let sheet = tiny::sheet(number).words();

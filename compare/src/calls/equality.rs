@@ -6,7 +6,6 @@
 
 use super::{Plan, Tally};
 use crate::expect::{Outcome, Verdict};
-use crate::generate::{Rng, pairs, tiny};
 use crate::lent::{Lent, near, result_fault};
 use crate::sheet::{DIFFERENCE_WORDS, Sheet};
 use crate::{expect, oracle, port};
@@ -37,9 +36,9 @@ impl Lending {
             Err(_) => written(&[], &[], &[]),
             Ok(Verdict::Same { joins }) => written(&[1], &[*joins], &[]),
             Ok(Verdict::Different { longest, .. }) => {
-                let length = self.number.get()[0];
-                let word = self.word.get().get(..length as usize).unwrap_or_default();
-                if self.same.get()[0] == 0 && length > *longest {
+                let length = self.number[0];
+                let word = self.word.get(..length as usize).unwrap_or_default();
+                if self.same[0] == 0 && length > *longest {
                     return Some(format!("{length} symbols, over {longest}"));
                 }
                 written(&[0], &[length], word).or_else(|| difference_fault(a, b, word))
@@ -74,16 +73,12 @@ fn original_fault(expected: &Outcome<Verdict>, a: &[u32], b: &[u32]) -> Option<S
     if oracle::is_equivalent(d.clone(), e.clone()) && !same {
         return Some("the original's is_equivalent says yes".to_owned());
     }
-    let is_empty = |d: &oracle::Automaton, e: &oracle::Automaton| {
-        let product = oracle::intersection(d.clone(), oracle::complement(e.clone()));
-        !oracle::has_reachable_accepting_state(&product.expect("there are no epsilons"))
-    };
-    let empty = is_empty(&d, &e) && is_empty(&e, &d);
+    let empty = oracle::crossed_products_are_empty(&d, &e);
     (empty != same).then(|| format!("both crossed products empty: {empty}"))
 }
 
 pub fn compare(call: port::Equality, plan: &Plan, tally: &mut Tally) {
-    let mut check = |rng: &mut Rng, sort, a: Vec<u32>, b: Vec<u32>| {
+    plan.pairs("equality", |rng, sort, a, b| {
         let mut lent = Lending {
             word: Lent::new(near(rng, DIFFERENCE_WORDS)),
             same: Lent::new(1),
@@ -91,36 +86,11 @@ pub fn compare(call: port::Equality, plan: &Plan, tally: &mut Tally) {
         };
         let expected =
             if lent.word.len() < DIFFERENCE_WORDS { Err(20) } else { expect::equality(&a, &b) };
-        let result = unsafe {
-            call(
-                a.as_ptr(),
-                a.len(),
-                b.as_ptr(),
-                b.len(),
-                lent.word.as_mut_ptr(),
-                lent.word.len(),
-                lent.same.as_mut_ptr(),
-                lent.number.as_mut_ptr(),
-            )
-        };
+        let result = call(&a, &b, &mut lent.word, &mut lent.same[0], &mut lent.number[0]);
         let fault =
             lent.fault(result, &expected, &a, &b).or_else(|| original_fault(&expected, &a, &b));
         let input: [(&str, &dyn super::Shown); 3] =
             [("a", &a), ("b", &b), ("words lent", &lent.word.len())];
         tally.note(sort, &expected, fault, &input);
-    };
-    let mut rng = plan.rng("equality");
-    for first in 0..tiny::ONE {
-        for second in 0..tiny::ONE {
-            let (a, b) = (tiny::sheet(first), tiny::sheet(second));
-            check(&mut rng, "tiny", a.words(), b.words());
-        }
-    }
-    for (a, b) in pairs::edges() {
-        check(&mut rng, "edge", a.words(), b.words());
-    }
-    for _ in 0..plan.rounds {
-        let (sort, a, b) = pairs::any(&mut rng);
-        check(&mut rng, sort, a, b);
-    }
+    });
 }

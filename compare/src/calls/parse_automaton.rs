@@ -10,29 +10,19 @@ pub fn compare(call: port::ParseAutomaton, plan: &Plan, tally: &mut Tally) {
         let mut out = Output::new(rng);
         let mut read = Lent::new(1);
         let expected = out.outcome().and_then(|()| expect::parse_automaton(&text));
-        let result = unsafe {
-            call(
-                text.as_ptr(),
-                text.len(),
-                out.sheet.as_mut_ptr(),
-                out.sheet.len(),
-                out.labels.as_mut_ptr(),
-                out.labels.len(),
-                read.as_mut_ptr(),
-                out.words.as_mut_ptr(),
-                out.bytes.as_mut_ptr(),
-            )
-        };
+        let result = call(
+            &text,
+            &mut out.sheet,
+            &mut out.labels,
+            &mut read[0],
+            &mut out.words[0],
+            &mut out.bytes[0],
+        );
         let bytes_read = expected.clone().map(|parsed| parsed.read);
         let built = expected.clone().map(|parsed| parsed.built);
         let fault =
             out.fault(result, &built).or_else(|| read.fault("read", bytes_read.ok().as_slice()));
-        tally.note(
-            sort,
-            &expected,
-            fault,
-            &[("text", &text), ("words lent", &out.sheet.len()), ("bytes lent", &out.labels.len())],
-        );
+        tally.note_output(sort, &expected, fault, &[("text", &text)], &out);
     };
     let mut rng = plan.rng("parse_automaton");
     for text in patterns::edits() {

@@ -27,15 +27,12 @@ pub fn accepts_text(case: &str, sheet: &Sheet, word: &[u32]) {
     let a = oracle::automaton(sheet);
     let sheet = sheet.words();
     let text: String = word.iter().map(|&s| char::from_u32(s).expect("a character")).collect();
-    let mut answer = 0;
+    let (bytes, mut answer) = (text.as_bytes(), 0);
     row(
         "accepts_text",
         case,
         || a.accepts(black_box(&text)),
-        port::accepts_text().map(|call| {
-            let (sheet, text, answer) = (&sheet, &text, &mut answer);
-            move || unsafe { call(sheet.as_ptr(), sheet.len(), text.as_ptr(), text.len(), answer) }
-        }),
+        port::accepts_text().map(|call| move || call(&sheet, bytes, &mut answer)),
     );
 }
 
@@ -47,10 +44,7 @@ pub fn accepts_words(case: &str, sheet: &Sheet, word: &[u32]) {
         "accepts_words",
         case,
         || oracle::accepts_word(&a, black_box(word)),
-        port::accepts_words().map(|call| {
-            let (sheet, answer) = (&sheet, &mut answer);
-            move || unsafe { call(sheet.as_ptr(), sheet.len(), word.as_ptr(), word.len(), answer) }
-        }),
+        port::accepts_words().map(|call| move || call(&sheet, word, &mut answer)),
     );
 }
 
@@ -62,19 +56,7 @@ pub fn determinize(case: &str, sheet: &Sheet) {
         case,
         || Automaton::determinize(black_box(&a)),
         port::determinize().map(|call| {
-            let (sheet, out) = (&sheet, &mut out);
-            move || unsafe {
-                call(
-                    sheet.as_ptr(),
-                    sheet.len(),
-                    out.sheet.as_mut_ptr(),
-                    OUT_WORDS,
-                    out.labels.as_mut_ptr(),
-                    OUT_BYTES,
-                    &mut out.words,
-                    &mut out.bytes,
-                )
-            }
+            move || call(&sheet, &mut out.sheet, &mut out.labels, &mut out.words, &mut out.bytes)
         }),
     );
 }
@@ -87,21 +69,7 @@ pub fn intersection(case: &str, a: &Sheet, b: &Sheet) {
         case,
         || oracle::intersection(first.clone(), second.clone()),
         port::intersection().map(|call| {
-            let (a, b, out) = (&a, &b, &mut out);
-            move || unsafe {
-                call(
-                    a.as_ptr(),
-                    a.len(),
-                    b.as_ptr(),
-                    b.len(),
-                    out.sheet.as_mut_ptr(),
-                    OUT_WORDS,
-                    out.labels.as_mut_ptr(),
-                    OUT_BYTES,
-                    &mut out.words,
-                    &mut out.bytes,
-                )
-            }
+            move || call(&a, &b, &mut out.sheet, &mut out.labels, &mut out.words, &mut out.bytes)
         }),
     );
 }
@@ -134,17 +102,12 @@ fn labelled(
         case,
         || rust(a.clone()),
         port.map(|call| {
-            let (sheet, labels, out) = (&sheet, &labels, &mut out);
-            move || unsafe {
+            move || {
                 call(
-                    sheet.as_ptr(),
-                    sheet.len(),
-                    labels.as_ptr(),
-                    labels.len(),
-                    out.sheet.as_mut_ptr(),
-                    OUT_WORDS,
-                    out.labels.as_mut_ptr(),
-                    OUT_BYTES,
+                    &sheet,
+                    &labels,
+                    &mut out.sheet,
+                    &mut out.labels,
                     &mut out.words,
                     &mut out.bytes,
                 )
@@ -161,16 +124,12 @@ pub fn parse_automaton(case: &str, text: &str) {
         case,
         || oracle::parse_automaton(black_box(text)),
         port::parse_automaton().map(|call| {
-            let (out, read) = (&mut out, &mut read);
-            move || unsafe {
+            move || {
                 call(
-                    text.as_ptr(),
-                    text.len(),
-                    out.sheet.as_mut_ptr(),
-                    OUT_WORDS,
-                    out.labels.as_mut_ptr(),
-                    OUT_BYTES,
-                    read,
+                    text.as_bytes(),
+                    &mut out.sheet,
+                    &mut out.labels,
+                    &mut read,
                     &mut out.words,
                     &mut out.bytes,
                 )
@@ -208,15 +167,7 @@ fn question(
     let a = oracle::automaton(sheet);
     let sheet = sheet.words();
     let mut answer = 0;
-    row(
-        call,
-        case,
-        || rust(&a),
-        port.map(|call| {
-            let (sheet, answer) = (&sheet, &mut answer);
-            move || unsafe { call(sheet.as_ptr(), sheet.len(), answer) }
-        }),
-    );
+    row(call, case, || rust(&a), port.map(|call| move || call(&sheet, &mut answer)));
 }
 
 /// An automaton with itself.
@@ -228,10 +179,7 @@ pub fn is_equivalent(case: &str, sheet: &Sheet) {
         "is_equivalent",
         case,
         || oracle::is_equivalent(a.clone(), a.clone()),
-        port::is_equivalent().map(|call| {
-            let (s, answer) = (&sheet, &mut answer);
-            move || unsafe { call(s.as_ptr(), s.len(), s.as_ptr(), s.len(), answer) }
-        }),
+        port::is_equivalent().map(|call| move || call(&sheet, &sheet, &mut answer)),
     );
 }
 
@@ -245,25 +193,15 @@ pub fn is_subautomaton(case: &str, sheet: &Sheet) {
         "is_subautomaton",
         case,
         || oracle::is_subautomaton(a.clone(), a.clone()),
-        port::is_subautomaton().map(|call| {
-            let (s, l, answer) = (&sheet, &labels, &mut answer);
-            move || unsafe {
-                let (s, sn, l, ln) = (s.as_ptr(), s.len(), l.as_ptr(), l.len());
-                call(s, sn, l, ln, s, sn, l, ln, answer)
-            }
-        }),
+        port::is_subautomaton()
+            .map(|call| move || call(&sheet, &labels, &sheet, &labels, &mut answer)),
     );
 }
 
 /// Whether two automata are equal, as the original can tell: by the products of each determinization
 /// with the other's complement.
 fn equal(a: &Automaton, b: &Automaton) -> bool {
-    let (d, e) = (Automaton::determinize(a), Automaton::determinize(b));
-    let within = |d: &Automaton, e: &Automaton| {
-        let product = oracle::intersection(d.clone(), oracle::complement(e.clone()));
-        !oracle::has_reachable_accepting_state(&product.expect("there are no epsilons"))
-    };
-    within(&d, &e) && within(&e, &d)
+    oracle::crossed_products_are_empty(&Automaton::determinize(a), &Automaton::determinize(b))
 }
 
 pub fn equality(case: &str, a: &Sheet, b: &Sheet) {
@@ -274,21 +212,6 @@ pub fn equality(case: &str, a: &Sheet, b: &Sheet) {
         "equality",
         case,
         || equal(&first, &second),
-        port::equality().map(|call| {
-            let (a, b, word) = (&a, &b, &mut word);
-            let (same, number) = (&mut same, &mut number);
-            move || unsafe {
-                call(
-                    a.as_ptr(),
-                    a.len(),
-                    b.as_ptr(),
-                    b.len(),
-                    word.as_mut_ptr(),
-                    DIFFERENCE_WORDS,
-                    same,
-                    number,
-                )
-            }
-        }),
+        port::equality().map(|call| move || call(&a, &b, &mut word, &mut same, &mut number)),
     );
 }
