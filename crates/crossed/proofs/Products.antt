@@ -25,7 +25,7 @@ use Rattle.sheets.proofs.Meaning.{read-write-sheet, write-accepted}
 use Rattle.totality.specs.Totality.{flipped}
 use Rattle.totality.proofs.Totalized.{flipped-well}
 use Rattle.crossed.specs.Crossed.{Gives, GivenBy, intersectionCall, Empty, Fit}
-use Rattle.crossed.proofs.Calls.{room-lent, room-given, well, deterministic, fits, no-fault, read-back, own, other, other-words}
+use Rattle.crossed.proofs.Calls.{room-lent, room-given, well, deterministic, between, fits, no-fault, read-back, own, other, other-words}
 
 -- a run reads symbols of ranges
 run-word : {A : Automaton} (hi : ℕ) → ((d : Transition) → d ∈ A .transitions → d .last ≤ hi) → {p q : ℕ} {w : List ℕ} → Run A p w q → Word 0 hi w

@@ -246,13 +246,4 @@ impl Tally {
         io::write_all(STDOUT_FILENO, b" differs\n");
         self
     }
-
-    // Prints the counts.
-    pub fn print(self) {
-        io::write_all(STDOUT_FILENO, b"agreed ");
-        io::print_decimal(STDOUT_FILENO, self.agreed);
-        io::write_all(STDOUT_FILENO, b", differed ");
-        io::print_decimal(STDOUT_FILENO, self.differed);
-        io::write_all(STDOUT_FILENO, b"\n");
-    }
 }

@@ -101,6 +101,15 @@ fn replay_list(kind: Kind, text: &[u8]) -> Tally
     t
 }
 
+// Prints how many cases agreed and how many differed.
+fn print_counts(t: Tally) {
+    io::write_all(STDOUT_FILENO, b"agreed ");
+    io::print_decimal(STDOUT_FILENO, t.agreed);
+    io::write_all(STDOUT_FILENO, b", differed ");
+    io::print_decimal(STDOUT_FILENO, t.differed);
+    io::write_all(STDOUT_FILENO, b"\n");
+}
+
 // Replays the list in a file, and prints its name and the counts.
 fn replay_file(kind: Kind, name: &[u8]) {
     let file = os::open_read(name);
@@ -114,7 +123,7 @@ fn replay_file(kind: Kind, name: &[u8]) {
     let t = replay_list(kind, &text[..got]);
     io::write_all(STDOUT_FILENO, name);
     io::write_all(STDOUT_FILENO, b": ");
-    t.print();
+    print_counts(t);
 }
 
 fn main() {
