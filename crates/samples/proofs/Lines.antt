@@ -8,6 +8,7 @@ use Rattle.automata.specs.Automaton.{Automaton}
 use Rattle.automata.specs.Ordered.{insert, inOrder}
 use Rattle.automata.specs.Records.{readRecords}
 use Rattle.automata.specs.WellFormed.{WellFormed, lastSymbol}
+use Rattle.decimal.specs.Decimal.{valueAfter}
 use Rattle.determinize.specs.Determinize.{determinize}
 use Rattle.equality.specs.Equality.{withSecond, withFirst, determinized as both-determinized}
 use Rattle.equality.specs.Forced.{Two}
@@ -15,7 +16,7 @@ use Rattle.equality.specs.Verdict.{Equal, Apart}
 use Rattle.equality.proofs.Theorems.{classes-number, same-words, one-word, not-same}
 use Rattle.labels.specs.Labels.{sameLabel}
 use Rattle.grammar.specs.Bytes.{isSpace, isLetter, isDigit, isNameByte}
-use Rattle.grammar.specs.Grammar.{follow, run, space, neededSpace, begins, token, name, value, number, ends, range, target, transition, initial, nextName, many, transitions, nextNames, accepting, heading, ending, wholeText}
+use Rattle.grammar.specs.Grammar.{follow, run, space, neededSpace, begins, token, name, number, ends, range, target, transition, initial, nextName, many, transitions, nextNames, accepting, heading, ending, wholeText}
 use Rattle.parser.specs.Pattern.{indexOf, addName, addNames, statesOf, acceptWord, automatonOf, fewTransitions, fewStates, parse}
 use Rattle.refusal.specs.Answer.{Answer, given}
 use Rattle.sheets.specs.Sheet.{read}
@@ -53,7 +54,7 @@ apart = record { one = DA; two = DC; low = 0; high = lastSymbol }
 are-compared :
     (comparedTexts 0 lastSymbol (text-a ++ text-b) ≡ given both)
     × (comparedTexts 0 lastSymbol (text-a ++ text-c) ≡ given apart)
-unfolding follow isSpace isLetter isDigit isNameByte run space neededSpace begins token name value number ends range target transition initial
+unfolding follow isSpace isLetter isDigit isNameByte run space neededSpace begins token name valueAfter number ends range target transition initial
     nextName many transitions nextNames accepting heading ending wholeText sameLabel indexOf addName addNames statesOf any acceptWord automatonOf
     fewTransitions fewStates parse insert inOrder readRecords withSecond withFirst both-determinized twoTexts withSecondText withFirstText
     comparedTexts
