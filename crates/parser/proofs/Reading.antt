@@ -22,7 +22,7 @@ use Rattle.lists.specs.Written.{Written}
 use Rattle.lists.proofs.Written.{written-append}
 use Rattle.automata.specs.Records.{writeRecords}
 use Rattle.automata.proofs.Records.{length-write}
-use Rattle.labels.specs.Labels.{writeLabels}
+use Rattle.labels.specs.Labels.{writeLabels, sameLabel}
 use Rattle.output.proofs.Answers.{room-lacking, room-enough, room-words, room-bytes}
 use Rattle.output.specs.Gathering.{Collected}
 use Rattle.output.specs.Output.{Pattern, roomFirst}
@@ -30,6 +30,7 @@ use Rattle.refusal.specs.Answer.{given}
 use Rattle.refusal.specs.declared.InputRefusal.the-variants.{Grammar}
 use Rattle.refusal.specs.declared.StateRefusal.the-variants.{OutputLength, States, Transitions}
 use Rattle.refusal.specs.declared.Refusal.the-variants.{Input, State}
+use Rattle.search.specs.Search.{index, add, meet}
 use Rattle.sheets.specs.Sheet.{write}
 use Rattle.parser.specs.Accepts.{markAll}
 use Rattle.parser.specs.Layout.{arrowsOf, patternAt}
@@ -37,7 +38,7 @@ use Rattle.parser.specs.Memory.{Zeros}
 use Rattle.parser.specs.Names.{Table, namesIn, Addition}
 use Rattle.parser.specs.Parsed.{Output, parsed, parsedOf}
 use Rattle.parser.specs.Records.{Recorded}
-use Rattle.parser.specs.Pattern.{indexOf, addName, addNames, statesOf, transitionOf, acceptWord, automatonOf, fewTransitions, fewStates, meaning, parse}
+use Rattle.parser.specs.Pattern.{namesOf, statesOf, transitionOf, acceptWord, automatonOf, fewTransitions, fewStates, meaning, parse}
 use Rattle.parser.specs.declared.Parsed.the-variants.{Read, Refused}
 use Rattle.parser.specs.declared.names.Added.{Added}
 use Rattle.parser.specs.declared.names.Added.the-variants.{Kept, Full}
@@ -51,17 +52,19 @@ sheet-written l m n o q ws rs i j k r x a b c d =
     written-append l m q (1 ∷ 0 ∷ length ws ∷ []) (ws ++ x ∷ rs) 0 i r a (written-append m n q ws (x ∷ rs) i j r b (written-append n o q (x ∷ []) rs j k r c d))
 
 -- the first name of an empty table
-module _ (t b m : List ℕ) (l : Layout) (r : Added) (a : Addition t (addName (namesIn t b 0) (spelled t (l .initial))) m r) where
-  one-name : addName (namesIn t b 0) (spelled t (l .initial)) ≡ spelled t (l .initial) ∷ []
-  unfolding addName namesIn tabulate indexOf
+module _ (t b m : List ℕ) (l : Layout) (r : Added) (a : Addition t (add sameLabel (spelled t (l .initial)) (namesIn t b 0)) m r) where
+  one-name : add sameLabel (spelled t (l .initial)) (namesIn t b 0) ≡ spelled t (l .initial) ∷ []
+  unfolding add namesIn tabulate index
   one-name = refl
 
   pub states-full : r ≡ Full → Addition t (statesOf t (toldAt t l)) m Full
   states-full e = let h = added-full _ _ m r a e in absurd (omega (arith, ap length one-name))
 
-  pub states-kept : (n : ℕ) → r ≡ Kept n → (o : List ℕ) (q : Added) → Addition t (addNames t (namesIn t m n) (transitions t (l .arrows .at) .items)) o q → Addition t (statesOf t (toldAt t l)) o q
+  pub states-kept : (n : ℕ) → r ≡ Kept n → (o : List ℕ) (q : Added) → Addition t (meet sameLabel (namesOf t (transitions t (l .arrows .at) .items)) (namesIn t m n)) o q
+      → Addition t (statesOf t (toldAt t l)) o q
   unfolding statesOf
-  states-kept n e o q h = subst (λ (k : List (List ℕ)). Addition t (addNames t k (transitions t (l .arrows .at) .items)) o q) (added-names _ _ m r a n e ∙ one-name) h
+  states-kept n e o q h =
+      subst (λ (k : List (List ℕ)). Addition t (meet sameLabel (namesOf t (transitions t (l .arrows .at) .items)) k) o q) (added-names _ _ m r a n e ∙ one-name) h
 
 pub ruleset statesLaws = (table-none, states-full, states-kept, added-table, needs)
 

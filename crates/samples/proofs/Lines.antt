@@ -1,6 +1,6 @@
 -- The program `verdict` on the texts of A, B and C: every line that its contract allows is the one of document 01.
 use Prim.Native.Nat.{ℕ}
-use mathlib.Core.List.{List, [], _∷_, _++_}
+use mathlib.Core.List.{List, [], _∷_, _++_, flatMap}
 use mathlib.Core.Path.{_≡_, _∙_, ap, subst}
 use native.Mathlib.Omega.{arith}
 use Rattle.lists.specs.Lists.{any}
@@ -17,8 +17,9 @@ use Rattle.equality.proofs.Theorems.{classes-number, same-words, one-word, not-
 use Rattle.labels.specs.Labels.{sameLabel}
 use Rattle.grammar.specs.Bytes.{isSpace, isLetter, isDigit, isNameByte}
 use Rattle.grammar.specs.Grammar.{follow, run, space, neededSpace, begins, token, name, number, ends, range, target, transition, initial, nextName, many, transitions, nextNames, accepting, heading, ending, wholeText}
-use Rattle.parser.specs.Pattern.{indexOf, addName, addNames, statesOf, acceptWord, automatonOf, fewTransitions, fewStates, parse}
+use Rattle.parser.specs.Pattern.{namesOf, statesOf, acceptWord, automatonOf, fewTransitions, fewStates, parse}
 use Rattle.refusal.specs.Answer.{Answer, given}
+use Rattle.search.specs.Search.{index, add, meet}
 use Rattle.sheets.specs.Sheet.{read}
 use Rattle.sheets.proofs.Accepted.{accepted}
 use Rattle.sheets.proofs.Meaning.{read-well}
@@ -55,7 +56,7 @@ are-compared :
     (comparedTexts 0 lastSymbol (text-a ++ text-b) ≡ given both)
     × (comparedTexts 0 lastSymbol (text-a ++ text-c) ≡ given apart)
 unfolding follow isSpace isLetter isDigit isNameByte run space neededSpace begins token name valueAfter number ends range target transition initial
-    nextName many transitions nextNames accepting heading ending wholeText sameLabel indexOf addName addNames statesOf any acceptWord automatonOf
+    nextName many transitions nextNames accepting heading ending wholeText sameLabel index add meet flatMap namesOf statesOf any acceptWord automatonOf
     fewTransitions fewStates parse insert inOrder readRecords withSecond withFirst both-determinized twoTexts withSecondText withFirstText
     comparedTexts
 are-compared = (
