@@ -38,7 +38,7 @@ unfolding writeRecords
 write-append [] es = refl
 write-append (d ∷ ds) es = ap (λ l. wordsOf d ++ l) (write-append ds es)
 
-read-front : (s : List ℕ) → 5 ≤ length s → readRecords s ≡ recordAt s 0 ∷ readRecords (drop 5 s)
+pub read-front : (s : List ℕ) → 5 ≤ length s → readRecords s ≡ recordAt s 0 ∷ readRecords (drop 5 s)
 unfolding readRecords
 read-front [] h = absurd (omega arith)
 read-front (a ∷ []) h = absurd (omega arith)
@@ -47,7 +47,7 @@ read-front (a ∷ b ∷ c ∷ []) h = absurd (omega arith)
 read-front (a ∷ b ∷ c ∷ d ∷ []) h = absurd (omega arith)
 read-front (a ∷ b ∷ c ∷ d ∷ e ∷ s) h = refl
 
-read-short : (s : List ℕ) → length s < 5 → readRecords s ≡ []
+pub read-short : (s : List ℕ) → length s < 5 → readRecords s ≡ []
 unfolding readRecords
 read-short [] h = refl
 read-short (a ∷ []) h = refl

@@ -6,7 +6,7 @@ use mathlib.Core.Logic.{⊎-elim}
 use mathlib.Core.Path.{_≡_, refl, sym, ap, subst, _∙_}
 use native.Mathlib.Omega.{arith}
 use borrow.Author.Needs.{needs}
-use borrow.Author.Tests.{ltb-true, ltb-false}
+use borrow.Author.Tests.{ltb-true, ltb-false, not-true, not-false}
 use lib.Dec.{ltb}
 use lib.ListN.{length, getD, take, drop}
 use Rattle.lists.specs.Lists.{_∈_}
@@ -18,7 +18,7 @@ use Rattle.dsu.proofs.Generated.{spanned-room}
 use Rattle.equivalence.specs.Triggers.{SameTrigger, Within, sameTrigger}
 use Rattle.equivalence.specs.Rows.{leadersBehind, leaders, RowEnd}
 use Rattle.equivalence.specs.Walking.{Pairs, Good, Grown, CanOffer, Offered, Runs, CanTurn, Comes, Saw, Turned}
-use Rattle.equivalence.proofs.Triggers.{trigger-test, trigger-apart, trigger-chain, not-true, not-false}
+use Rattle.equivalence.proofs.Triggers.{trigger-test, trigger-apart, trigger-chain}
 use Rattle.equivalence.proofs.Reading.{test-parts}
 use Rattle.equivalence.proofs.Rows.{leaders-rest, leaders-out, leaders-led}
 use Rattle.equivalence.proofs.Turning.{Zipped, whole, next, zipped-left, zipped-right, zipped-grown, zipped-matched, zipped-heads, zipped-left-over, zipped-right-over}

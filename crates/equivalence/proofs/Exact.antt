@@ -6,7 +6,7 @@ use mathlib.Core.Logic.{_↔_, ⊎-elim}
 use mathlib.Core.Path.{_≡_, refl, sym, _∙_, ap, subst}
 use native.Mathlib.Nat.{add-comm, suc-mul}
 use native.Mathlib.Omega.{arith}
-use borrow.Author.Tests.{eq-eqb, eqb-true}
+use borrow.Author.Tests.{eq-eqb, eqb-true, not-true, not-false}
 use lib.Dec.{eqb}
 use lib.ListN.{length, getD, length-append, length-map}
 use Rattle.lists.specs.Lists.{_∈_, keep, tabulate}
@@ -22,7 +22,7 @@ use Rattle.automata.specs.Pairs.{Pair}
 use Rattle.automata.proofs.Pairs.{pair-decides}
 use Rattle.equivalence.specs.Triggers.{SameTrigger, First, sameTrigger, firsts, within}
 use Rattle.equivalence.specs.Equivalent.{Reached, start, step, Alike, alike, targetsWith, targets, pairs, allAlike, equivalent}
-use Rattle.equivalence.proofs.Triggers.{trigger-test, trigger-passes, not-true, not-false, none-out, firsts-out, firsts-in, within-test, within-passes}
+use Rattle.equivalence.proofs.Triggers.{trigger-test, trigger-passes, none-out, firsts-out, firsts-in, within-test, within-passes}
 
 -- lists of lists
 flat-length : {X Y : Type 0} (f : X → List Y) (m : ℕ) (l : List X) → ((x : X) → length (f x) ≡ m) → length (flatMap f l) ≡ length l * m

@@ -6,7 +6,7 @@ use mathlib.Core.Path.{_≡_, refl, sym, ap, subst, _∙_}
 use native.Mathlib.Omega.{arith}
 use borrow.Author.Count.{below-more}
 use borrow.Author.Needs.{needs}
-use borrow.Author.Tests.{ltb-true, ltb-false}
+use borrow.Author.Tests.{ltb-true, ltb-false, not-true, not-false}
 use lib.Dec.{ltb}
 use lib.ListN.{length, getD}
 use lib.Seq.{sets}
@@ -25,7 +25,7 @@ use Rattle.sheets.proofs.Runs.{run-at, starts-indexed}
 use Rattle.automata.proofs.Leaving.{leaves}
 use Rattle.equivalence.specs.Equivalent.{Reached, start, step, Alike, equivalent}
 use Rattle.equivalence.specs.Walking.{Pairs, classes, oneAt, twoAt, Good, Fresh, CanOffer, Offered, Runs, CanTurn, Saw, Turned, Follows, Going}
-use Rattle.equivalence.proofs.Triggers.{trigger-turn, trigger-chain, first-target, not-true, not-false}
+use Rattle.equivalence.proofs.Triggers.{trigger-turn, trigger-chain, first-target}
 use Rattle.equivalence.proofs.Exact.{reached-in, exact, exact-false}
 use Rattle.equivalence.proofs.Rows.{Sorted, leaders-ascend, leaders-first, leaders-led}
 use Rattle.equivalence.proofs.Bisimulation.{walked-alike}

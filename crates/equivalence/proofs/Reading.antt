@@ -5,7 +5,7 @@ use mathlib.Core.List.{List}
 use mathlib.Core.Path.{_≡_, refl, sym, ap, _∙_}
 use native.Mathlib.Omega.{arith}
 use borrow.Author.Needs.{needs}
-use borrow.Author.Tests.{eq-eqb, ne-eqb}
+use borrow.Author.Tests.{eq-eqb, ne-eqb, not-true, not-false}
 use lib.Dec.{eqb}
 use lib.ListN.{length, getD, take, drop}
 use Rattle.automata.specs.Automaton.{Transition}
@@ -13,7 +13,6 @@ use Rattle.automata.specs.Records.{recordAt, readRecords}
 use Rattle.automata.proofs.Records.{records-at, records-end, part-record}
 use Rattle.equivalence.specs.Triggers.{sameTrigger}
 use Rattle.equivalence.specs.Rows.{behindRow, RowEnd}
-use Rattle.equivalence.proofs.Triggers.{not-true, not-false}
 
 -- two records
 module _ (d e : List ℕ) where

@@ -4,7 +4,7 @@ use mathlib.Core.List.{List, [], _∷_, List·Memᴰ·head, List·Memᴰ·tail, 
 use mathlib.Core.Logic.{_⊎_, inl, inr, ⊎-elim}
 use mathlib.Core.Path.{_≡_, refl, sym, _∙_, ap}
 use native.Mathlib.Omega.{arith}
-use borrow.Author.Tests.{eq-eqb, eqb-true, ltb-true, ltb-false}
+use borrow.Author.Tests.{eq-eqb, eqb-true, ltb-true, ltb-false, not-true}
 use lib.Dec.{eqb, ltb}
 use Rattle.lists.specs.Lists.{_∈_, any}
 use Rattle.lists.proofs.Lists.{any-in, any-out, keep-in, keep-out}
@@ -36,15 +36,6 @@ trigger-passes {d} {e} s =
 
 pub trigger-apart : (d e : Transition) → sameTrigger d e ≡ false → SameTrigger d e → ⊥
 trigger-apart d e f s = false≢true (sym f ∙ trigger-passes s)
-
--- a test that is turned round
-pub not-true : (b : Bool) → not b ≡ true → b ≡ false
-not-true true h = absurd (false≢true h)
-not-true false h = refl
-
-pub not-false : (b : Bool) → not b ≡ false → b ≡ true
-not-false true h = refl
-not-false false h = absurd (false≢true (sym h))
 
 pub none-out : {X : Type 0} (f : X → Bool) (l : List X) → not (any f l) ≡ true → (x : X) → x ∈ l → f x ≡ true → ⊥
 none-out f l h x m t = false≢true (sym (not-true (any f l) h) ∙ any-in f m t)

@@ -3,7 +3,8 @@ use Prim.Native.Nat.{ℕ, _+_, _<_}
 use mathlib.Core.List.{List, [], _∷_, List·Memᴰ·head, List·Memᴰ·tail, List·Memᴰ·cases-cons}
 use mathlib.Core.Logic.{⊎-elim}
 use mathlib.Core.Path.{_≡_, refl}
-use Rattle.lists.specs.Lists.{_∈_, Ascending, more}
+use Rattle.lists.specs.Lists.{_∈_, Ascending}
+use Rattle.lists.proofs.Members.{ascending-first, ascending-rest}
 use Rattle.automata.specs.Automaton.{Transition}
 use Rattle.automata.proofs.Ordered.{lex-trans, lex-irreflexive}
 use Rattle.equivalence.specs.Triggers.{SameTrigger, Within}
@@ -26,20 +27,14 @@ module _ {n1 : ℕ} {w : Pairs} {F G : List Transition} where
   zipped-right whole x m = m
   zipped-right (next s j z) x m = zipped-right z x (List·Memᴰ·tail m)
 
-tail : {X : Type 0} {R : X → X → Type 0} {x : X} {l : List X} → Ascending R (x ∷ l) → Ascending R l
-tail (more f a) = a
-
-ahead : {X : Type 0} {R : X → X → Type 0} {x : X} {l : List X} → Ascending R (x ∷ l) → (y : X) → y ∈ l → R x y
-ahead (more f a) = f
-
 module _ {n1 : ℕ} {w : Pairs} {F G : List Transition} (f : Ascending Lower F) (g : Ascending Lower G) where
   left-sorted : {ds es : List Transition} → Zipped n1 w F G ds es → Ascending Lower ds
   left-sorted whole = f
-  left-sorted (next s j z) = tail (left-sorted z)
+  left-sorted (next s j z) = ascending-rest (left-sorted z)
 
   right-sorted : {ds es : List Transition} → Zipped n1 w F G ds es → Ascending Lower es
   right-sorted whole = g
-  right-sorted (next s j z) = tail (right-sorted z)
+  right-sorted (next s j z) = ascending-rest (right-sorted z)
 
 -- the classes grow
 pub zipped-grown : {n1 : ℕ} {w r : Pairs} {F G ds es : List Transition} → Grown w r → ((d : Transition) → d ∈ F → d .to < w .sets .n) → ((e : Transition) → e ∈ G → n1 + e .to < w .sets .n) → Zipped n1 w F G ds es → Zipped n1 r F G ds es
@@ -60,7 +55,7 @@ within-more {d} {e} s w x m = ⊎-elim (λ (q : x ≡ d). (e, List·Memᴰ·head
 within-less : {d e : Transition} {ds es : List Transition} → SameTrigger d e → Ascending Lower (d ∷ ds) → Within (d ∷ ds) (e ∷ es) → Within ds es
 within-less {d} {e} {ds} {es} s a w x m =
     let (y, n, t) = w x (List·Memᴰ·tail m) in
-    ⊎-elim (λ (q : y ≡ e). absurd (lower-apart (ahead a x m) (trigger-chain s (trigger-turn (rw q at t))))) (λ k. (y, k, t)) (List·Memᴰ·cases-cons n)
+    ⊎-elim (λ (q : y ≡ e). absurd (lower-apart (ascending-first a x m) (trigger-chain s (trigger-turn (rw q at t))))) (λ k. (y, k, t)) (List·Memᴰ·cases-cons n)
 
 matched-more : {n1 : ℕ} {w : Pairs} {d e : Transition} {ds es : List Transition} → SameTrigger d e → classes w (d .to) ≡ classes w (n1 + e .to) → Ascending Lower (d ∷ ds) → Ascending Lower (e ∷ es) → Matched n1 w ds es → Matched n1 w (d ∷ ds) (e ∷ es)
 matched-more {n1} {w} {d} {e} s j a b m = record {
@@ -69,9 +64,9 @@ matched-more {n1} {w} {d} {e} s j a b m = record {
   joined = λ x y k l t.
       ⊎-elim
       (λ (p : x ≡ d).
-      ⊎-elim (λ (q : y ≡ e). rw (p, q) j) (λ l. absurd (lower-apart (ahead b y l) (trigger-chain (trigger-turn s) (rw p at t)))) (List·Memᴰ·cases-cons l))
+      ⊎-elim (λ (q : y ≡ e). rw (p, q) j) (λ l. absurd (lower-apart (ascending-first b y l) (trigger-chain (trigger-turn s) (rw p at t)))) (List·Memᴰ·cases-cons l))
       (λ k.
-      ⊎-elim (λ (q : y ≡ e). absurd (lower-apart (ahead a x k) (trigger-chain s (trigger-turn (rw q at t))))) (λ l. m .joined x y k l t) (List·Memᴰ·cases-cons l))
+      ⊎-elim (λ (q : y ≡ e). absurd (lower-apart (ascending-first a x k) (trigger-chain s (trigger-turn (rw q at t))))) (λ l. m .joined x y k l t) (List·Memᴰ·cases-cons l))
       (List·Memᴰ·cases-cons k);
 }
 
@@ -94,8 +89,8 @@ module _ {n1 : ℕ} {w : Pairs} {F G : List Transition} (f : Ascending Lower F) 
   zipped-heads {d} {e} {ds} {es} z n h k =
       let (y, p, s) = zipped-there z h d (List·Memᴰ·head refl) in
       let (x, q, t) = zipped-back z k e (List·Memᴰ·head refl) in
-      let up : Lower e d = ⊎-elim (λ (i : y ≡ e). absurd (n (rw i at s))) (λ i. lower-right e (ahead (right-sorted f g z) y i) (trigger-turn s)) (List·Memᴰ·cases-cons p) in
-      let down : Lower d e = ⊎-elim (λ (i : x ≡ d). absurd (n (trigger-turn (rw i at t)))) (λ i. lower-right d (ahead (left-sorted f g z) x i) (trigger-turn t)) (List·Memᴰ·cases-cons q) in
+      let up : Lower e d = ⊎-elim (λ (i : y ≡ e). absurd (n (rw i at s))) (λ i. lower-right e (ascending-first (right-sorted f g z) y i) (trigger-turn s)) (List·Memᴰ·cases-cons p) in
+      let down : Lower d e = ⊎-elim (λ (i : x ≡ d). absurd (n (trigger-turn (rw i at t)))) (λ i. lower-right d (ascending-first (left-sorted f g z) x i) (trigger-turn t)) (List·Memᴰ·cases-cons q) in
       lex-irreflexive (lex-trans up down)
 
   pub zipped-left-over : {d : Transition} {ds : List Transition} → Zipped n1 w F G (d ∷ ds) [] → Within F G → ⊥

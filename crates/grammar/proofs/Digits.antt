@@ -9,29 +9,30 @@ use borrow.Author.Needs.{needs}
 use borrow.Author.Tests.{not-true, not-false, eqb-true, eqb-false, le-ltb, lt-ltb, lt-leb, le-leb}
 use lib.Dec.{ltb, eqb}
 use lib.ListN.{length, getD, take, drop}
+use Rattle.decimal.specs.Decimal.{valueAfter, value}
 use Rattle.lists.proofs.Parts.{drop-at}
 use Rattle.lists.proofs.Tests.{test}
 use Rattle.grammar.specs.Bytes.{isDigit}
-use Rattle.grammar.specs.Grammar.{Found, nothing, found, run, value, number}
+use Rattle.grammar.specs.Grammar.{Found, nothing, found, run, number}
 use Rattle.grammar.proofs.Runs.{run-end, run-more, run-stop}
 
--- the number that the digits from at on write behind the number v
+-- the number that the digits from at on write behind those of v
 unfoldable pub written : List ℕ → ℕ → ℕ → ℕ
-written t at v = value v (take (run isDigit (drop at t)) (drop at t))
+written t at v = valueAfter v (take (run isDigit (drop at t)) (drop at t))
 
-value-grows : (v : ℕ) (l : List ℕ) → v ≤ value v l
-unfolding value
+value-grows : (v : ℕ) (l : List ℕ) → v ≤ valueAfter v l
+unfolding valueAfter
 value-grows v [] = omega arith
 value-grows v (b ∷ l) = let h = value-grows (10 * v + (b - 48)) l in omega arith
 
 module _ (t : List ℕ) (at v : ℕ) where
   written-stop : run isDigit (drop at t) ≡ 0 → written t at v ≡ v
-  unfolding written value
+  unfolding written valueAfter
   written-stop h = rw h
 
   written-more : at < length t → isDigit (getD t at 0) ≡ true → written t at v ≡ written t (at + 1) (10 * v + (getD t at 0 - 48))
-  unfolding written value
-  written-more h e = rw (run-more isDigit t at h e) (ap (λ (l : List ℕ). value v (take (suc (run isDigit (drop (at + 1) t))) l)) (drop-at t at h))
+  unfolding written valueAfter
+  written-more h e = rw (run-more isDigit t at h e) (ap (λ (l : List ℕ). valueAfter v (take (suc (run isDigit (drop (at + 1) t))) l)) (drop-at t at h))
 
 -- the digits from start to at write v, and n is the place behind the last digit
 module _ (t : List ℕ) (start at v : ℕ) (g : start ≤ at) (m : v < 2 ^ 32) (n : start + run isDigit (drop start t) ≡ at + run isDigit (drop at t))
@@ -40,7 +41,7 @@ module _ (t : List ℕ) (start at v : ℕ) (g : start ≤ at) (m : v < 2 ^ 32) (
   done : run isDigit (drop at t) ≡ 0 → (x : Found ℕ) → x ≡ cond (eqb at start) nothing (found v at) → x ≡ number t start
   unfolding number written
   done z x q =
-      let w : value 0 (take (run isDigit (drop start t)) (drop start t)) ≡ v = e ∙ written-stop t at v z in
+      let w : value (take (run isDigit (drop start t)) (drop start t)) ≡ v = e ∙ written-stop t at v z in
       let b : start + run isDigit (drop start t) ≡ at = omega arith in
       q
       ∙ sym (rw (w, b, le-leb v 4294967295 (omega arith))
@@ -73,7 +74,7 @@ module _ (t : List ℕ) (start at v : ℕ) (g : start ≤ at) (m : v < 2 ^ 32) (
       unfolding number
       number-over o =
           let l = run isDigit (drop start t) in
-          let x : 4294967295 < value 0 (take l (drop start t)) = unfold written in omega (arith, number-next, value-grows w (take (run isDigit (drop (at + 1) t)) (drop (at + 1) t))) in
+          let x : 4294967295 < value (take l (drop start t)) = unfold written in omega (arith, number-next, value-grows w (take (run isDigit (drop (at + 1) t)) (drop (at + 1) t))) in
           sym (rw (lt-leb _ _ x) (none _ (ltb 0 l)))
         where
           none : (y : Found ℕ) (b : Bool) → cond (b && false) y nothing ≡ nothing

@@ -3,8 +3,9 @@ use Prim.Native.Nat.{ℕ}
 use mathlib.Core.List.{List, [], _∷_, _++_}
 use mathlib.Core.Path.{_≡_, refl}
 use lib.ListN.{replicate}
+use Rattle.decimal.specs.Decimal.{valueAfter}
 use Rattle.grammar.specs.Bytes.{isSpace, isLetter, isDigit, isNameByte}
-use Rattle.grammar.specs.Grammar.{Found, nothing, found, follow, run, space, neededSpace, begins, token, name, value, number, ends, range, target, transition, initial, nextName, many, transitions, nextNames, accepting, heading, ending, Told, wholeText}
+use Rattle.grammar.specs.Grammar.{Found, nothing, found, follow, run, space, neededSpace, begins, token, name, number, ends, range, target, transition, initial, nextName, many, transitions, nextNames, accepting, heading, ending, Told, wholeText}
 
 -- the parts of the text A of document 01, one behind the other
 -- `automaton A {`
@@ -75,7 +76,7 @@ inside-examples :
     (behind (wholeText (begin ++ init-p ++ arrow ++ accepting-q ++ end ++ arrow)) ≡ 52)
     × (behind (wholeText loose) ≡ 124)
     × (behind (wholeText (begin ++ init-p ++ accepting-long 64 ++ end)) ≡ 100)
-unfolding isSpace isLetter isDigit isNameByte follow run space neededSpace begins token name value number ends range target transition initial nextName many transitions nextNames accepting heading ending wholeText
+unfolding isSpace isLetter isDigit isNameByte follow run space neededSpace begins token name valueAfter number ends range target transition initial nextName many transitions nextNames accepting heading ending wholeText
 inside-examples = (refl, refl, refl)
 
 -- the parts outside the grammar, each in its place; space before the text; and a name of 65 bytes
@@ -88,5 +89,5 @@ outside-examples :
     × (wholeText (begin ++ init-p ++ arrow ++ accepting-q ++ end-space) ≡ nothing)
     × (wholeText (32 ∷ (begin ++ init-p ++ arrow ++ accepting-q ++ end)) ≡ nothing)
     × (wholeText (begin ++ init-p ++ accepting-long 65 ++ end) ≡ nothing)
-unfolding isSpace isLetter isDigit isNameByte follow run space neededSpace begins token name value number ends range target transition initial nextName many transitions nextNames accepting heading ending wholeText
+unfolding isSpace isLetter isDigit isNameByte follow run space neededSpace begins token name valueAfter number ends range target transition initial nextName many transitions nextNames accepting heading ending wholeText
 outside-examples = (refl, refl, refl, refl, refl, refl, refl, refl)

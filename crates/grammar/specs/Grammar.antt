@@ -1,10 +1,11 @@
 -- The grammar of patterns (document 01, "Beside the equality"). Each piece is read at a place of a text; it finds a value and the place behind
 -- it, or nothing, and the next piece starts only from a place that was found.
-use Prim.Native.Nat.{ℕ, zero, suc, _+_, _-_, _*_}
+use Prim.Native.Nat.{ℕ, zero, suc, _+_}
 use mathlib.Core.Bool.{Bool, true, false, cond, _&&_}
 use mathlib.Core.List.{List, [], _∷_}
 use lib.Dec.{leb, ltb, eqb}
 use lib.ListN.{length, getD, take, drop}
+use Rattle.decimal.specs.Decimal.{value}
 use Rattle.grammar.specs.Bytes.{isSpace, isLetter, isDigit, isNameByte}
 use Rattle.grammar.specs.declared.tokens.Span.{Span}
 use Rattle.grammar.specs.declared.pieces.Arrow.{Arrow}
@@ -51,16 +52,11 @@ name t at =
     let n = run isNameByte (drop at t) in
     cond (isLetter (getD t at 0) && leb n 64) (found (record { start = at; end = at + n }) (at + n)) nothing
 
--- the number that the digits of l write behind the number v
-unfoldable pub value : ℕ → List ℕ → ℕ
-value v [] = v
-value v (b ∷ l) = value (10 * v + (b - 48)) l
-
 -- digits, leading zeros allowed, that fit u32
 unfoldable pub number : List ℕ → ℕ → Found ℕ
 number t at =
     let n = run isDigit (drop at t) in
-    let v = value 0 (take n (drop at t)) in
+    let v = value (take n (drop at t)) in
     cond (ltb 0 n && leb v 4294967295) (found v (at + n)) nothing
 
 -- first and last of a range

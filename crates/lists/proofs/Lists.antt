@@ -26,6 +26,12 @@ unfolding any
 any-ext f g [] h = refl
 any-ext f g (x ∷ l) h = rw (h x (List·Memᴰ·head refl), any-ext f g l (λ y m. h y (List·Memᴰ·tail m)))
 
+-- the element at a place
+pub map-at : {X Y : Type 0} (f : X → Y) (l : List X) (k : ℕ) (d : X) (e : Y) → k < length l → getD (map f l) k e ≡ f (getD l k d)
+map-at f [] k d e h = absurd (omega arith)
+map-at f (x ∷ l) zero d e h = refl
+map-at f (x ∷ l) (suc k) d e h = map-at f l k d e (omega arith)
+
 pub keep-in : {A : Type 0} (f : A → Bool) {x : A} {l : List A} → x ∈ l → f x ≡ true → x ∈ keep f l
 unfolding keep
 keep-in f {l = y ∷ l} (List·Memᴰ·head e) h = rw (ap f (sym e) ∙ h) (List·Memᴰ·head e)

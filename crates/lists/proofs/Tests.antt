@@ -1,6 +1,6 @@
 -- Tests: what a Bool says, and the rules that turn a test on the way into the test of a definition.
 use Prim.Native.Nat.{ℕ, suc}
-use mathlib.Core.Bool.{Bool, true, false, cond, not, _&&_, _||_, false≢true, true≢false}
+use mathlib.Core.Bool.{Bool, true, false, cond, _&&_, _||_, false≢true, true≢false}
 use mathlib.Core.Logic.{_⊎_, inl, inr}
 use mathlib.Core.Path.{_≡_, refl, sym}
 use borrow.Author.Tests.{lt-leb, le-leb, lt-ltb, le-ltb, eq-eqb, ne-eqb}
@@ -35,14 +35,6 @@ and-both a b h k = rw (h, k)
 pub and-parts : (a b : Bool) → (a && b) ≡ true → (a ≡ true) × (b ≡ true)
 and-parts true b e = (refl, e)
 and-parts false b e = absurd (false≢true e)
-
-pub no-true : (b : Bool) → not b ≡ true → b ≡ false
-no-true true h = sym h
-no-true false h = refl
-
-pub no-false : (b : Bool) → not b ≡ false → b ≡ true
-no-false true h = refl
-no-false false h = sym h
 
 -- two tests are equal if each passes where the other does
 pub true-same : (a b : Bool) → (a ≡ true → b ≡ true) → (b ≡ true → a ≡ true) → a ≡ b

@@ -2,24 +2,24 @@
 use Prim.Native.Nat.{ℕ, _+_, _-_, _*_, _%_, _≤_, _<_}
 use mathlib.Core.Bool.{Bool, true, false, true≢false}
 use mathlib.Core.List.{List, [], _∷_, map}
-use mathlib.Core.Logic.{⊎-elim}
 use mathlib.Core.Path.{_≡_, refl, sym, _∙_, ap}
 use native.Mathlib.Omega.{arith}
 use borrow.Author.Needs.{needs}
-use borrow.Author.Tests.{eq-eqb, eqb-true, ltb-true, ltb-false}
-use lib.Dec.{eqb, ltb}
+use borrow.Author.Tests.{eq-eqb, eqb-true}
+use lib.Dec.{eqb}
 use lib.ListN.{length, getD, drop, length-map, drop-of-length-le}
 use Rattle.buckets.specs.Buckets.{inBucket}
 use Rattle.buckets.proofs.Walking.{Walk, walk-begin, walk-next, walk-less, walk-ended}
 use Rattle.grammar.specs.Places.{spelled, Spelt}
 use Rattle.labels.specs.Labels.{sameLabel}
-use Rattle.labels.proofs.Same.{same-equal}
+use Rattle.labels.proofs.Same.{same-equal, equal-same}
+use Rattle.lists.specs.Lists.{Distinct}
+use Rattle.lists.proofs.Index.{index-le, index-in, index-at, index-place, same-decides}
 use Rattle.lists.proofs.Lists.{tabulate-at, length-tabulate, map-tabulate}
 use Rattle.lists.proofs.Parts.{drop-at}
-use Rattle.lists.proofs.Tests.{test}
+use Rattle.lists.proofs.Tests.{true-same}
+use Rattle.search.specs.Search.{index}
 use Rattle.parser.specs.Names.{hashFrom, hashOf, spanAt, namesIn, isName, Table}
-use Rattle.parser.specs.Pattern.{indexOf}
-use Rattle.parser.proofs.Indexing.{index-most, index-same}
 
 -- the bucket of a name is below 256
 hash-from : (h : ℕ) (x : List ℕ) → h < 256 → hashFrom h x < 256
@@ -67,6 +67,14 @@ buckets-at : (text t : List ℕ) (n j : ℕ) → j < n → getD (map hashOf (nam
 unfolding namesIn
 buckets-at text t n j h = ap (λ (l : List ℕ). getD l j 0) (map-tabulate hashOf n (λ j. spelled text (spanAt t j))) ∙ tabulate-at n (λ j. hashOf (spelled text (spanAt t j))) j 0 h
 
+-- of different names just one is x, that with its number
+pub index-same : {ls : List (List ℕ)} (x : List ℕ) (j : ℕ) → Distinct ls → j < length ls → sameLabel (getD ls j []) x ≡ eqb (index sameLabel x ls) j
+index-same {ls} x j d h =
+    true-same _ _
+    (λ t. eq-eqb _ j (ap (λ (y : List ℕ). index sameLabel y ls) (sym (same-equal _ x t)) ∙ index-place sameLabel same-decides [] d j h))
+    (λ t. let e : index sameLabel x ls ≡ j = eqb-true _ j t in
+    equal-same _ x (ap (λ (i : ℕ). getD ls i []) (sym e) ∙ index-at sameLabel same-decides [] x ls (index-in sameLabel same-decides x ls (omega arith))))
+
 -- the walk through the bucket of x in a table of n names
 module _ (text t : List ℕ) (n : ℕ) (k : Table text t n) (x : List ℕ) where
   -- a name that is x is in the bucket of x
@@ -78,7 +86,7 @@ module _ (text t : List ℕ) (n : ℕ) (k : Table text t n) (x : List ℕ) where
   find-begin h e i q = rw (q, e) (walk-begin (map hashOf (namesIn text t n)) t (hashOf x) (isName text t x) (k .found) right-bucket (hash-low x))
 
   -- the number of the name that is met
-  same-index : (j : ℕ) → j < n → isName text t x j ≡ eqb (indexOf x (namesIn text t n)) j
+  same-index : (j : ℕ) → j < n → isName text t x j ≡ eqb (index sameLabel x (namesIn text t n)) j
   unfolding isName
   same-index j h = ap (λ (l : List ℕ). sameLabel l x) (sym (names-at text t n j h)) ∙ index-same x j (k .distinct) (omega (arith, names-count text t n))
 
@@ -86,17 +94,14 @@ module _ (text t : List ℕ) (n : ℕ) (k : Table text t n) (x : List ℕ) where
     low : i ≤ n
     low = omega (arith, w .within, buckets-count text t n)
 
-    pub find-none : i ≤ 0 → n ≡ indexOf x (namesIn text t n)
-    find-none l =
-        ⊎-elim
-        (λ (q : ltb (indexOf x (namesIn text t n)) n ≡ true).
-        let h : indexOf x (namesIn text t n) < n = ltb-true _ n q in
-        let a : isName text t x (indexOf x (namesIn text t n)) ≡ true = same-index _ h ∙ eq-eqb (indexOf x (namesIn text t n)) (indexOf x (namesIn text t n)) refl in
-        absurd (true≢false (sym a ∙ walk-ended _ _ _ i w l (indexOf x (namesIn text t n)) (omega (arith, buckets-count text t n)))))
-        (λ (q : ltb (indexOf x (namesIn text t n)) n ≡ false).
-        let h : n ≤ indexOf x (namesIn text t n) = ltb-false _ n q in
-        omega (arith, index-most x (namesIn text t n), names-count text t n))
-        (test (ltb (indexOf x (namesIn text t n)) n))
+    -- where the walk has ended no name is x
+    absent : i ≤ 0 → index sameLabel x (namesIn text t n) < n → ⊥
+    absent l h =
+        let j = index sameLabel x (namesIn text t n) in
+        true≢false (sym (same-index j h ∙ eq-eqb j j refl) ∙ walk-ended _ _ _ i w l j (omega (arith, buckets-count text t n)))
+
+    pub find-none : i ≤ 0 → n ≡ index sameLabel x (namesIn text t n)
+    find-none l = omega (arith, absent l, index-le sameLabel x (namesIn text t n), names-count text t n)
 
     module _ (l : 0 < i) where
       pub find-inside : i - 1 < 256
@@ -106,7 +111,7 @@ module _ (text t : List ℕ) (n : ℕ) (k : Table text t n) (x : List ℕ) where
       find-spelt = k .spelt (i - 1) (omega (arith, low))
 
       module _ (r : Bool) (e : r ≡ isName text t x (i - 1)) where
-        pub find-found : r ≡ true → i - 1 ≡ indexOf x (namesIn text t n)
+        pub find-found : r ≡ true → i - 1 ≡ index sameLabel x (namesIn text t n)
         find-found q = sym (eqb-true _ _ (sym (same-index (i - 1) (omega (arith, low))) ∙ sym e ∙ q))
 
         module _ (f : r ≡ false) (q : ℕ) (m : q ≡ getD t (256 + (i - 1)) 0) where
@@ -122,7 +127,7 @@ find-low x h e = omega (arith, e, hash-low x)
 pub find-room : (text t : List ℕ) (n : ℕ) → Table text t n → 512 ≤ length t
 find-room text t n k = omega (arith, k .room)
 
-pub find-long : (text t : List ℕ) (n : ℕ) → Table text t n → length t ≡ 1024
-find-long text t n k = k .room
+pub table-long : (text t : List ℕ) (n : ℕ) → Table text t n → length t ≡ 1024
+table-long text t n k = k .room
 
-pub ruleset findLaws = (find-begin, find-none, find-inside, find-spelt, find-found, find-next, find-less, find-low, find-room, find-long, needs)
+pub ruleset findLaws = (find-begin, find-none, find-inside, find-spelt, find-found, find-next, find-less, find-low, find-room, table-long, needs)

@@ -1,5 +1,5 @@
 -- Laws of the accept words: how they are filled, and that they are those of the states.
-use Prim.Native.Nat.{ℕ, zero, suc, _≤_, _<_}
+use Prim.Native.Nat.{ℕ, zero, _≤_, _<_}
 use mathlib.Core.Bool.{Bool, true, false, cond, _||_}
 use mathlib.Core.List.{List, [], _∷_, map}
 use mathlib.Core.Logic.{⊎-elim}
@@ -19,16 +19,17 @@ use Rattle.grammar.specs.declared.tokens.NamePiece.the-variants.{Read as NameRe
 use Rattle.grammar.proofs.Many.{names-ended, names-more, names-less, name-spelt}
 use Rattle.lists.specs.Lists.{any, Distinct}
 use Rattle.lists.proofs.Tests.{test}
+use Rattle.lists.proofs.Lists.{map-at}
 use Rattle.labels.specs.Labels.{sameLabel}
+use Rattle.search.specs.Search.{index}
 use Rattle.parser.specs.Accepts.{markOne, markAll}
 use Rattle.parser.specs.Memory.{Zeros}
 use Rattle.parser.specs.Names.{Table, namesIn}
-use Rattle.parser.specs.Pattern.{indexOf, acceptWord}
-use Rattle.parser.proofs.Finding.{names-count}
-use Rattle.parser.proofs.Indexing.{index-same}
+use Rattle.parser.specs.Pattern.{acceptWord}
+use Rattle.parser.proofs.Finding.{names-count, index-same}
 
 -- the state's word is marked, or there is none
-module _ (t b : List ℕ) (n : ℕ) (k : Table t b n) (x : Span) (ws : List ℕ) (i : ℕ) (e : i ≡ indexOf (spelled t x) (namesIn t b n)) where
+module _ (t b : List ℕ) (n : ℕ) (k : Table t b n) (x : Span) (ws : List ℕ) (i : ℕ) (e : i ≡ index sameLabel (spelled t x) (namesIn t b n)) where
   pub mark-none : n ≤ i → ws ≡ markOne t (namesIn t b n) ws x
   unfolding markOne
   mark-none h = sym (rw (← e, names-count t b n, le-ltb i n h))
@@ -63,7 +64,7 @@ module _ (t : List ℕ) (ls : List (List ℕ)) (d : Distinct ls) where
   -- one name marks the word of its state and no other
   one-mark : (ws : List ℕ) (x : Span) (j : ℕ) → length ls ≤ length ws → j < length ls → getD (markOne t ls ws x) j 0 ≡ cond (sameLabel (getD ls j []) (spelled t x)) 1 (getD ws j 0)
   unfolding markOne
-  one-mark ws x j g h = rw (index-same (spelled t x) j d h) (go (indexOf (spelled t x) ls))
+  one-mark ws x j g h = rw (index-same (spelled t x) j d h) (go (index sameLabel (spelled t x) ls))
     where
       go : (i : ℕ) → getD (cond (ltb i (length ls)) (set ws i 1) ws) j 0 ≡ cond (eqb i j) 1 (getD ws j 0)
       go i =
@@ -76,10 +77,10 @@ module _ (t : List ℕ) (ls : List (List ℕ)) (d : Distinct ls) where
 
   mark-length : (ws : List ℕ) (x : Span) → length (markOne t ls ws x) ≡ length ws
   unfolding markOne
-  mark-length ws x = go (ltb (indexOf (spelled t x) ls) (length ls))
+  mark-length ws x = go (ltb (index sameLabel (spelled t x) ls) (length ls))
     where
-      go : (c : Bool) → length (cond c (set ws (indexOf (spelled t x) ls) 1) ws) ≡ length ws
-      go true = length-set ws (indexOf (spelled t x) ls) 1
+      go : (c : Bool) → length (cond c (set ws (index sameLabel (spelled t x) ls) 1) ws) ≡ length ws
+      go true = length-set ws (index sameLabel (spelled t x) ls) 1
       go false = refl
 
   pub marks-length : (ws : List ℕ) (xs : List Span) → length (markAll t ls ws xs) ≡ length ws
@@ -101,11 +102,6 @@ module _ (t : List ℕ) (ls : List (List ℕ)) (d : Distinct ls) where
       either false true w = refl
       either false false w = refl
 
-  map-at : (f : List ℕ → ℕ) (ks : List (List ℕ)) (j : ℕ) → j < length ks → getD (map f ks) j 0 ≡ f (getD ks j [])
-  map-at f [] j h = absurd (omega arith)
-  map-at f (k ∷ ks) zero h = refl
-  map-at f (k ∷ ks) (suc j) h = map-at f ks j (omega arith)
-
   -- the words are those of the states
   pub marks-words : (ws : List ℕ) (xs : List Span) → Zeros 256 ws → length ls ≤ 256 → take (length ls) (markAll t ls ws xs) ≡ map (acceptWord t xs) ls
   unfolding acceptWord
@@ -115,4 +111,4 @@ module _ (t : List ℕ) (ls : List (List ℕ)) (d : Distinct ls) where
       ext-getD 0 _ _ (m ∙ sym (length-map ls (acceptWord t xs))) λ j h.
       let k : j < length ls = omega arith in
       getD-take (length ls) (markAll t ls ws xs) j 0 k ∙ all-marks ws xs j (omega (arith, z .long)) k
-      ∙ ap (cond (any (λ s. sameLabel (getD ls j []) (spelled t s)) xs) 1) (z .zero j) ∙ sym (map-at (acceptWord t xs) ls j k)
+      ∙ ap (cond (any (λ s. sameLabel (getD ls j []) (spelled t s)) xs) 1) (z .zero j) ∙ sym (map-at (acceptWord t xs) ls j [] 0 k)

@@ -1,110 +1,67 @@
 -- What is read is an accepted sheet with a right label list.
 use Prim.Native.Nat.{ℕ, zero, suc, _≤_, _<_}
 use mathlib.Core.Bool.{Bool, true, false, cond}
-use mathlib.Core.List.{List, [], _∷_, _++_, map, List·Memᴰ·head, List·Memᴰ·tail, Memᴰ·append-left, Memᴰ·append-right}
-use mathlib.Core.Path.{_≡_, refl, sym, ap, subst}
+use mathlib.Core.List.{List, [], _∷_, map, List·Memᴰ·head, List·Memᴰ·tail, List·Memᴰ·eq-of-singleton}
+use mathlib.Core.Logic.{⊎-elim}
+use mathlib.Core.Path.{_≡_, refl, sym, subst}
 use native.Mathlib.Omega.{arith}
-use borrow.Author.Tests.{ltb-true, ltb-false}
+use borrow.Author.Tests.{ltb-false}
 use lib.Dec.{ltb}
 use lib.ListN.{length, getD, length-map}
-use Rattle.grammar.specs.Grammar.{Found, nothing, found, Told, transitions, wholeText}
+use Rattle.grammar.specs.Grammar.{Found, nothing, found, Told, wholeText}
 use Rattle.grammar.specs.Places.{spelled, Spelt, Drawn}
 use Rattle.grammar.specs.declared.pieces.Arrow.{Arrow}
 use Rattle.grammar.proofs.Many.{text-drawn}
 use Rattle.grammar.proofs.Progress.{holds-found}
-use Rattle.lists.proofs.Members.{map-out}
 use Rattle.lists.specs.Lists.{_∈_, any}
+use Rattle.lists.proofs.Every.{flat-in, flat-out}
+use Rattle.lists.proofs.Index.{index-lt, same-decides}
+use Rattle.lists.proofs.Members.{map-out}
 use Rattle.automata.specs.Automaton.{Transition}
 use Rattle.automata.specs.Ordered.{inOrder}
 use Rattle.automata.specs.WellFormed.{Sound, WellFormed, Fits}
 use Rattle.automata.proofs.Ordered.{inOrder-out, inOrder-ascending}
 use Rattle.labels.specs.Labels.{writeLabels, labelsFault, Label, AllLabels, none, more, sameLabel}
 use Rattle.labels.proofs.Labels.{fault-write}
-use Rattle.labels.proofs.Same.{same-equal}
-use Rattle.labels.proofs.Listing.{labels-append}
 use Rattle.refusal.specs.Answer.{refused, given}
+use Rattle.search.specs.Search.{index}
+use Rattle.search.proofs.Tables.{extends-length, meet-extends, meet-in, meet-out}
 use Rattle.sheets.specs.Fault.{fault}
 use Rattle.sheets.specs.Sheet.{write}
 use Rattle.sheets.proofs.Meaning.{write-accepted}
-use Rattle.parser.specs.Pattern.{indexOf, addName, addNames, statesOf, transitionOf, acceptWord, automatonOf, Reading, fewTransitions, fewStates, meaning, parse}
-use Rattle.parser.proofs.Indexing.{index-in}
+use Rattle.parser.specs.Pattern.{bothNames, namesOf, statesOf, transitionOf, acceptWord, automatonOf, Reading, fewTransitions, fewStates, meaning, parse}
 use Rattle.parser.proofs.Tables.{spelt-label}
+use Rattle.output.specs.Output.{statesFirst, transitionsFirst}
 
--- what stands in a list of names stays there, and a name that is added is there
-add-keeps : (ls : List (List ℕ)) (x : List ℕ) {y : List ℕ} → y ∈ ls → y ∈ addName ls x
-unfolding addName
-add-keeps ls x {y} m = go (ltb (indexOf x ls) (length ls))
-  where
-    go : (c : Bool) → y ∈ cond c ls (ls ++ x ∷ [])
-    go true = m
-    go false = Memᴰ·append-left (x ∷ []) m
-
-index-there : (x : List ℕ) (ls : List (List ℕ)) → indexOf x ls < length ls → x ∈ ls
-unfolding indexOf
-index-there x [] h = absurd (omega arith)
-index-there x (l ∷ ls) h = go (sameLabel l x) refl h (index-there x ls)
-  where
-    go : (c : Bool) → sameLabel l x ≡ c → cond c 0 (suc (indexOf x ls)) < suc (length ls) → (indexOf x ls < length ls → x ∈ ls) → x ∈ (l ∷ ls)
-    go true e h ih = List·Memᴰ·head (sym (same-equal l x e))
-    go false e h ih = List·Memᴰ·tail (ih (omega arith))
-
-add-there : (ls : List (List ℕ)) (x : List ℕ) → x ∈ addName ls x
-unfolding addName
-add-there ls x = go (ltb (indexOf x ls) (length ls)) refl
-  where
-    go : (c : Bool) → ltb (indexOf x ls) (length ls) ≡ c → x ∈ cond c ls (ls ++ x ∷ [])
-    go true e = index-there x ls (ltb-true _ _ e)
-    go false e = Memᴰ·append-right ls (List·Memᴰ·head refl)
-
-names-keep : (t : List ℕ) (ls : List (List ℕ)) (es : List Arrow) {y : List ℕ} → y ∈ ls → y ∈ addNames t ls es
-unfolding addNames
-names-keep t ls [] m = m
-names-keep t ls (e ∷ es) m = names-keep t _ es (add-keeps _ _ (add-keeps ls _ m))
-
--- the names of each transition are names of states
-names-of : (t : List ℕ) (ls : List (List ℕ)) (es : List Arrow) (e : Arrow) → e ∈ es → (spelled t (e .from) ∈ addNames t ls es) × (spelled t (e .to) ∈ addNames t ls es)
-unfolding addNames
-names-of t ls (d ∷ es) e (List·Memᴰ·head q) =
-    let p : spelled t (d .from) ≡ spelled t (e .from) = ap (λ (a : Arrow). spelled t (a .from)) (sym q) in
-    let r : spelled t (d .to) ≡ spelled t (e .to) = ap (λ (a : Arrow). spelled t (a .to)) (sym q) in (
-      subst (λ (y : List ℕ). y ∈ addNames t ls (d ∷ es)) p (names-keep t _ es (add-keeps _ _ (add-there ls (spelled t (d .from))))),
-      subst (λ (y : List ℕ). y ∈ addNames t ls (d ∷ es)) r (names-keep t _ es (add-there _ (spelled t (d .to)))),
-    )
-names-of t ls (d ∷ es) e (List·Memᴰ·tail m) = names-of t _ es e m
-
--- all names are labels
-labels-add : {ls : List (List ℕ)} (x : List ℕ) → AllLabels ls → Label x → AllLabels (addName ls x)
-unfolding addName
-labels-add {ls} x a l = go (ltb (indexOf x ls) (length ls))
-  where
-    go : (c : Bool) → AllLabels (cond c ls (ls ++ x ∷ []))
-    go true = a
-    go false = labels-append a (more l none)
-
-labels-names : (t : List ℕ) {ls : List (List ℕ)} (es : List Arrow) → AllLabels ls → ((e : Arrow) → e ∈ es → Drawn t e) → AllLabels (addNames t ls es)
-unfolding addNames
-labels-names t [] a f = a
-labels-names t (e ∷ es) a f =
-    let d = f e (List·Memᴰ·head refl) in
-    labels-names t es (labels-add _ (labels-add _ a (spelt-label t (e .from) (d .from-spelt))) (spelt-label t (e .to) (d .to-spelt))) (λ e m. f e (List·Memᴰ·tail m))
+-- names each of which is a label
+labels-of : (ls : List (List ℕ)) → ((l : List ℕ) → l ∈ ls → Label l) → AllLabels ls
+labels-of [] h = none
+labels-of (l ∷ ls) h = more (h l (List·Memᴰ·head refl)) (labels-of ls (λ k m. h k (List·Memᴰ·tail m)))
 
 -- a text whose names are labels and whose transitions are ranges that are not empty
 module _ (t : List ℕ) (g : Told) (s : Spelt t (g .start)) (f : (e : Arrow) → e ∈ g .arrows → Drawn t e) where
+  start-label : (l : List ℕ) → l ∈ (spelled t (g .start) ∷ []) → Label l
+  start-label l m = subst Label (sym (List·Memᴰ·eq-of-singleton m)) (spelt-label t (g .start) s)
+
+  both-labels : (e : Arrow) → Drawn t e → (l : List ℕ) → l ∈ bothNames t e → Label l
+  both-labels e d l (List·Memᴰ·head q) = subst Label (sym q) (spelt-label t (e .from) (d .from-spelt))
+  both-labels e d l (List·Memᴰ·tail m) = subst Label (sym (List·Memᴰ·eq-of-singleton m)) (spelt-label t (e .to) (d .to-spelt))
+
   labels-states : AllLabels (statesOf t g)
-  unfolding statesOf
-  labels-states = labels-names t (g .arrows) (more (spelt-label t (g .start) s) none) f
+  unfolding statesOf namesOf
+  labels-states =
+      labels-of (statesOf t g) λ l m.
+      ⊎-elim (λ k. start-label l k) (λ k. let o = flat-out (bothNames t) l (g .arrows) k in both-labels (o .0) (f (o .0) (o .1)) l (o .2))
+      (meet-out sameLabel (namesOf t (g .arrows)) (spelled t (g .start) ∷ []) l m)
 
   some-state : 0 < length (statesOf t g)
   unfolding statesOf
-  some-state = let h = index-in (spelled t (g .start)) (names-keep t (spelled t (g .start) ∷ []) (g .arrows) (List·Memᴰ·head refl)) in omega arith
+  some-state = extends-length (meet-extends sameLabel (namesOf t (g .arrows)) (spelled t (g .start) ∷ []))
 
-  from-in : (e : Arrow) → e ∈ g .arrows → indexOf (spelled t (e .from)) (statesOf t g) < length (statesOf t g)
-  unfolding statesOf
-  from-in e m = index-in _ (names-of t _ (g .arrows) e m .0)
-
-  to-in : (e : Arrow) → e ∈ g .arrows → indexOf (spelled t (e .to)) (statesOf t g) < length (statesOf t g)
-  unfolding statesOf
-  to-in e m = index-in _ (names-of t _ (g .arrows) e m .1)
+  -- the names of each transition are names of states
+  name-in : (e : Arrow) → e ∈ g .arrows → (x : List ℕ) → x ∈ bothNames t e → index sameLabel x (statesOf t g) < length (statesOf t g)
+  unfolding statesOf namesOf
+  name-in e m x n = index-lt sameLabel same-decides x (meet-in sameLabel same-decides (namesOf t (g .arrows)) (spelled t (g .start) ∷ []) x (flat-in (bothNames t) m n))
 
   accept-low : (xs : List (List ℕ)) (q : ℕ) → getD (map (acceptWord t (g .accepts)) xs) q 0 ≤ 1
   unfolding acceptWord
@@ -125,8 +82,8 @@ module _ (t : List ℕ) (g : Told) (s : Spelt t (g .start)) (f : (e : Arrow) →
       record {
         states = record {
           starts = some-state;
-          froms = λ e m. let o = origin e m in subst (λ (d : Transition). d .from < length (statesOf t g)) (sym (o .2)) (from-in (o .0) (o .1));
-          tos = λ e m. let o = origin e m in subst (λ (d : Transition). d .to < length (statesOf t g)) (sym (o .2)) (to-in (o .0) (o .1));
+          froms = λ e m. let o = origin e m in subst (λ (d : Transition). d .from < length (statesOf t g)) (sym (o .2)) (name-in (o .0) (o .1) _ (List·Memᴰ·head refl));
+          tos = λ e m. let o = origin e m in subst (λ (d : Transition). d .to < length (statesOf t g)) (sym (o .2)) (name-in (o .0) (o .1) _ (List·Memᴰ·tail (List·Memᴰ·head refl)));
         };
         accepts = length-map (statesOf t g) (acceptWord t (g .accepts));
         accept-words = accept-low (statesOf t g);
@@ -138,7 +95,7 @@ module _ (t : List ℕ) (g : Told) (s : Spelt t (g .start)) (f : (e : Arrow) →
 -- the limits hold where nothing is refused
 limits : (t : List ℕ) (g : Told) (n : ℕ) (r : Reading) → fewStates t g n (statesOf t g) ≡ given r
     → (length (statesOf t g) ≤ 256) × (length (automatonOf t g (statesOf t g) .transitions) ≤ 2048) × (r ≡ record { pattern = record { automaton = automatonOf t g (statesOf t g); labels = statesOf t g }; read = n })
-unfolding fewStates fewTransitions
+unfolding fewStates statesFirst fewTransitions transitionsFirst automatonOf
 limits t g n r h = go (ltb 256 (length (statesOf t g))) (ltb 2048 (length (automatonOf t g (statesOf t g) .transitions))) refl refl h
   where
     go : (c d : Bool) → ltb 256 (length (statesOf t g)) ≡ c → ltb 2048 (length (automatonOf t g (statesOf t g) .transitions)) ≡ d

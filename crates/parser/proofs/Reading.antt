@@ -22,14 +22,15 @@ use Rattle.lists.specs.Written.{Written}
 use Rattle.lists.proofs.Written.{written-append}
 use Rattle.automata.specs.Records.{writeRecords}
 use Rattle.automata.proofs.Records.{length-write}
-use Rattle.labels.specs.Labels.{writeLabels}
+use Rattle.labels.specs.Labels.{writeLabels, sameLabel}
 use Rattle.output.proofs.Answers.{room-lacking, room-enough, room-words, room-bytes}
 use Rattle.output.specs.Gathering.{Collected}
-use Rattle.output.specs.Output.{Pattern, roomFirst}
+use Rattle.output.specs.Output.{Pattern, roomFirst, statesFirst, transitionsFirst}
 use Rattle.refusal.specs.Answer.{given}
 use Rattle.refusal.specs.declared.InputRefusal.the-variants.{Grammar}
 use Rattle.refusal.specs.declared.StateRefusal.the-variants.{OutputLength, States, Transitions}
 use Rattle.refusal.specs.declared.Refusal.the-variants.{Input, State}
+use Rattle.search.specs.Search.{index, add, meet}
 use Rattle.sheets.specs.Sheet.{write}
 use Rattle.parser.specs.Accepts.{markAll}
 use Rattle.parser.specs.Layout.{arrowsOf, patternAt}
@@ -37,7 +38,7 @@ use Rattle.parser.specs.Memory.{Zeros}
 use Rattle.parser.specs.Names.{Table, namesIn, Addition}
 use Rattle.parser.specs.Parsed.{Output, parsed, parsedOf}
 use Rattle.parser.specs.Records.{Recorded}
-use Rattle.parser.specs.Pattern.{indexOf, addName, addNames, statesOf, transitionOf, acceptWord, automatonOf, fewTransitions, fewStates, meaning, parse}
+use Rattle.parser.specs.Pattern.{namesOf, statesOf, transitionOf, acceptWord, automatonOf, fewTransitions, fewStates, meaning, parse}
 use Rattle.parser.specs.declared.Parsed.the-variants.{Read, Refused}
 use Rattle.parser.specs.declared.names.Added.{Added}
 use Rattle.parser.specs.declared.names.Added.the-variants.{Kept, Full}
@@ -51,17 +52,19 @@ sheet-written l m n o q ws rs i j k r x a b c d =
     written-append l m q (1 ∷ 0 ∷ length ws ∷ []) (ws ++ x ∷ rs) 0 i r a (written-append m n q ws (x ∷ rs) i j r b (written-append n o q (x ∷ []) rs j k r c d))
 
 -- the first name of an empty table
-module _ (t b m : List ℕ) (l : Layout) (r : Added) (a : Addition t (addName (namesIn t b 0) (spelled t (l .initial))) m r) where
-  one-name : addName (namesIn t b 0) (spelled t (l .initial)) ≡ spelled t (l .initial) ∷ []
-  unfolding addName namesIn tabulate indexOf
+module _ (t b m : List ℕ) (l : Layout) (r : Added) (a : Addition t (add sameLabel (spelled t (l .initial)) (namesIn t b 0)) m r) where
+  one-name : add sameLabel (spelled t (l .initial)) (namesIn t b 0) ≡ spelled t (l .initial) ∷ []
+  unfolding add namesIn tabulate index
   one-name = refl
 
   pub states-full : r ≡ Full → Addition t (statesOf t (toldAt t l)) m Full
   states-full e = let h = added-full _ _ m r a e in absurd (omega (arith, ap length one-name))
 
-  pub states-kept : (n : ℕ) → r ≡ Kept n → (o : List ℕ) (q : Added) → Addition t (addNames t (namesIn t m n) (transitions t (l .arrows .at) .items)) o q → Addition t (statesOf t (toldAt t l)) o q
+  pub states-kept : (n : ℕ) → r ≡ Kept n → (o : List ℕ) (q : Added) → Addition t (meet sameLabel (namesOf t (transitions t (l .arrows .at) .items)) (namesIn t m n)) o q
+      → Addition t (statesOf t (toldAt t l)) o q
   unfolding statesOf
-  states-kept n e o q h = subst (λ (k : List (List ℕ)). Addition t (addNames t k (transitions t (l .arrows .at) .items)) o q) (added-names _ _ m r a n e ∙ one-name) h
+  states-kept n e o q h =
+      subst (λ (k : List (List ℕ)). Addition t (meet sameLabel (namesOf t (transitions t (l .arrows .at) .items)) k) o q) (added-names _ _ m r a n e ∙ one-name) h
 
 pub ruleset statesLaws = (table-none, states-full, states-kept, added-table, needs)
 
@@ -102,7 +105,7 @@ module _ (t b : List ℕ) (i : ℕ) (k : Table t b i) (ws : List ℕ) (h : lengt
 -- 22, or the pattern
 module _ (t : List ℕ) (l : Layout) (ls : List (List ℕ)) (buf : List ℕ) (end : ℕ) (a : Collected buf end (map (transitionOf t ls) (transitions t (l .arrows .at) .items))) where
   pub over-22 : 10240 < end → (o n : List ℕ) (c : ℕ) → parsedOf (Refused (State Transitions)) o n ≡ parsed o n (fewTransitions (patternAt t l ls) c)
-  unfolding parsed fewTransitions automatonOf
+  unfolding parsed fewTransitions transitionsFirst automatonOf
   over-22 h o n c = sym (rw (lt-ltb 2048 (length (arrowsOf t l ls)) (a .over h)))
 
   module _ (h : end ≤ 10240) where
@@ -110,13 +113,13 @@ module _ (t : List ℕ) (l : Layout) (ls : List (List ℕ)) (buf : List ℕ) (en
     few-22 = record { words = a .listed h .words; few = simp (length-take, length-drop) (omega arith) }
 
     pub within-22 : (o n : List ℕ) (c : ℕ) (x : Output) → x ≡ parsed o n (given (record { pattern = patternAt t l ls; read = c })) → x ≡ parsed o n (fewTransitions (patternAt t l ls) c)
-    unfolding fewTransitions automatonOf
+    unfolding fewTransitions transitionsFirst automatonOf
     within-22 o n c x q = q ∙ sym (rw (le-ltb 2048 (length (arrowsOf t l ls)) (omega (arith, a .listed h .behind))))
 
 -- 21, or what follows
 module _ (t : List ℕ) (l : Layout) (o n : List ℕ) (c : ℕ) (b : List ℕ) (r : Added) (a : Addition t (statesOf t (toldAt t l)) b r) where
   pub over-21 : r ≡ Full → parsedOf (Refused (State States)) o n ≡ parsed o n (fewStates t (toldAt t l) c (statesOf t (toldAt t l)))
-  unfolding parsed fewStates
+  unfolding parsed fewStates statesFirst automatonOf
   over-21 e = sym (rw (lt-ltb 256 (length (statesOf t (toldAt t l))) (added-full _ _ b r a e)))
 
   module _ (i : ℕ) (e : r ≡ Kept i) where
@@ -124,7 +127,7 @@ module _ (t : List ℕ) (l : Layout) (o n : List ℕ) (c : ℕ) (b : List ℕ) (
     names-states = added-names _ _ b r a i e
 
     pub within-21 : (x : Output) → x ≡ parsed o n (fewTransitions (patternAt t l (namesIn t b i)) c) → x ≡ parsed o n (fewStates t (toldAt t l) c (statesOf t (toldAt t l)))
-    unfolding fewStates
+    unfolding fewStates statesFirst automatonOf
     within-21 x q =
         let k : Table t b i = added-table _ _ b r a i e in
         let m : length (statesOf t (toldAt t l)) ≤ 256 = omega (arith, ap length names-states, names-count t b i, k .few) in

@@ -13,13 +13,16 @@ use Rattle.grammar.specs.declared.pieces.Arrow.{Arrow}
 use Rattle.grammar.specs.declared.pieces.ArrowPiece.{ArrowPiece}
 use Rattle.grammar.specs.declared.pieces.ArrowPiece.the-variants.{Read as ArrowRead, Nothing as NoArrow}
 use Rattle.grammar.proofs.Many.{arrows-ended, arrows-more, arrows-less, arrow-drawn}
+use Rattle.labels.specs.Labels.{sameLabel}
 use Rattle.output.specs.Gathering.{Gathered, Rest}
 use Rattle.output.specs.Ordered.{recordsIn}
 use Rattle.output.proofs.Collecting.{rest-none, rest-end, rest-next, rest-over}
-use Rattle.parser.specs.Pattern.{indexOf, transitionOf}
+use Rattle.search.specs.Search.{index}
+use Rattle.parser.specs.Pattern.{transitionOf}
 
 -- the record between the numbers that were found
-pub record-put : (t : List ℕ) (ls : List (List ℕ)) (e : Arrow) (from to : ℕ) (buf m : List ℕ) (end r : ℕ) → from ≡ indexOf (spelled t (e .from)) ls → to ≡ indexOf (spelled t (e .to)) ls →
+pub record-put : (t : List ℕ) (ls : List (List ℕ)) (e : Arrow) (from to : ℕ) (buf m : List ℕ) (end r : ℕ) →
+    from ≡ index sameLabel (spelled t (e .from)) ls → to ≡ index sameLabel (spelled t (e .to)) ls →
     Gathered m r (recordsIn buf 0 end ++ record { from = from; kind = 1; first = e .first; last = e .last; to = to } ∷ []) → Gathered m r (recordsIn buf 0 end ++ transitionOf t ls e ∷ [])
 record-put t ls e from to buf m end r p q g = rw (← p, ← q) g
 

@@ -1,6 +1,6 @@
 -- Laws of the table of names: one more name behind the others, and how many there are.
 use Prim.Native.Nat.{ℕ, suc, _+_, _-_, _≤_, _<_}
-use mathlib.Core.Bool.{Bool, true, false, cond}
+use mathlib.Core.Bool.{true, false}
 use mathlib.Core.List.{List, [], _∷_, _++_, map}
 use mathlib.Core.Logic.{⊎-elim}
 use mathlib.Core.Path.{_≡_, sym, _∙_, ap, ap₂, subst}
@@ -8,26 +8,27 @@ use native.Mathlib.Omega.{arith}
 use mir.Syntax.{w32}
 use mir.Val.{Fits}
 use borrow.Author.Needs.{needs}
-use borrow.Author.Tests.{lt-ltb, le-ltb, eqb-true, eqb-false}
-use lib.Dec.{ltb, eqb}
+use borrow.Author.Tests.{eqb-true, eqb-false}
+use lib.Dec.{eqb}
 use lib.ListN.{length, getD, set, length-set, length-append, length-take, length-drop, length-map}
 use lib.Seq.{getD-set-same, getD-set-other}
 use Rattle.buckets.specs.Buckets.{Entered}
 use Rattle.buckets.proofs.Entering.{entered-none, entered-kept, entered-next, entered-behind, length-entered}
 use Rattle.grammar.specs.Places.{spelled, Spelt}
 use Rattle.grammar.specs.declared.tokens.Span.{Span}
-use Rattle.grammar.specs.declared.pieces.Arrow.{Arrow}
-use Rattle.labels.specs.Labels.{Label}
-use Rattle.lists.specs.Lists.{tabulate, none}
+use Rattle.labels.specs.Labels.{Label, sameLabel}
+use Rattle.lists.specs.Lists.{_∈_, tabulate, none}
+use Rattle.lists.proofs.Index.{index-le, index-lt, same-decides}
 use Rattle.lists.proofs.Lists.{tabulate-ext, tabulate-end, map-append}
+use Rattle.lists.proofs.Members.{distinct-end}
 use Rattle.lists.proofs.Tests.{test}
+use Rattle.search.specs.Search.{index, add, meet}
+use Rattle.search.proofs.Tables.{add-known, add-new, extends-length, meet-extends}
 use Rattle.parser.specs.Memory.{Zeros}
 use Rattle.parser.specs.Names.{hashOf, spanAt, namesIn, stored, Table, Addition, kept, full}
-use Rattle.parser.specs.Pattern.{indexOf, addName, addNames}
 use Rattle.parser.specs.declared.names.Added.{Added}
 use Rattle.parser.specs.declared.names.Added.the-variants.{Kept, Full}
-use Rattle.parser.proofs.Indexing.{index-most, index-in, distinct-more}
-use Rattle.parser.proofs.Finding.{hash-low, names-count}
+use Rattle.parser.proofs.Finding.{hash-low, names-count, table-long}
 
 -- a table without names
 pub table-none : (text t : List ℕ) → Zeros 1024 t → Table text t 0
@@ -97,16 +98,14 @@ module _ (t : List ℕ) (n a b h : ℕ) (r : length t ≡ 1024) (f : n < 256) (g
       (λ i l. getD-set-other (set t (512 + n) a) (768 + n) i b 0 (λ z. omega arith) ∙ getD-set-other t (512 + n) i a 0 (λ z. omega arith)))
       q f g
 
-module _ (text t : List ℕ) (n : ℕ) (k : Table text t n) (x : Span) (i : ℕ) (e : i ≡ indexOf (spelled text x) (namesIn text t n)) where
-  pub table-known : i < n → Addition text (addName (namesIn text t n) (spelled text x)) t (Kept n)
-  unfolding addName
-  table-known h = kept k (sym (rw (← e, names-count text t n, lt-ltb i n h)))
+module _ (text t : List ℕ) (n : ℕ) (k : Table text t n) (x : Span) (i : ℕ) (e : i ≡ index sameLabel (spelled text x) (namesIn text t n)) where
+  pub table-known : i < n → Addition text (add sameLabel (spelled text x) (namesIn text t n)) t (Kept n)
+  table-known h = kept k (sym (add-known sameLabel (spelled text x) (namesIn text t n) (omega (arith, e, names-count text t n))))
 
-  table-new : n ≤ i → addName (namesIn text t n) (spelled text x) ≡ namesIn text t n ++ spelled text x ∷ []
-  unfolding addName
-  table-new h = rw (← e, names-count text t n, le-ltb i n h)
+  table-new : n ≤ i → add sameLabel (spelled text x) (namesIn text t n) ≡ namesIn text t n ++ spelled text x ∷ []
+  table-new h = add-new sameLabel (spelled text x) (namesIn text t n) (omega (arith, e, names-count text t n))
 
-  pub table-full : n ≤ i → 256 ≤ n → Addition text (addName (namesIn text t n) (spelled text x)) t Full
+  pub table-full : n ≤ i → 256 ≤ n → Addition text (add sameLabel (spelled text x) (namesIn text t n)) t Full
   table-full h g = full (omega (arith, ap length (table-new h), length-append (namesIn text t n) (spelled text x ∷ []), names-count text t n))
 
   module _ (p : Spelt text x) (h : n ≤ i) (g : n < 256) (v : ℕ) (d : v ≡ hashOf (spelled text x)) where
@@ -132,21 +131,21 @@ module _ (text t : List ℕ) (n : ℕ) (k : Table text t n) (x : Span) (i : ℕ)
     buckets : map hashOf (namesIn text t n) ++ v ∷ [] ≡ map hashOf (namesIn text (stored t n (x .start) (x .end) v) (suc n))
     buckets = ap (λ (b : ℕ). map hashOf (namesIn text t n) ++ b ∷ []) d ∙ sym (ap (map hashOf) more ∙ map-append hashOf (namesIn text t n) (spelled text x ∷ []))
 
+    absent : spelled text x ∈ namesIn text t n → ⊥
+    absent m = let y = index-lt sameLabel same-decides (spelled text x) m in omega (arith, names-count text t n)
+
     grown : Table text (stored t n (x .start) (x .end) v) (suc n)
     grown =
         record {
           room = stored-length t n (x .start) (x .end) v (k .room) g table-hash;
           few = omega arith;
           spelt = each;
-          distinct = rw more (distinct-more (spelled text x) (k .distinct) (λ m. let y = index-in (spelled text x) m in omega (arith, names-count text t n)));
+          distinct = rw more (distinct-end (spelled text x) (namesIn text t n) (k .distinct) absent);
           found = rw (← buckets) (stored-found t n (x .start) (x .end) v (k .room) g table-hash (map hashOf (namesIn text t n)) (length-map (namesIn text t n) hashOf ∙ names-count text t n) (k .found));
         }
 
-    pub table-more : (m : List ℕ) → m ≡ stored t n (x .start) (x .end) v → Addition text (addName (namesIn text t n) (spelled text x)) m (Kept (n + 1))
+    pub table-more : (m : List ℕ) → m ≡ stored t n (x .start) (x .end) v → Addition text (add sameLabel (spelled text x) (namesIn text t n)) m (Kept (n + 1))
     table-more m q = let z : n + 1 ≡ suc n = omega arith in rw (z, q) (kept grown (more ∙ sym (table-new h)))
-
-pub table-long : (text t : List ℕ) (n : ℕ) → Table text t n → length t ≡ 1024
-table-long text t n k = k .room
 
 -- a name of a text is a label
 module _ (t : List ℕ) (x : Span) (p : Spelt t x) where
@@ -164,8 +163,8 @@ module _ (t : List ℕ) (x : Span) (p : Spelt t x) where
 pub ruleset addLaws = (table-known, table-full, table-hash, table-more, table-long, spelt-order, spelt-inside, needs)
 
 -- the number of a name fits a word
-pub number-fits : (text t : List ℕ) (n : ℕ) → Table text t n → (x : List ℕ) (i : ℕ) → i ≡ indexOf x (namesIn text t n) → Fits w32 i
-number-fits text t n k x i e = record { fits = omega (arith, e, index-most x (namesIn text t n), names-count text t n, k .few) }
+pub number-fits : (text t : List ℕ) (n : ℕ) → Table text t n → (x : List ℕ) (i : ℕ) → i ≡ index sameLabel x (namesIn text t n) → Fits w32 i
+number-fits text t n k x i e = record { fits = omega (arith, e, index-le sameLabel x (namesIn text t n), names-count text t n, k .few) }
 
 pub ruleset numberLaws = (number-fits, spelt-order, spelt-inside, needs)
 
@@ -192,30 +191,18 @@ module _ (text : List ℕ) (ls : List (List ℕ)) (t : List ℕ) (r : Added) (a 
       elim-full (kept k h) e = let z : _≡_ {A = ℕ} 0 1 = cc in absurd (omega arith)
       elim-full (full h) e = h
 
--- names are only added
-pub add-longer : (ls : List (List ℕ)) (x : List ℕ) → length ls ≤ length (addName ls x)
-unfolding addName
-add-longer ls x = go (ltb (indexOf x ls) (length ls))
-  where
-    go : (c : Bool) → length ls ≤ length (cond c ls (ls ++ x ∷ []))
-    go true = omega arith
-    go false = omega (arith, length-append ls (x ∷ []))
-
-pub names-longer : (t : List ℕ) (ls : List (List ℕ)) (es : List Arrow) → length ls ≤ length (addNames t ls es)
-unfolding addNames
-names-longer t ls [] = omega arith
-names-longer t ls (e ∷ es) =
-    let a = add-longer ls (spelled t (e .from)) in
-    let b = add-longer (addName ls (spelled t (e .from))) (spelled t (e .to)) in
-    let c = names-longer t (addName (addName ls (spelled t (e .from))) (spelled t (e .to))) es in
-    omega arith
+  -- names that are met afterwards are only added
+  pub added-over : r ≡ Full → (xs : List (List ℕ)) → 256 < length (meet sameLabel xs ls)
+  added-over e xs = omega (arith, added-full e, extends-length (meet-extends sameLabel xs ls))
 
 -- the first of two names, and then the second
-module _ (text : List ℕ) (ls : List (List ℕ)) (x y t m : List ℕ) (r : Added) (a : Addition text (addName ls x) t r) where
-  pub two-full : r ≡ Full → Addition text (addName (addName ls x) y) t Full
-  two-full e = full (omega (arith, added-full _ _ _ r a e, add-longer (addName ls x) y))
+module _ (text : List ℕ) (ls : List (List ℕ)) (x y t m : List ℕ) (r : Added) (a : Addition text (add sameLabel x ls) t r) where
+  pub two-full : r ≡ Full → Addition text (meet sameLabel (x ∷ y ∷ []) ls) t Full
+  unfolding meet
+  two-full e = full (added-over _ _ _ r a e (y ∷ []))
 
-  pub two-kept : (n : ℕ) → r ≡ Kept n → (q : Added) → Addition text (addName (namesIn text t n) y) m q → Addition text (addName (addName ls x) y) m q
-  two-kept n e q h = subst (λ (k : List (List ℕ)). Addition text (addName k y) m q) (added-names _ _ _ r a n e) h
+  pub two-kept : (n : ℕ) → r ≡ Kept n → (q : Added) → Addition text (add sameLabel y (namesIn text t n)) m q → Addition text (meet sameLabel (x ∷ y ∷ []) ls) m q
+  unfolding meet
+  two-kept n e q h = subst (λ (k : List (List ℕ)). Addition text (add sameLabel y k) m q) (added-names _ _ _ r a n e) h
 
 pub ruleset twoLaws = (added-table, two-full, two-kept, needs)

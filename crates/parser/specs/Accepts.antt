@@ -6,11 +6,12 @@ use lib.Dec.{ltb}
 use lib.ListN.{length, set}
 use Rattle.grammar.specs.Places.{spelled}
 use Rattle.grammar.specs.declared.tokens.Span.{Span}
-use Rattle.parser.specs.Pattern.{indexOf}
+use Rattle.labels.specs.Labels.{sameLabel}
+use Rattle.search.specs.Search.{index}
 
 -- 1 for the state with the name x, where there is one
 unfoldable pub markOne : List ℕ → List (List ℕ) → List ℕ → Span → List ℕ
-markOne t ls ws x = cond (ltb (indexOf (spelled t x) ls) (length ls)) (set ws (indexOf (spelled t x) ls) 1) ws
+markOne t ls ws x = cond (ltb (index sameLabel (spelled t x) ls) (length ls)) (set ws (index sameLabel (spelled t x) ls) 1) ws
 
 unfoldable pub markAll : List ℕ → List (List ℕ) → List ℕ → List Span → List ℕ
 markAll t ls ws [] = ws

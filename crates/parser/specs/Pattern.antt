@@ -1,9 +1,8 @@
 -- What a text means (document 01, "Beside the equality"): states number by appearance, the initial one first; a repeated transition counts once;
 -- accepting names that no state has are dropped; the automaton's name is not kept.
-use Prim.Native.Nat.{ℕ, suc}
+use Prim.Native.Nat.{ℕ}
 use mathlib.Core.Bool.{cond}
-use mathlib.Core.List.{List, [], _∷_, _++_, map}
-use lib.Dec.{ltb}
+use mathlib.Core.List.{List, [], _∷_, map, flatMap}
 use lib.ListN.{length}
 use Rattle.automata.specs.Automaton.{Transition, Automaton}
 use Rattle.automata.specs.Ordered.{inOrder}
@@ -13,30 +12,31 @@ use Rattle.grammar.specs.declared.tokens.Span.{Span}
 use Rattle.grammar.specs.declared.pieces.Arrow.{Arrow}
 use Rattle.labels.specs.Labels.{sameLabel}
 use Rattle.lists.specs.Lists.{any}
-use Rattle.output.specs.Output.{Pattern}
+use Rattle.output.specs.Output.{Pattern, statesFirst, transitionsFirst}
 use Rattle.refusal.specs.Answer.{Answer, refused, given}
+use Rattle.search.specs.Search.{index, meet}
 
--- the number of the name x: the first of the names that is x; as many as there are where none is
-unfoldable pub indexOf : List ℕ → List (List ℕ) → ℕ
-indexOf x [] = 0
-indexOf x (l ∷ ls) = cond (sameLabel l x) 0 (suc (indexOf x ls))
+-- the names of the two states of a transition
+abbrev pub bothNames : List ℕ → Arrow → List (List ℕ)
+bothNames t e = spelled t (e .from) ∷ spelled t (e .to) ∷ []
 
--- the name x behind the others, unless it is one of them
-unfoldable pub addName : List (List ℕ) → List ℕ → List (List ℕ)
-addName ls x = cond (ltb (indexOf x ls) (length ls)) ls (ls ++ x ∷ [])
+-- the names that stand in transitions, in order of appearance
+unfoldable pub namesOf : List ℕ → List Arrow → List (List ℕ)
+namesOf t es = flatMap (bothNames t) es
 
--- the names of the transitions behind the others, in order of appearance
-unfoldable pub addNames : List ℕ → List (List ℕ) → List Arrow → List (List ℕ)
-addNames t ls [] = ls
-addNames t ls (e ∷ es) = addNames t (addName (addName ls (spelled t (e .from))) (spelled t (e .to))) es
-
--- the names of the states
+-- the names of the states, each once and in order of appearance, that of the initial one first
 unfoldable pub statesOf : List ℕ → Told → List (List ℕ)
-statesOf t g = addNames t (spelled t (g .start) ∷ []) (g .arrows)
+statesOf t g = meet sameLabel (namesOf t (g .arrows)) (spelled t (g .start) ∷ [])
 
 -- a transition between the numbers of its states
 abbrev pub transitionOf : List ℕ → List (List ℕ) → Arrow → Transition
-transitionOf t ls e = record { from = indexOf (spelled t (e .from)) ls; kind = 1; first = e .first; last = e .last; to = indexOf (spelled t (e .to)) ls }
+transitionOf t ls e = record {
+  from = index sameLabel (spelled t (e .from)) ls;
+  kind = 1;
+  first = e .first;
+  last = e .last;
+  to = index sameLabel (spelled t (e .to)) ls;
+}
 
 -- 1 where one of the accepting names is l
 unfoldable pub acceptWord : List ℕ → List Span → List ℕ → ℕ
@@ -58,11 +58,11 @@ pub record Reading : Type 0 where
 
 -- 22 where the automaton has over 2,048 transitions
 unfoldable pub fewTransitions : Pattern → ℕ → Answer Reading
-fewTransitions P n = cond (ltb 2048 (length (P .automaton .transitions))) (refused 22) (given (record { pattern = P; read = n }))
+fewTransitions P n = transitionsFirst (P .automaton) (given (record { pattern = P; read = n }))
 
 -- 21 where there are over 256 states
 unfoldable pub fewStates : List ℕ → Told → ℕ → List (List ℕ) → Answer Reading
-fewStates t g n ls = cond (ltb 256 (length ls)) (refused 21) (fewTransitions (record { automaton = automatonOf t g ls; labels = ls }) n)
+fewStates t g n ls = statesFirst (automatonOf t g ls) (fewTransitions (record { automaton = automatonOf t g ls; labels = ls }) n)
 
 -- 8 where the text is outside the grammar
 abbrev pub meaning : List ℕ → Found Told → Answer Reading

@@ -5,7 +5,9 @@ ghost use Prim.Native.Nat.{_+_, _*_, _%_, _<_};
 ghost use lib.ListN.{length};
 ghost use Rattle.grammar.specs.Grammar.{transitions};
 ghost use Rattle.grammar.specs.Places.{spelled, Spelt, Drawn};
-ghost use Rattle.parser.specs.Pattern.{indexOf, addName, addNames};
+ghost use Rattle.labels.specs.Labels.{sameLabel};
+ghost use Rattle.search.specs.Search.{index, add, meet};
+ghost use Rattle.parser.specs.Pattern.{bothNames, namesOf};
 ghost use Rattle.parser.specs.Names.{hashOf, spanAt, namesIn, isName, stored, Table, Addition};
 use grammar::Arrow;
 use grammar::ArrowPiece;
@@ -52,7 +54,7 @@ fn is_name(text: &[u8], t: &[usize], j: usize, x: &[u8]) -> bool
 // The number of the name x, whose bucket is h, among n names; or n.
 fn find(text: &[u8], t: &[usize], n: usize, x: &[u8], h: usize) -> usize
     requires { ⌜ Table (now text) (now t) n × (h ≡ hashOf (now x)) ⌝ }
-    ensures { λ r. ⌜ r ≡ indexOf (now (x .entry)) (namesIn (now (text .entry)) (now (t .entry)) n) ⌝ }
+    ensures { λ r. ⌜ r ≡ index sameLabel (now (x .entry)) (namesIn (now (text .entry)) (now (t .entry)) n) ⌝ }
 {
     let mut i = buckets::head(t, h);
     while 0 < i {
@@ -68,7 +70,7 @@ fn find(text: &[u8], t: &[usize], n: usize, x: &[u8], h: usize) -> usize
 // The number of the state that the text names.
 pub fn number_of(text: &[u8], t: &[usize], n: usize, x: Span) -> u32
     requires { ⌜ Table (now text) (now t) n × Spelt (now text) x ⌝ }
-    ensures { λ r. ⌜ r ≡ indexOf (spelled (now (text .entry)) x) (namesIn (now (text .entry)) (now (t .entry)) n) ⌝ }
+    ensures { λ r. ⌜ r ≡ index sameLabel (spelled (now (text .entry)) x) (namesIn (now (text .entry)) (now (t .entry)) n) ⌝ }
 {
     let first = x.start;
     let last = x.end;
@@ -89,7 +91,7 @@ fn put(t: &mut [usize], n: usize, first: usize, last: usize, h: usize)
 // The name that stands in the text behind the others, unless it is one of them.
 pub fn add_name(text: &[u8], t: &mut [usize], n: usize, x: Span) -> Added
     requires { ⌜ Table (now text) (now t) n × Spelt (now text) x ⌝ }
-    ensures { λ r. ⌜ Addition (now (text .entry)) (addName (namesIn (now (text .entry)) (now (t .entry)) n) (spelled (now (text .entry)) x)) (now (t .exit)) r ⌝ }
+    ensures { λ r. ⌜ Addition (now (text .entry)) (add sameLabel (spelled (now (text .entry)) x) (namesIn (now (text .entry)) (now (t .entry)) n)) (now (t .exit)) r ⌝ }
 {
     let first = x.start;
     let last = x.end;
@@ -107,7 +109,7 @@ pub fn add_name(text: &[u8], t: &mut [usize], n: usize, x: Span) -> Added
 // The two names of a transition.
 fn add_arrow(text: &[u8], t: &mut [usize], n: usize, e: Arrow) -> Added
     requires { ⌜ Table (now text) (now t) n × Drawn (now text) e ⌝ }
-    ensures { λ r. ⌜ Addition (now (text .entry)) (addName (addName (namesIn (now (text .entry)) (now (t .entry)) n) (spelled (now (text .entry)) (e .from))) (spelled (now (text .entry)) (e .to))) (now (t .exit)) r ⌝ }
+    ensures { λ r. ⌜ Addition (now (text .entry)) (meet sameLabel (bothNames (now (text .entry)) e) (namesIn (now (text .entry)) (now (t .entry)) n)) (now (t .exit)) r ⌝ }
 {
     let Added::Kept(m) = add_name(text, t, n, e.from) else {
         return Added::Full;
@@ -118,7 +120,7 @@ fn add_arrow(text: &[u8], t: &mut [usize], n: usize, e: Arrow) -> Added
 // The names of the transitions from a cursor on.
 pub fn add_arrows(text: &[u8], c: Cursor, t: &mut [usize], n: usize) -> Added
     requires { ⌜ Table (now text) (now t) n ⌝ }
-    ensures { λ r. ⌜ Addition (now (text .entry)) (addNames (now (text .entry)) (namesIn (now (text .entry)) (now (t .entry)) n) (transitions (now (text .entry)) (c .at) .items)) (now (t .exit)) r ⌝ }
+    ensures { λ r. ⌜ Addition (now (text .entry)) (meet sameLabel (namesOf (now (text .entry)) (transitions (now (text .entry)) (c .at) .items)) (namesIn (now (text .entry)) (now (t .entry)) n)) (now (t .exit)) r ⌝ }
 {
     let mut at = c.at;
     let mut count = n;

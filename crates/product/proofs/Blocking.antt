@@ -1,7 +1,7 @@
 -- Epsilons in a product: the laws by which the search for 7 is proved.
 use Prim.Native.Nat.{ℕ, _+_, _/_, _%_, _≤_, _<_}
-use mathlib.Core.Bool.{Bool, true, false, _||_, false≢true}
-use mathlib.Core.List.{List, [], _∷_, List·Memᴰ·head, List·Memᴰ·tail, List·Memᴰ·cases-cons}
+use mathlib.Core.Bool.{Bool, true, false, _||_, false≢true, or-true}
+use mathlib.Core.List.{List, _∷_, List·Memᴰ·head, List·Memᴰ·tail, List·Memᴰ·cases-cons}
 use mathlib.Core.Logic.{⊎-elim}
 use mathlib.Core.Path.{_≡_, refl, sym, _∙_, ap, ap₂}
 use native.Mathlib.Numerals.{add-one}
@@ -18,7 +18,7 @@ use Rattle.lists.proofs.Tests.{test, or-left}
 use Rattle.automata.specs.Automaton.{Transition, leaving, hasEpsilon}
 use Rattle.automata.specs.Records.{readRecords, writeRecords, recordAt}
 use Rattle.automata.specs.WellFormed.{here, later, Before}
-use Rattle.automata.proofs.Records.{read-write, records-at, records-end}
+use Rattle.automata.proofs.Records.{read-write, read-front, read-short}
 use Rattle.sheets.specs.Runs.{Ready}
 use Rattle.sheets.specs.Sheet.{stateCount, read}
 use Rattle.sheets.proofs.Meaning.{read-well}
@@ -53,22 +53,12 @@ run-first s runs q run r e =
       first = epsilon-front q (λ d m. eqb-true _ _ (keep-out (λ e. eqb (e .from) q) d (read s .transitions) m .1)) (ascending-keep (λ e. eqb (e .from) q) (read-well s (r .accepted) .ascends));
     })
 
-front : (s : List ℕ) → 5 ≤ length s → readRecords s ≡ recordAt s 0 ∷ readRecords (drop 5 s)
-front s h = records-at s 0 (omega arith)
-
-empty : (s : List ℕ) → length s < 5 → readRecords s ≡ []
-empty s h = records-end s 0 (omega arith)
-
-or-true : (a : Bool) → true ≡ (a || true)
-or-true true = refl
-or-true false = refl
-
 no-epsilon : (s : List ℕ) → 5 ≤ length s → EpsilonFirst (readRecords s) → (getD s 1 0 ≡ 0 → ⊥) → hasEpsilon (readRecords s) ≡ false
 unfolding hasEpsilon any
 no-epsilon s l e n =
     ⊎-elim
     (λ (t : hasEpsilon (readRecords s) ≡ true).
-    let u : (eqb (getD s 1 0) 0 || false) ≡ true = rw (front s l) at (e .first t) in
+    let u : (eqb (getD s 1 0) 0 || false) ≡ true = rw (read-front s l) at (e .first t) in
     let v : false ≡ true = rw (ne-eqb (getD s 1 0) 0 n) at u in
     absurd (false≢true v))
     (λ t. t)
@@ -77,25 +67,25 @@ no-epsilon s l e n =
 module _ (first second : List ℕ) where
   pub blocked-none-left : length first < 5 → false ≡ blocked (readRecords first) (readRecords second)
   unfolding blocked isNone
-  blocked-none-left h = rw (empty first h)
+  blocked-none-left h = rw (read-short first h)
 
   module _ (f : 5 ≤ length first) where
     pub blocked-none-right : length second < 5 → false ≡ blocked (readRecords first) (readRecords second)
     unfolding blocked isNone
-    blocked-none-right h = rw (front first f, empty second h)
+    blocked-none-right h = rw (read-front first f, read-short second h)
 
     module _ (g : 5 ≤ length second) where
       pub blocked-left : getD first 1 0 ≡ 0 → true ≡ blocked (readRecords first) (readRecords second)
       unfolding blocked isNone hasEpsilon any
-      blocked-left h = rw (front first f, front second g, eq-eqb (getD first 1 0) 0 h)
+      blocked-left h = rw (read-front first f, read-front second g, eq-eqb (getD first 1 0) 0 h)
 
       pub blocked-right : getD second 1 0 ≡ 0 → true ≡ blocked (readRecords first) (readRecords second)
       unfolding blocked isNone hasEpsilon any
-      blocked-right h = rw (front first f, front second g, eq-eqb (getD second 1 0) 0 h) (or-true (any (λ e. eqb (e .kind) 0) (recordAt first 0 ∷ readRecords (drop 5 first))))
+      blocked-right h = rw (read-front first f, read-front second g, eq-eqb (getD second 1 0) 0 h) (sym (or-true (any (λ e. eqb (e .kind) 0) (recordAt first 0 ∷ readRecords (drop 5 first)))))
 
       pub blocked-free : EpsilonFirst (readRecords first) → EpsilonFirst (readRecords second) → (getD first 1 0 ≡ 0 → ⊥) → (getD second 1 0 ≡ 0 → ⊥) → false ≡ blocked (readRecords first) (readRecords second)
       unfolding blocked isNone
-      blocked-free p q h k = let x = no-epsilon first f p h in let y = no-epsilon second g q k in rw (x, y, front first f, front second g)
+      blocked-free p q h k = let x = no-epsilon first f p h in let y = no-epsilon second g q k in rw (x, y, read-front first f, read-front second g)
 
 pub ruleset blockedLaws = (blocked-none-left, blocked-none-right, blocked-left, blocked-right, blocked-free, needs)
 

@@ -27,7 +27,8 @@ use Rattle.product.specs.Product.{Joint, jointsFrom, pairs}
 use Rattle.product.specs.Tables.{pairOf, tableOf, capped, Queued, Met, targets, Within, foundIn}
 use Rattle.product.proofs.Joints.{from-out}
 use Rattle.product.proofs.Queueing.{length-table, queued-room}
-use Rattle.product.proofs.Result.{startPair, map-at}
+use Rattle.lists.proofs.Lists.{map-at}
+use Rattle.product.proofs.Result.{startPair}
 
 -- the pair with the number i
 pub entry-at : (words : List ℕ) (n i : ℕ) (d : Pair) → n ≤ length words → i < n → getD (tableOf words n) i d ≡ pairOf (getD words i 0)

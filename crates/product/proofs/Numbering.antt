@@ -23,7 +23,7 @@ use Rattle.product.specs.Tables.{pairOf, tableOf, bucketOf, bucketsOf, Q
 use Rattle.product.proofs.Finding.{entry-at}
 use Rattle.automata.proofs.Pairs.{pair-decides}
 use Rattle.product.proofs.Queueing.{length-table, length-buckets, bucket-low, bucket-less, queued-room, queued-long, word-pair}
-use Rattle.product.proofs.Result.{map-at}
+use Rattle.lists.proofs.Lists.{map-at}
 
 -- word j of the queue is c
 unfoldable pub isWord : List ℕ → ℕ → ℕ → Bool

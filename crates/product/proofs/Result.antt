@@ -15,11 +15,6 @@ use Rattle.automata.specs.Pairs.{Pair}
 use Rattle.product.specs.Product.{Joint, jointsFrom, transitionOf, transitionsFrom, acceptOf}
 
 -- an image at a place within the list
-pub map-at : {X Y : Type 0} (f : X → Y) (l : List X) (k : ℕ) (d : X) (e : Y) → k < length l → getD (map f l) k e ≡ f (getD l k d)
-map-at f [] k d e h = absurd (omega arith)
-map-at f (x ∷ l) zero d e h = refl
-map-at f (x ∷ l) (suc k) d e h = map-at f l k d e (omega arith)
-
 module _ (A B : Automaton) where
   -- the pair that stands for the start where a table has no entry
   abbrev pub startPair : Pair

@@ -23,7 +23,8 @@ use Rattle.product.proofs.Joints.{jointBy, from-out}
 use Rattle.product.proofs.Joints
 use Rattle.automata.proofs.Pairs.{pair-decides}
 use Rattle.product.proofs.Pairs.{pairs-decides}
-use Rattle.product.proofs.Result.{startPair, map-at, accept-both, origin, from-in}
+use Rattle.lists.proofs.Lists.{map-at}
+use Rattle.product.proofs.Result.{startPair, accept-both, origin, from-in}
 
 joint-eq : (j : Joint) (l h : ℕ) (p : Pair) → l ≡ j .span .low → h ≡ j .span .high → p ≡ j .to → record { span = record { low = l; high = h }; to = p } ≡ j
 joint-eq j l h p a b c = rw (a, b, c)

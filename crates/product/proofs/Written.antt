@@ -17,7 +17,8 @@ use Rattle.search.proofs.Queue.{table-some}
 use Rattle.automata.specs.Pairs.{Pair}
 use Rattle.product.specs.Product.{pairs, acceptOf, built}
 use Rattle.product.proofs.Pairs.{pairs-decides}
-use Rattle.product.proofs.Result.{map-at, startPair}
+use Rattle.lists.proofs.Lists.{map-at}
+use Rattle.product.proofs.Result.{startPair}
 use Rattle.product.proofs.Runs.{leads}
 
 accept-most : (A B : Automaton) → ((q : ℕ) → getD (A .accept) q 0 ≤ greatestAccept) → (p : Pair) → acceptOf A B p ≤ greatestAccept

@@ -8,7 +8,7 @@ use native.Mathlib.Nat.{eq-or-lt-of-le}
 use native.Mathlib.Numerals.{add-one}
 use native.Mathlib.Omega.{arith}
 use borrow.Author.Needs.{needs}
-use borrow.Author.Tests.{eq-eqb, ne-eqb, le-leb, lt-leb}
+use borrow.Author.Tests.{eq-eqb, ne-eqb, le-leb, lt-leb, not-true, not-false}
 use lib.Dec.{eqb}
 use lib.ListN.{length, getD, drop, drop-of-length-le}
 use lib.Seq.{drop-cons}
@@ -38,14 +38,6 @@ same-none l i h =
     ⊎-elim (λ (e : i ≡ length l). rw (drop-of-length-le l {i = i} (omega arith), eq-eqb i (length l) e))
     (λ (e : i < length l). rw (drop-at l i e, ne-eqb i (length l) (λ z. omega arith)))
     (eq-or-lt-of-le h)
-
-not-true : (b : Bool) → not b ≡ true → b ≡ false
-not-true true e = sym e
-not-true false e = refl
-
-not-false : (b : Bool) → not b ≡ false → b ≡ true
-not-false true e = refl
-not-false false e = sym e
 
 -- the members of a row from q on against the listed ones from i on
 pub row-begun : (t l : List ℕ) (o : ℕ) → sameLabel l (setAt t o) ≡ sameLabel (drop 0 l) (membersFrom 0 (setAt t o))

@@ -1,6 +1,6 @@
 -- The program `verdict` on the texts of A, B and C: every line that its contract allows is the one of document 01.
 use Prim.Native.Nat.{ℕ}
-use mathlib.Core.List.{List, [], _∷_, _++_}
+use mathlib.Core.List.{List, [], _∷_, _++_, flatMap}
 use mathlib.Core.Path.{_≡_, _∙_, ap, subst}
 use native.Mathlib.Omega.{arith}
 use Rattle.lists.specs.Lists.{any}
@@ -8,6 +8,7 @@ use Rattle.automata.specs.Automaton.{Automaton}
 use Rattle.automata.specs.Ordered.{insert, inOrder}
 use Rattle.automata.specs.Records.{readRecords}
 use Rattle.automata.specs.WellFormed.{WellFormed, lastSymbol}
+use Rattle.decimal.specs.Decimal.{valueAfter}
 use Rattle.determinize.specs.Determinize.{determinize}
 use Rattle.equality.specs.Equality.{withSecond, withFirst, determinized as both-determinized}
 use Rattle.equality.specs.Forced.{Two}
@@ -15,9 +16,10 @@ use Rattle.equality.specs.Verdict.{Equal, Apart}
 use Rattle.equality.proofs.Theorems.{classes-number, same-words, one-word, not-same}
 use Rattle.labels.specs.Labels.{sameLabel}
 use Rattle.grammar.specs.Bytes.{isSpace, isLetter, isDigit, isNameByte}
-use Rattle.grammar.specs.Grammar.{follow, run, space, neededSpace, begins, token, name, value, number, ends, range, target, transition, initial, nextName, many, transitions, nextNames, accepting, heading, ending, wholeText}
-use Rattle.parser.specs.Pattern.{indexOf, addName, addNames, statesOf, acceptWord, automatonOf, fewTransitions, fewStates, parse}
+use Rattle.grammar.specs.Grammar.{follow, run, space, neededSpace, begins, token, name, number, ends, range, target, transition, initial, nextName, many, transitions, nextNames, accepting, heading, ending, wholeText}
+use Rattle.parser.specs.Pattern.{namesOf, statesOf, acceptWord, automatonOf, fewTransitions, fewStates, parse}
 use Rattle.refusal.specs.Answer.{Answer, given}
+use Rattle.search.specs.Search.{index, add, meet}
 use Rattle.sheets.specs.Sheet.{read}
 use Rattle.sheets.proofs.Accepted.{accepted}
 use Rattle.sheets.proofs.Meaning.{read-well}
@@ -26,6 +28,7 @@ use Rattle.verdict_line.specs.Line.{Line, refuses, same, differs, sameLine, dif
 use Rattle.samples.proofs.Patterns.{A, B, C, DA, DB, DC, determinized, no-fault}
 use Rattle.samples.proofs.Three.{both, three}
 use Rattle.samples.proofs.Verdicts.{same-ab, differ-ac, only-nine}
+use Rattle.output.specs.Output.{statesFirst, transitionsFirst}
 
 -- `automaton A { init p; p -> q [0, 9]; accepting q; };`
 abbrev pub text-a : List ℕ
@@ -53,9 +56,9 @@ apart = record { one = DA; two = DC; low = 0; high = lastSymbol }
 are-compared :
     (comparedTexts 0 lastSymbol (text-a ++ text-b) ≡ given both)
     × (comparedTexts 0 lastSymbol (text-a ++ text-c) ≡ given apart)
-unfolding follow isSpace isLetter isDigit isNameByte run space neededSpace begins token name value number ends range target transition initial
-    nextName many transitions nextNames accepting heading ending wholeText sameLabel indexOf addName addNames statesOf any acceptWord automatonOf
-    fewTransitions fewStates parse insert inOrder readRecords withSecond withFirst both-determinized twoTexts withSecondText withFirstText
+unfolding follow isSpace isLetter isDigit isNameByte run space neededSpace begins token name valueAfter number ends range target transition initial
+    nextName many transitions nextNames accepting heading ending wholeText sameLabel index add meet flatMap namesOf statesOf any acceptWord automatonOf
+    fewTransitions fewStates statesFirst transitionsFirst parse insert inOrder readRecords withSecond withFirst both-determinized twoTexts withSecondText withFirstText
     comparedTexts
 are-compared = (
   ap (λ (x : Answer Automaton). withFirst 0 lastSymbol x (determinize 0 lastSymbol (read B))) (determinized .0) ∙ ap (withSecond 0 lastSymbol DA) (determinized .1),

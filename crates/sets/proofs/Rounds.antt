@@ -1,6 +1,6 @@
 -- One round of Warshall's closure in place, on words, and what it does to the sets.
 use Prim.Native.Nat.{ℕ, zero, suc, _+_, _*_, _≤_, _<_}
-use mathlib.Core.Bool.{Bool, true, false, cond, _||_}
+use mathlib.Core.Bool.{Bool, true, false, cond, _||_, or-self}
 use mathlib.Core.List.{List}
 use mathlib.Core.Logic.{⊎-elim, _≢_}
 use mathlib.Core.Path.{_≡_, refl, sym, _∙_, ap, ap₂}
@@ -59,12 +59,8 @@ pub through-self : (n k : ℕ) (K : Set) → Canon n K → through n k K K ≡ K
 unfolding through
 through-self n k K c = go (has k K)
   where
-    or-same : (b : Bool) → (b || b) ≡ b
-    or-same true = refl
-    or-same false = refl
-
     go : (b : Bool) → cond b (pick n (λ q. has q K || has q K)) K ≡ K
-    go true = pick-ext 0 n _ _ (λ q l. or-same (has q K)) ∙ c
+    go true = pick-ext 0 n _ _ (λ q l. or-self (has q K)) ∙ c
     go false = refl
 
 pub through-canon : (n k : ℕ) (K R : Set) → Canon n R → Canon n (through n k K R)

@@ -5,7 +5,7 @@ use mathlib.Core.List.{List, []}
 use mathlib.Core.Path.{_≡_, refl, sym, _∙_, ap}
 use native.Mathlib.Omega.{arith}
 use borrow.Author.Needs.{needs}
-use borrow.Author.Tests.{eq-eqb, ne-eqb, eqb-true}
+use borrow.Author.Tests.{eq-eqb, ne-eqb, eqb-true, not-true, not-false}
 use lib.Dec.{eqb}
 use lib.ListN.{length, getD, take, drop}
 use lib.Seq.{sets}
@@ -27,7 +27,7 @@ use Rattle.subautomaton.specs.Inclusion.{labelOf, isSame, hasState, cove
 use Rattle.subautomaton.specs.Tables.{Numbered, isHeld, isHeldIn, fits, fitsFrom, fitsIn, Inputs, Tabled}
 use Rattle.subautomaton.specs.Answer.{patternOf}
 use Rattle.lists.proofs.Every.{all-ext}
-use Rattle.lists.proofs.Tests.{no-true, no-false}
+use Rattle.lists.proofs.Tests.{not-true, not-false}
 use Rattle.automata.proofs.States.{states-in, states-out}
 use Rattle.subautomaton.proofs.Numbering.{same-number}
 
@@ -101,15 +101,15 @@ module _ (a al b bl starts ca cb : List ℕ) (t : Tabled a al b bl starts ca cb)
 
   module _ (r : Bool) (e : r ≡ all (isHeldIn (read a) (read b) ca cb) (states (stateCount a))) where
     pub decide-states : not r ≡ true → false ≡ isSubautomaton (patternOf a al) (patternOf b bl)
-    decide-states h = let z : r ≡ false = no-true r h in sym (by-parts ∙ rw (← e, z))
+    decide-states h = let z : r ≡ false = not-true r h in sym (by-parts ∙ rw (← e, z))
 
     module _ (h : not r ≡ false) where
       pub decide-start : (getD ca (getD a 1 0) 0 ≡ getD cb (getD b 1 0) 0 → ⊥) → false ≡ isSubautomaton (patternOf a al) (patternOf b bl)
-      decide-start n = let z : r ≡ true = no-false r h in sym (by-parts ∙ rw (← e, z, ne-eqb _ _ (λ (y : getD cb (getD b 1 0) 0 ≡ getD ca (getD a 1 0) 0). n (sym y))))
+      decide-start n = let z : r ≡ true = not-false r h in sym (by-parts ∙ rw (← e, z, ne-eqb _ _ (λ (y : getD cb (getD b 1 0) 0 ≡ getD ca (getD a 1 0) 0). n (sym y))))
 
       pub decide-covered : getD ca (getD a 1 0) 0 ≡ getD cb (getD b 1 0) 0 → (x : Bool) → x ≡ all (fitsIn (read b) ca cb) (readRecords (take (length a - (stateCount a + 4)) (drop (stateCount a + 4) a))) → x ≡ isSubautomaton (patternOf a al) (patternOf b bl)
       decide-covered n x g =
-          let z : r ≡ true = no-false r h in
+          let z : r ≡ true = not-false r h in
           g ∙ ap (λ (w : List ℕ). all (fitsIn (read b) ca cb) (readRecords w)) (part-all (stateCount a + 4) a) ∙ sym (by-parts ∙ rw (← e, z, eq-eqb _ _ (sym n)))
 
   -- what the calls ask

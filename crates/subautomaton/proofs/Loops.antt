@@ -6,11 +6,11 @@ use mathlib.Core.Path.{_≡_, refl, sym, _∙_, ap}
 use lib.ListN.{length, take, drop}
 use Rattle.lists.specs.Lists.{any, all}
 use Rattle.lists.proofs.Every.{any-cons, all-cons}
-use Rattle.lists.proofs.Tests.{no-true, no-false}
 use Rattle.automata.specs.Automaton.{Transition, states}
 use Rattle.automata.specs.Records.{recordAt, readRecords}
 use Rattle.automata.proofs.States.{states-at, states-end}
 use Rattle.automata.proofs.Records.{records-at, records-end, part-record}
+use borrow.Author.Tests.{not-true, not-false}
 
 -- whether some state passes
 pub some-begin : (f : ℕ → Bool) (n : ℕ) → any f (states n) ≡ any f (drop 0 (states n))
@@ -45,10 +45,10 @@ module _ (f : ℕ → Bool) (n q : ℕ) (e : all f (states n) ≡ all f (drop q 
     at-p = e ∙ ap (all f) (states-at n q h) ∙ all-cons f q _ b g
 
     pub each-failed : not b ≡ true → false ≡ all f (states n)
-    each-failed t = let s = no-true b t in sym (rw s at at-p)
+    each-failed t = let s = not-true b t in sym (rw s at at-p)
 
     pub each-next : not b ≡ false → all f (states n) ≡ all f (drop (q + 1) (states n))
-    each-next t = let s = no-false b t in rw s at at-p
+    each-next t = let s = not-false b t in rw s at at-p
 
 -- whether some record passes
 module _ (f : Transition → Bool) (t : List ℕ) (at : ℕ) (e : any f (readRecords t) ≡ any f (readRecords (drop at t))) where
@@ -77,7 +77,7 @@ module _ (f : Transition → Bool) (t : List ℕ) (at : ℕ) (e : all f (readRec
     at-each = e ∙ ap (all f) (records-at t at h) ∙ all-cons f (recordAt t at) _ b (g ∙ ap f (part-record t at))
 
     pub records-failed : not b ≡ true → false ≡ all f (readRecords t)
-    records-failed s = let r = no-true b s in sym (rw r at at-each)
+    records-failed s = let r = not-true b s in sym (rw r at at-each)
 
     pub records-next : not b ≡ false → all f (readRecords t) ≡ all f (readRecords (drop (at + 5) t))
-    records-next s = let r = no-false b s in rw r at at-each
+    records-next s = let r = not-false b s in rw r at at-each

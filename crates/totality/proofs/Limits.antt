@@ -13,6 +13,7 @@ use Rattle.automata.specs.WellFormed.{Fits}
 use Rattle.labels.specs.Forms.{sinkLabel}
 use Rattle.labels.specs.Labels.{AllLabels, none, more, labelsFault, readLabels, writeLabels}
 use Rattle.labels.proofs.Labels.{labels-read, length-read, fault-write}
+use Rattle.labels.proofs.Listing.{labels-append}
 use Rattle.output.specs.Output.{Pattern, labelsFirst}
 use Rattle.refusal.specs.Answer.{refused, given}
 use Rattle.sheets.specs.Checked.{sheetFirst}
@@ -76,8 +77,7 @@ module _ (P : Pattern) where
 
 -- `sink` behind labels is a label more
 with-sink : {ls : List (List ℕ)} → AllLabels ls → AllLabels (ls ++ sinkLabel ∷ [])
-with-sink none = more {l = sinkLabel} (record { some = omega arith; short = omega arith }) none
-with-sink (more a l) = more a (with-sink l)
+with-sink a = labels-append a (more {l = sinkLabel} (record { some = omega arith; short = omega arith }) none)
 
 labels-accepted : (n : ℕ) (ls : List (List ℕ)) → AllLabels ls → length ls ≡ n → labelsFault n (writeLabels ls) ≡ 0
 labels-accepted n ls a e = subst (λ k. labelsFault k (writeLabels ls) ≡ 0) e (fault-write ls a)

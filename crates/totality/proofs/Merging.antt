@@ -10,7 +10,7 @@ use borrow.Author.Tests.{leb-true, leb-false, le-leb, lt-leb}
 use lib.Dec.{leb}
 use lib.ListN.{length, getD, take, drop, length-drop}
 use lib.Seq.{drop-drop, getD-drop, length-take-le}
-use Rattle.lists.specs.Lists.{_∈_, Ascending, more}
+use Rattle.lists.specs.Lists.{_∈_, more}
 use Rattle.lists.specs.Written.{Written}
 use Rattle.lists.proofs.Parts.{part-all}
 use Rattle.automata.specs.Automaton.{Transition}
@@ -23,6 +23,7 @@ use Rattle.ranges.specs.Span.{Span}
 use Rattle.totality.specs.Totality.{holeTo}
 use Rattle.totality.specs.Merging.{readSpans, leading, Mergeable, merged, Whole}
 use Rattle.lists.proofs.Left.{Left, left-start, left-done, left-room, left-next}
+use Rattle.lists.proofs.Members.{ascending-first, ascending-rest}
 
 -- the search for the records before a hole stands at k
 module _ (run : List ℕ) (i low k : ℕ) (e : i + 5 * leading low (readRecords (drop i run)) ≡ k + 5 * leading low (readRecords (drop k run))) where
@@ -59,17 +60,11 @@ inOrder-first x ds es f =
           (List·Memᴰ·cases-cons m)),
     ))
 
-first-of : {X : Type 0} {R : X → X → Type 0} {x : X} {l : List X} → Ascending R (x ∷ l) → (y : X) → y ∈ l → R x y
-first-of (more f a) = f
-
-rest-of : {X : Type 0} {R : X → X → Type 0} {x : X} {l : List X} → Ascending R (x ∷ l) → Ascending R l
-rest-of (more f a) = a
-
 module _ (sink q : ℕ) where
   less-records : {e : Transition} {es : List Transition} {hs : List Span} → Mergeable sink q (e ∷ es) hs → Mergeable sink q es hs
   less-records m =
       record {
-        records = rest-of (m .records);
+        records = ascending-rest (m .records);
         holes = m .holes;
         later = λ e h i j. m .later e h (List·Memᴰ·tail i) j;
         sooner = λ e h i j. m .sooner e h (List·Memᴰ·tail i) j;
@@ -79,7 +74,7 @@ module _ (sink q : ℕ) where
   less-holes m =
       record {
         records = m .records;
-        holes = rest-of (m .holes);
+        holes = ascending-rest (m .holes);
         later = λ e h i j. m .later e h i (List·Memᴰ·tail j);
         sooner = λ e h i j. m .sooner e h i (List·Memᴰ·tail j);
       }
@@ -93,19 +88,19 @@ module _ (sink q : ℕ) where
   pub merge-hole : (es : List Transition) (h : Span) (hs : List Span) → Mergeable sink q es (h ∷ hs)
       → inOrder (es ++ map (holeTo sink q) (h ∷ hs)) ≡ take (leading (h .low) es) es ++ holeTo sink q h ∷ inOrder (drop (leading (h .low) es) es ++ map (holeTo sink q) hs)
   unfolding leading
-  merge-hole [] h hs m = inOrder-first (holeTo sink q h) [] (map (holeTo sink q) hs) (first-of (m .holes))
+  merge-hole [] h hs m = inOrder-first (holeTo sink q h) [] (map (holeTo sink q) hs) (ascending-first (m .holes))
   merge-hole (e ∷ es) h hs m = go (leb (e .first) (h .low)) refl (merge-hole es h hs (less-records m))
     where
       before : Before e (holeTo sink q h) → (y : Transition) → y ∈ (es ++ (holeTo sink q h) ∷ map (holeTo sink q) hs) → Before e y
       before l y k =
-          ⊎-elim (λ i. first-of (m .records) y i)
-          (λ i. ⊎-elim (λ (c : y ≡ holeTo sink q h). subst (Before e) (sym c) l) (λ n. lex-trans l (first-of (m .holes) y n)) (List·Memᴰ·cases-cons i))
+          ⊎-elim (λ i. ascending-first (m .records) y i)
+          (λ i. ⊎-elim (λ (c : y ≡ holeTo sink q h). subst (Before e) (sym c) l) (λ n. lex-trans l (ascending-first (m .holes) y n)) (List·Memᴰ·cases-cons i))
           (List·Memᴰ·append-cases es k)
 
       behind : Before (holeTo sink q h) e → (y : Transition) → y ∈ ((e ∷ es) ++ map (holeTo sink q) hs) → Before (holeTo sink q h) y
       behind l y k =
-          ⊎-elim (λ i. ⊎-elim (λ (c : y ≡ e). subst (Before (holeTo sink q h)) (sym c) l) (λ n. lex-trans l (first-of (m .records) y n)) (List·Memᴰ·cases-cons i))
-          (λ i. first-of (m .holes) y i)
+          ⊎-elim (λ i. ⊎-elim (λ (c : y ≡ e). subst (Before (holeTo sink q h)) (sym c) l) (λ n. lex-trans l (ascending-first (m .records) y n)) (List·Memᴰ·cases-cons i))
+          (λ i. ascending-first (m .holes) y i)
           (List·Memᴰ·append-cases (e ∷ es) k)
 
       go : (b : Bool) → leb (e .first) (h .low) ≡ b

@@ -1,6 +1,6 @@
 -- The laws by which a step is proved: gathering record by record, and member by member.
 use Prim.Native.Nat.{ℕ, _+_, _-_, _*_, _≤_, _<_}
-use mathlib.Core.Bool.{Bool, true, false, _&&_, _||_}
+use mathlib.Core.Bool.{Bool, true, false, _&&_, _||_, or-false}
 use mathlib.Core.List.{List, [], _∷_}
 use mathlib.Core.Logic.{⊎-elim}
 use mathlib.Core.Path.{_≡_, refl, sym, _∙_, ap, subst}
@@ -32,10 +32,6 @@ or-assoc : (a b c : Bool) → (a || (b || c)) ≡ ((a || b) || c)
 or-assoc true b c = refl
 or-assoc false b c = refl
 
-or-none : (a : Bool) → (a || false) ≡ a
-or-none true = refl
-or-none false = refl
-
 any-false : {X : Type 0} (xs : List X) → any (λ x. false) xs ≡ false
 unfolding any
 any-false [] = refl
@@ -45,7 +41,7 @@ any-false (x ∷ xs) = any-false xs
 module _ {X : Type 0} (f : ℕ → X → Bool) where
   pub all-none : (S : Set) → Canon 256 S → withAll S f [] ≡ S
   unfolding withAll any
-  all-none S c = pick-ext 0 256 _ _ (λ q l. or-none (has q S)) ∙ c
+  all-none S c = pick-ext 0 256 _ _ (λ q l. or-false (has q S)) ∙ c
 
   pub all-cons : (S : Set) (x : X) (xs : List X) → withAll S f (x ∷ xs) ≡ withAll (withAll S f (x ∷ [])) f xs
   unfolding withAll any
@@ -53,15 +49,15 @@ module _ {X : Type 0} (f : ℕ → X → Bool) where
       pick-ext 0 256 _ _
       (λ q l.
       or-assoc (has q S) (f q x) (any (f q) xs)
-      ∙ ap (λ b. b || any (f q) xs) (ap (λ b. has q S || b) (sym (or-none (f q x))) ∙ sym (has-pick 256 _ q (omega arith))))
+      ∙ ap (λ b. b || any (f q) xs) (ap (λ b. has q S || b) (sym (or-false (f q x))) ∙ sym (has-pick 256 _ q (omega arith))))
 
   pub all-skip : (S : Set) (x : X) → Canon 256 S → ((q : ℕ) → f q x ≡ false) → withAll S f (x ∷ []) ≡ S
   unfolding withAll any
-  all-skip S x c h = pick-ext 0 256 _ _ (λ q l. ap (λ b. has q S || (b || false)) (h q) ∙ or-none (has q S)) ∙ c
+  all-skip S x c h = pick-ext 0 256 _ _ (λ q l. ap (λ b. has q S || (b || false)) (h q) ∙ or-false (has q S)) ∙ c
 
   pub all-one : (S : Set) (x : X) → withAll S f (x ∷ []) ≡ pick 256 (λ q. has q S || f q x)
   unfolding withAll any
-  all-one S x = pick-ext 0 256 _ _ (λ q l. ap (λ b. has q S || b) (or-none (f q x)))
+  all-one S x = pick-ext 0 256 _ _ (λ q l. ap (λ b. has q S || b) (or-false (f q x)))
 
   all-nothing : (S : Set) (xs : List X) → ((q : ℕ) (x : X) → x ∈ xs → f q x ≡ false) → withAll S f [] ≡ withAll S f xs
   unfolding withAll any

@@ -3,14 +3,18 @@ use Prim.Native.Nat.{_-_}
 use mathlib.Core.Path.{_≡_}
 use lib.ListN.{length}
 use Rattle.grammar.specs.Grammar.{transitions}
+use Rattle.labels.specs.Labels.{sameLabel}
+use Rattle.search.specs.Search.{meet}
 use Rattle.parser.specs.Names.{Table, namesIn}
-use Rattle.parser.specs.Pattern.{addNames}
+use Rattle.parser.specs.Pattern.{namesOf}
 use Rattle.parser.proofs.Collecting.{collectLaws, collect-next, collect-full}
 use Rattle.parser.proofs.names.add_arrows.Statement.{statement}
 use Rattle.parser.proofs.names.add_arrows.Tie as tie
 
 abbrev Inv-loop : tie.InvT-loop
-Inv-loop text t₀ n at₀ count₀ t at count = (length t ≡ length t₀) × Table text t count × (addNames text (namesIn text t count) (transitions text at .items) ≡ addNames text (namesIn text t₀ n) (transitions text at₀ .items))
+Inv-loop text t₀ n at₀ count₀ t at count =
+    (length t ≡ length t₀) × Table text t count
+    × (meet sameLabel (namesOf text (transitions text at .items)) (namesIn text t count) ≡ meet sameLabel (namesOf text (transitions text at₀ .items)) (namesIn text t₀ n))
 
 abbrev μ-loop : tie.MeasureT-loop
 μ-loop text t₀ n at₀ count₀ t at count = length text - at
