@@ -27,7 +27,6 @@ use Rattle.subautomaton.specs.Inclusion.{labelOf, isSame, hasState, cove
 use Rattle.subautomaton.specs.Tables.{Numbered, isHeld, isHeldIn, fits, fitsFrom, fitsIn, Inputs, Tabled}
 use Rattle.subautomaton.specs.Answer.{patternOf}
 use Rattle.lists.proofs.Every.{all-ext}
-use Rattle.lists.proofs.Tests.{not-true, not-false}
 use Rattle.automata.proofs.States.{states-in, states-out}
 use Rattle.subautomaton.proofs.Numbering.{same-number}
 
