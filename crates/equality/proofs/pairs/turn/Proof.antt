@@ -8,16 +8,16 @@ use Rattle.equality.proofs.pairs.turn.Statement.{statement}
 use Rattle.equality.proofs.pairs.turn.Tie as tie
 
 abbrev Inv-loop : tie.InvT-loop
-Inv-loop a b ra rb low high repr₀ size₀ one₀ two₀ from₀ by₀ depth₀ n made₀ n1 i ca cb j k₀ repr size one two from by depth made k = Turning a b low high ra rb n1 i j k (pairsOf repr size one two from by depth n made)
+Inv-loop a b ra rb low high repr₀ size₀ queue₀ n made₀ n1 i ca cb j k₀ repr size queue made k = Turning a b low high ra rb n1 i j k (pairsOf repr size queue n made)
 
 abbrev μ-loop : tie.MeasureT-loop
-μ-loop a b ra rb low high repr₀ size₀ one₀ two₀ from₀ by₀ depth₀ n made₀ n1 i ca cb j k₀ repr size one two from by depth made k = cb - k
+μ-loop a b ra rb low high repr₀ size₀ queue₀ n made₀ n1 i ca cb j k₀ repr size queue made k = cb - k
 
 abbrev Inv-runs : tie.InvT-runs
-Inv-runs a b ra rb low high repr₀ size₀ one₀ two₀ from₀ by₀ depth₀ n made₀ n1 i ca cb j₀ repr size one two from by depth made j = Turning a b low high ra rb n1 i j 0 (pairsOf repr size one two from by depth n made)
+Inv-runs a b ra rb low high repr₀ size₀ queue₀ n made₀ n1 i ca cb j₀ repr size queue made j = Turning a b low high ra rb n1 i j 0 (pairsOf repr size queue n made)
 
 abbrev μ-runs : tie.MeasureT-runs
-μ-runs a b ra rb low high repr₀ size₀ one₀ two₀ from₀ by₀ depth₀ n made₀ n1 i ca cb j₀ repr size one two from by depth made j = ca - j
+μ-runs a b ra rb low high repr₀ size₀ queue₀ n made₀ n1 i ca cb j₀ repr size queue made j = ca - j
 
 accept-word-requires : tie.Need-accept-word-requires Inv-loop μ-loop Inv-runs μ-runs
 accept-word-requires c κs =
@@ -60,25 +60,25 @@ join-in-requires c κs =
 
 push-requires : tie.Need-push-requires Inv-loop μ-loop Inv-runs μ-runs
 push-requires c κs =
-    let e = c .before .before .before .before .before .before .before .before .before in
+    let e = c .before .before .before .before .before in
     let f = e .before .before .before .before .before .before .before .before in
     let l = f .before .before .before .before in
     turn-push _ _ _ _ _ _ _ _ _ _ _ (l .loop .inv) _ (f .first-common .ensures) _ (e .before .before .before .before .before .before .x .given .1) (l .before .if1 .left) (f .before .before .before .loop-test .taken)
 
 add-made : tie.Need-add-made Inv-loop μ-loop Inv-runs μ-runs
 add-made c =
-    let e = c .before .before .before .before .before .before .before .before .before .before in
+    let e = c .before .before .before .before .before .before in
     let f = e .before .before .before .before .before .before .before .before in
     let l = f .before .before .before .before in
     record { fits = omega (arith, turn-push _ _ _ _ _ _ _ _ _ _ _ (l .loop .inv) _ (f .first-common .ensures) _ (e .before .before .before .before .before .before .x .given .1) (l .before .if1 .left) (f .before .before .before .loop-test .taken) .0) }
 
 loop-again-2 : tie.Need-loop-again-2 Inv-loop μ-loop Inv-runs μ-runs
 loop-again-2 c =
-    let e = c .before .before .before .before .before .before .before .before .before .before in
+    let e = c .before .before .before .before .before .before in
     let f = e .before .before .before .before .before .before .before .before in
     let l = f .before .before .before .before in
     turn-put _ _ _ _ _ _ _ _ _ _ _ (l .loop .inv) _ (f .first-common .ensures) _ (e .before .before .before .before .before .before .x .given .1) (l .before .if1 .left) (f .before .before .before .loop-test .taken)
-    _ _ (e .before .before .accept-word .ensures) (e .before .accept-word2 .ensures) (e .if2 .left) _ _ (c .before .before .before .before .before .before .before .join-in .ensures) (c .before .before .before .before .before .before .if3 .taken) _ _ _ _ _ (c .push .ensures)
+    _ _ (e .before .before .accept-word .ensures) (e .before .accept-word2 .ensures) (e .if2 .left) _ _ (c .before .before .before .join-in .ensures) (c .before .before .if3 .taken) _ (c .push .ensures)
 
 loop-again-3 : tie.Need-loop-again-3 Inv-loop μ-loop Inv-runs μ-runs
 loop-again-3 c =
@@ -118,6 +118,6 @@ turn-spec =
     (λ c. search (c .before .before .before .before .before .before .before .loop-test .taken, c .before .before .before .before .before .before .before .before .before .before .before .before .before .before .before .good .1 .1 .1 .0, needs))
     (λ c. search (c .before .before .before .before .before .before .before .before .loop-test .taken, needs)) accept-word-requires accept-word-requires-2 add-k-2 cast-join-in cast-join-in-2
     add-join-in join-in-requires push-requires add-made
-    (λ c. omega (arith, c .before .before .before .before .before .before .before .before .before .before .before .before .before .before .before .before .before .before .before .before .before .loop-test .taken)) loop-again-2
+    (λ c. omega (arith, c .before .before .before .before .before .before .before .before .before .before .before .before .before .before .before .before .before .loop-test .taken)) loop-again-2
     (λ c. omega (arith, c .before .before .before .before .before .before .before .before .before .before .before .before .before .before .before .loop-test .taken)) loop-again-3
     (λ c. search needs) (λ c. search needs) runs-again returns returns-2)

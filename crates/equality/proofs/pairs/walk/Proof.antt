@@ -13,7 +13,7 @@ join-in-requires c κs =
 
 walk-pairs-requires : tie.Need-walk-pairs-requires
 walk-pairs-requires c κs =
-    let j = c .before .before .before .before .before .before .before .before .before .before in
+    let j = c .before .before .before .before .before .before in
     let n = j .before .before .before .before .before .before in
     let r = n .before .before .before .before in
     let q = r .before .before .before in
@@ -21,7 +21,7 @@ walk-pairs-requires c κs =
     let g = e .before .before .before .before .before .before .before .before .pre in
     walk-begin _ _ _ _ _ g _ _ _ _ (q .run-starts .ensures) (r .run-starts2 .ensures) refl refl _ _ _ _ _
     refl refl (e .before .before .accept-word .ensures) (e .before .accept-word2 .ensures) (e .if1 .left)
-    (begin-law _ _ _ _ (g .sheets .first .few-states) (g .sheets .second .few-states) (g .sheets .first .start) (g .sheets .second .start) _ (n .new .ensures) _ _ (j .join-in .ensures) _ _ _ _ _ refl refl refl (record { one = refl; two = refl; from = refl; by = refl; depth = refl }))
+    (begin-law _ _ _ _ (g .sheets .first .few-states) (g .sheets .second .few-states) (g .sheets .first .start) (g .sheets .second .start) _ (n .new .ensures) _ _ (j .join-in .ensures) _ refl refl refl refl)
 
 pub walk-spec : {M : Type 1} → statement M
 walk-spec =
