@@ -105,15 +105,17 @@ fn turn(
         if ca <= j {
             break 'runs Seen::Alike;
         }
+        let at_a = 5 * j;
         let mut k: usize = 0;
         while k < cb {
-            match first_common(&ra[5 * j..5 * j + 5], &rb[5 * k..5 * k + 5], low, high) {
+            let at_b = 5 * k;
+            match first_common(&ra[at_a..at_a + 5], &rb[at_b..at_b + 5], low, high) {
                 First::Nothing => {
                     k += 1;
                 }
                 First::Symbol(x) => {
-                    let p = ra[5 * j + 4];
-                    let q = rb[5 * k + 4];
+                    let p = ra[at_a + 4];
+                    let q = rb[at_b + 4];
                     if sheets::accept_word(a, p) != sheets::accept_word(b, q) {
                         break 'runs Seen::Differ(x);
                     }

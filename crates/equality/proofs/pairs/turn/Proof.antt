@@ -8,10 +8,10 @@ use Rattle.equality.proofs.pairs.turn.Statement.{statement}
 use Rattle.equality.proofs.pairs.turn.Tie as tie
 
 abbrev Inv-loop : tie.InvT-loop
-Inv-loop a b ra rb low high repr₀ size₀ queue₀ n made₀ n1 i ca cb j k₀ repr size queue made k = Turning a b low high ra rb n1 i j k (pairsOf repr size queue n made)
+Inv-loop a b ra rb low high repr₀ size₀ queue₀ n made₀ n1 i ca cb j at-a k₀ repr size queue made k = Turning a b low high ra rb n1 i j k (pairsOf repr size queue n made)
 
 abbrev μ-loop : tie.MeasureT-loop
-μ-loop a b ra rb low high repr₀ size₀ queue₀ n made₀ n1 i ca cb j k₀ repr size queue made k = cb - k
+μ-loop a b ra rb low high repr₀ size₀ queue₀ n made₀ n1 i ca cb j at-a k₀ repr size queue made k = cb - k
 
 abbrev Inv-runs : tie.InvT-runs
 Inv-runs a b ra rb low high repr₀ size₀ queue₀ n made₀ n1 i ca cb j₀ repr size queue made j = Turning a b low high ra rb n1 i j 0 (pairsOf repr size queue n made)
@@ -88,9 +88,6 @@ loop-again-3 c =
     turn-had _ _ _ _ _ _ _ _ _ _ _ (l .loop .inv) _ (f .first-common .ensures) _ (e .before .before .before .before .before .before .x .given .1) (l .before .if1 .left) (f .before .before .before .loop-test .taken)
     _ _ (e .before .before .accept-word .ensures) (e .before .accept-word2 .ensures) (e .if2 .left) _ _ (c .before .join-in .ensures) (c .if3 .left)
 
-mul-q : tie.Need-mul-q Inv-loop μ-loop Inv-runs μ-runs
-mul-q c = record { fits = omega (arith, c .before .before .before .before .before .before .before .loop-test .taken, c .before .before .before .before .before .before .before .before .before .before .before .before .before .before .before .good .1 .1 .1 .0) }
-
 add-q : tie.Need-add-q Inv-loop μ-loop Inv-runs μ-runs
 add-q c = record { fits = omega (arith, c .before .before .before .before .before .before .before .loop-test .taken, c .before .before .before .before .before .before .before .before .before .before .before .before .before .before .before .good .1 .1 .1 .0) }
 
@@ -109,12 +106,7 @@ returns-2 c =
 pub turn-spec : {M : Type 1} → statement M
 turn-spec =
     tie.close
-    (tie.spec Inv-loop μ-loop Inv-runs μ-runs (λ c. search turning) (λ c. search needs) (λ c. search needs) (λ c. search needs)
-    (λ c. search needs) (λ c. search needs) (λ c. search needs) (λ c. search needs) (λ c. search needs)
-    (λ c. search needs) (λ c. search needs) (λ c. search needs) (λ c. search needs) (λ c. search needs)
-    (λ c. search needs) (λ c. search needs) (λ c κs. search needs) (λ c. search needs) (λ c. search needs)
-    (λ c. search needs) (λ c. search turning) (λ c. search needs) (λ c. search needs) (λ c. search needs)
-    (λ c. search needs) (λ c. search needs) mul-q add-q
+    (tie.spec Inv-loop μ-loop Inv-runs μ-runs (λ c. search turning) (λ c. search needs) (λ c. search needs) (λ c. search needs) (λ c. search needs) (λ c. search needs) (λ c. search needs) (λ c. search needs) (λ c. search needs) (λ c. search needs) (λ c. search needs) (λ c. search needs) (λ c. search needs) (λ c. search needs) (λ c κs. search needs) (λ c. search needs) (λ c. search needs) (λ c. search needs) (λ c. search turning) (λ c. search needs) (λ c. search needs) (λ c. search needs) (λ c. search needs) add-q
     (λ c. search (c .before .before .before .before .before .before .before .loop-test .taken, c .before .before .before .before .before .before .before .before .before .before .before .before .before .before .before .good .1 .1 .1 .0, needs))
     (λ c. search (c .before .before .before .before .before .before .before .before .loop-test .taken, needs)) accept-word-requires accept-word-requires-2 add-k-2 cast-join-in cast-join-in-2
     add-join-in join-in-requires push-requires add-made
