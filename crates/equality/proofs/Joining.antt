@@ -4,14 +4,14 @@ use mathlib.Core.Path.{_≡_, refl, subst, _∙_}
 use mathlib.Core.Bool.{Bool, true, false}
 use mathlib.Core.List.{List}
 use native.Mathlib.Omega.{arith}
-use lib.ListN.{length}
+use lib.ListN.{length, set, replicate, length-set, length-replicate}
 use Rattle.dsu.specs.declared.DSU.{DSU}
 use Rattle.dsu.specs.declared.Answer.{Answer}
 use Rattle.dsu.specs.Classes.{Merges}
 use Rattle.dsu.specs.Sets.{newOf}
 use Rattle.dsu.specs.Laws.{Valid, classOf, NewLaw, JoinLaw, old, new}
 use Rattle.dsu.proofs.Laws.{new-law}
-use Rattle.equality.specs.Code.{queueOf, Pairs, Begun, Stored, withSets, Offered, had, put}
+use Rattle.equality.specs.Code.{Pairs, Begun, Stored, withSets, Offered, had, put}
 use Rattle.equality.proofs.Entries.{stored-long, stored-pushed}
 
 -- the starts joined
@@ -22,18 +22,17 @@ module _ (n1 n2 p q : ℕ) (few-one : n1 ≤ 256) (few-two : n2 ≤ 256) (p-in :
   pub begin-join : Valid (f .sets) × (p < f .sets .n) × (n1 + q < f .sets .n)
   begin-join = (law .valid, omega (arith, law .is-n), omega (arith, law .is-n))
 
-  pub begin-law : (d : DSU) (b : Bool) → JoinLaw (f .sets) d p (n1 + q) b → (l : List ℕ) → queueOf l .one 0 ≡ p → queueOf l .two 0 ≡ q → queueOf l .depth 0 ≡ 0 → length l ≡ 2560
-      → Begun (n1 + n2) n1 p q (record { sets = d; queue = l; made = 1 })
-  begin-law d b (old v is-n same kept) l x y z long = absurd (omega (arith, law .alone p (n1 + q) (omega arith) (omega arith) same))
-  begin-law d b (new v is-n m) l x y z long = record {
-    sets = record { valid = v; is-n = is-n ∙ law .is-n; few = omega arith; long = long };
+  pub begin-law : (d : DSU) (b : Bool) → JoinLaw (f .sets) d p (n1 + q) b → Begun (n1 + n2) n1 p q (record { sets = d; queue = set (set (replicate 2560 0) 0 p) 1 q; made = 1 })
+  begin-law d b (old v is-n same kept) = absurd (omega (arith, law .alone p (n1 + q) (omega arith) (omega arith) same))
+  begin-law d b (new v is-n m) = record {
+    sets = record { valid = v; is-n = is-n ∙ law .is-n; few = omega arith; long = length-set (set (replicate 2560 0) 0 p) 1 q ∙ length-set (replicate 2560 0) 0 p ∙ length-replicate {A = ℕ} 2560 0 };
     alone = classOf (f .sets);
     fresh = law .alone;
     all = law .classes;
     merges = subst (λ (n : ℕ). Merges n (classOf (f .sets)) (classOf d) p (n1 + q)) (law .is-n) m;
-    at-one = x;
-    at-two = y;
-    at-depth = z;
+    at-one = refl;
+    at-two = refl;
+    at-depth = refl;
     made = refl;
   }
 

@@ -1,6 +1,7 @@
 -- `turn` meets its contract: the rows before `j` are done, and of row `j` the records before `k`.
 use Prim.Native.Nat.{_-_}
 use native.Mathlib.Omega.{arith}
+use Rattle.dsu.specs.Sets.{setsOf}
 use Rattle.equality.specs.Code.{pairsOf}
 use Rattle.equality.proofs.Turning.{Turning, turning, turn-accept-a, turn-accept-b, turn-join, turn-small, turn-push, turn-had, turn-put, turn-row, turn-done, turn-differ}
 use borrow.Author.Needs.{needs}
@@ -77,8 +78,9 @@ loop-again-2 c =
     let e = c .before .before .before .before .before .before in
     let f = e .before .before .before .before .before .before .before .before in
     let l = f .before .before .before .before in
+    let j = c .before .before .before .join-in in
     turn-put _ _ _ _ _ _ _ _ _ _ _ (l .loop .inv) _ (f .first-common .ensures) _ (e .before .before .before .before .before .before .x .given .1) (l .before .if1 .left) (f .before .before .before .loop-test .taken)
-    _ _ (e .before .before .accept-word .ensures) (e .before .accept-word2 .ensures) (e .if2 .left) _ _ (c .before .before .before .join-in .ensures) (c .before .before .if3 .taken) _ (c .push .ensures)
+    _ _ (e .before .before .accept-word .ensures) (e .before .accept-word2 .ensures) (e .if2 .left) (setsOf (j .last .0) (j .last .1 .0) (l .before .before .before .before .before .before .before .args .n)) _ (j .ensures) (c .before .before .if3 .taken) _ (c .push .ensures)
 
 loop-again-3 : tie.Need-loop-again-3 Inv-loop μ-loop Inv-runs μ-runs
 loop-again-3 c =

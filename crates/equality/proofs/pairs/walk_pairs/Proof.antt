@@ -23,7 +23,9 @@ run-requires-2 c κs = let l = c .before .before .before in walk-run-b _ _ _ _ _
 spell-requires : tie.Need-spell-requires Inv-loop μ-loop
 spell-requires c κs =
     let t = c .before .before .before .before .before in
-    walk-spell _ _ _ _ _ _ _ _ _ _ (t .before .before .before .before .before .before .before .before .before .loop .inv .0) _ _ (t .turn .ensures) _ (c .before .before .before .seen .given .1)
+    let l = t .before .before .before .before .before .before .before .before .before in
+    let r = t .turn .last .1 .1 .1 .1 .1 .1 in
+    walk-spell _ _ _ _ _ _ _ _ _ _ (l .loop .inv .0) (pairsOf (r .0) (r .1 .0) (r .1 .1 .0) (l .before .before .before .before .before .before .args .n) (t .turn .result .made)) _ (t .turn .ensures) _ (c .before .before .before .seen .given .1)
 
 same-length : tie.Need-same-length Inv-loop μ-loop
 same-length c = c .before .before .spell .kept .1 .1 .1 .0 ∙ ap length (c .before .before .before .before .before .before .before .before .before .before .before .before .before .before .before .before .before .loop .inv .1)
@@ -32,7 +34,8 @@ returns : tie.Need-returns Inv-loop μ-loop
 returns c =
     let t = c .before .before .before .before .before .before .before .before in
     let l = t .before .before .before .before .before .before .before .before .before in
-    walk-differs _ _ _ _ _ _ _ _ _ _ (l .loop .inv .0) _ _ (t .turn .ensures) _ (c .before .before .before .before .before .before .seen .given .1) _ _ (c .before .before .spell .ensures) _ (l .loop .inv .1)
+    let r = t .turn .last .1 .1 .1 .1 .1 .1 in
+    walk-differs _ _ _ _ _ _ _ _ _ _ (l .loop .inv .0) (pairsOf (r .0) (r .1 .0) (r .1 .1 .0) (l .before .before .before .before .before .before .args .n) (t .turn .result .made)) _ (t .turn .ensures) _ (c .before .before .before .before .before .before .seen .given .1) _ _ (c .before .before .spell .ensures) _ (l .loop .inv .1)
 
 add-head : tie.Need-add-head Inv-loop μ-loop
 add-head c = let l = c .before .before .before .before .before .before .before .before .before .before in record { fits = omega (arith, l .loop-test .taken, walk-few _ _ _ _ _ _ _ _ _ _ (l .before .loop .inv .0)) }
