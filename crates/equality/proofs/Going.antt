@@ -58,13 +58,13 @@ module _ (a b starts-a starts-b : List ℕ) (low high n1 head : ℕ) (w : Pairs)
   pub walk-few : w .made < 512
   walk-few = omega (arith, room (twoOf a b low high) (total a b low high (g .given .sheets)) (classes w) (queue w) (w .made) (g .good .walking), g .good .sets .few)
 
-  pub walk-run-a : head < w .made → RunAt a starts-a (getD (w .one) head 0)
-  walk-run-a h = run-at a (g .given .sheets .first) starts-a (getD (w .one) head 0) (g .index-a) (g .good .walking .in-one head h)
+  pub walk-run-a : head < w .made → RunAt a starts-a (queue w .one head)
+  walk-run-a h = run-at a (g .given .sheets .first) starts-a (queue w .one head) (g .index-a) (g .good .walking .in-one head h)
 
-  pub walk-run-b : head < w .made → RunAt b starts-b (getD (w .two) head 0)
-  walk-run-b h = run-at b (g .given .sheets .second) starts-b (getD (w .two) head 0) (g .index-b) (g .good .walking .in-two head h)
+  pub walk-run-b : head < w .made → RunAt b starts-b (queue w .two head)
+  walk-run-b h = run-at b (g .given .sheets .second) starts-b (queue w .two head) (g .index-b) (g .good .walking .in-two head h)
 
-  pub walk-ready : head < w .made → (ra rb : List ℕ) → ra ≡ writeRecords (leaving (read a) (getD (w .one) head 0)) → rb ≡ writeRecords (leaving (read b) (getD (w .two) head 0)) → Ready a b low high ra rb n1 head w
+  pub walk-ready : head < w .made → (ra rb : List ℕ) → ra ≡ writeRecords (leaving (read a) (queue w .one head)) → rb ≡ writeRecords (leaving (read b) (queue w .two head)) → Ready a b low high ra rb n1 head w
   walk-ready h ra rb ea eb = record { sheets = g .given .sheets; is-n1 = g .is-n1; run-a = ea; run-b = eb; good = g .good; i-in = h; closed = g .closed }
 
   -- the queue is done
@@ -83,10 +83,10 @@ module _ (a b starts-a starts-b : List ℕ) (low high n1 head : ℕ) (w : Pairs)
       v : Saw (twoOf a b low high) head r (Differ x)
       v = subst (Saw (twoOf a b low high) head r) e saw
 
-      near : getD (r .depth) head 0 + 1 + 2 ≤ states (twoOf a b low high)
+      near : queue r .depth head + 1 + 2 ≤ states (twoOf a b low high)
       near = short (twoOf a b low high) (total a b low high (g .given .sheets)) (classes r) (queue r) (r .made) (v .0 .walking) head x (v .1) (v .2, v .3) (v .4)
 
-      pub walk-spell : Chained (trail (queue r)) head × (head < 512) × (getD (r .depth) head 0 < length o)
+      pub walk-spell : Chained (trail (queue r)) head × (head < 512) × (queue r .depth head < length o)
       walk-spell = (
         chained (v .0 .walking) (v .1),
         omega (arith, room (twoOf a b low high) (total a b low high (g .given .sheets)) (classes r) (queue r) (r .made) (v .0 .walking), v .0 .sets .few, v .1),

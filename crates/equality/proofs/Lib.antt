@@ -4,6 +4,7 @@ pub mod Classes
 pub mod Queue
 pub mod Successors
 pub mod Spelling
+pub mod Entries
 pub mod Joining
 pub mod Reading
 pub mod Onward

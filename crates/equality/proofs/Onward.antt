@@ -25,16 +25,16 @@ total a b low high s = record {
 pub record Onward (a b : List ℕ) (low high : ℕ) (w r : Pairs) : Type 0 where
   pub good : Good (twoOf a b low high) r
   pub more : w .made ≤ r .made
-  pub same-one : (g : ℕ) → g < w .made → getD (r .one) g 0 ≡ getD (w .one) g 0
-  pub same-two : (g : ℕ) → g < w .made → getD (r .two) g 0 ≡ getD (w .two) g 0
+  pub same-one : (g : ℕ) → g < w .made → queue r .one g ≡ queue w .one g
+  pub same-two : (g : ℕ) → g < w .made → queue r .two g ≡ queue w .two g
   pub keeps : (u v : ℕ) → u < states (twoOf a b low high) → v < states (twoOf a b low high) → classes w u ≡ classes w v → classes r u ≡ classes r v
 
 module _ (a b : List ℕ) (low high : ℕ) (sheets : Sheets a b low high) (w r : Pairs) (i x : ℕ) (good : Good (twoOf a b low high) w) (i-in : i < w .made) (x-low : low ≤ x) (x-high : x ≤ high) where
   abbrev pub p : ℕ
-  p = successor (read a) (getD (w .one) i 0) x
+  p = successor (read a) (queue w .one i) x
 
   abbrev pub q : ℕ
-  q = successor (read b) (getD (w .two) i 0) x
+  q = successor (read b) (queue w .two i) x
 
   is-n : w .sets .n ≡ states (twoOf a b low high)
   is-n = good .sets .is-n
@@ -47,8 +47,8 @@ module _ (a b : List ℕ) (low high : ℕ) (sheets : Sheets a b low high) (w r :
   onward (had e s same is-queue made) agree =
       let t = total a b low high sheets in
       let again : (y : ℕ) → y < states (twoOf a b low high) → classes r y ≡ classes w y = λ y h. same y (omega (arith, is-n)) in
-      let in-one = t .first .next-in (getD (w .one) i 0) x (good .walking .in-one i i-in) (x-low, x-high) in
-      let in-two = t .second .next-in (getD (w .two) i 0) x (good .walking .in-two i i-in) (x-low, x-high) in (
+      let in-one = t .first .next-in (queue w .one i) x (good .walking .in-one i i-in) (x-low, x-high) in
+      let in-two = t .second .next-in (queue w .two i) x (good .walking .in-two i i-in) (x-low, x-high) in (
         record {
           good = record {
             sets = record { valid = s .valid; is-n = s .is-n ∙ is-n; few = few; long = s .long };

@@ -47,11 +47,11 @@ module _ (a b : List ℕ) (low high : ℕ) (ra rb : List ℕ) (n1 i j k : ℕ) (
   ready : Ready a b low high ra rb n1 i w
   ready = u .ready
 
-  run-a : RunOf (read a) low high (getD (w .one) i 0) ra
-  run-a = run-of low high (read a) (ready .sheets .one) (read-well a (ready .sheets .first) .states) (getD (w .one) i 0) (ready .good .walking .in-one i (ready .i-in)) ra (ready .run-a)
+  run-a : RunOf (read a) low high (queue w .one i) ra
+  run-a = run-of low high (read a) (ready .sheets .one) (read-well a (ready .sheets .first) .states) (queue w .one i) (ready .good .walking .in-one i (ready .i-in)) ra (ready .run-a)
 
-  run-b : RunOf (read b) low high (getD (w .two) i 0) rb
-  run-b = run-of low high (read b) (ready .sheets .two) (read-well b (ready .sheets .second) .states) (getD (w .two) i 0) (ready .good .walking .in-two i (ready .i-in)) rb (ready .run-b)
+  run-b : RunOf (read b) low high (queue w .two i) rb
+  run-b = run-of low high (read b) (ready .sheets .two) (read-well b (ready .sheets .second) .states) (queue w .two i) (ready .good .walking .in-two i (ready .i-in)) rb (ready .run-b)
 
   -- records of the runs
   a-in : (g : ℕ) → 5 * g + 5 ≤ length ra → g < run-a .count
@@ -76,9 +76,9 @@ module _ (a b : List ℕ) (low high : ℕ) (ra rb : List ℕ) (n1 i j k : ℕ) (
 
   -- all rows are done
   pub turn-done : length ra / 5 ≤ j → Saw (twoOf a b low high) i w Alike
-  turn-done h = (ready .good, ready .i-in, below-more (λ (g : ℕ). (x : ℕ) → (low ≤ x) × (x ≤ high) → classes w (successor (read a) (getD (w .one) g 0) x) ≡ classes w (stateCount a + successor (read b) (getD (w .two) g 0) x)) i (ready .closed) here)
+  turn-done h = (ready .good, ready .i-in, below-more (λ (g : ℕ). (x : ℕ) → (low ≤ x) × (x ≤ high) → classes w (successor (read a) (queue w .one g) x) ≡ classes w (stateCount a + successor (read b) (queue w .two g) x)) i (ready .closed) here)
     where
-      here : (x : ℕ) → (low ≤ x) × (x ≤ high) → classes w (successor (read a) (getD (w .one) i 0) x) ≡ classes w (stateCount a + successor (read b) (getD (w .two) i 0) x)
+      here : (x : ℕ) → (low ≤ x) × (x ≤ high) → classes w (successor (read a) (queue w .one i) x) ≡ classes w (stateCount a + successor (read b) (queue w .two i) x)
       here x s =
           let f = run-a .full x (s .0) (s .1) in
           let g = run-b .full x (s .0) (s .1) in
@@ -124,10 +124,10 @@ module _ (a b : List ℕ) (low high : ℕ) (ra rb : List ℕ) (n1 i j k : ℕ) (
       k-in : 5 * k + 5 ≤ length rb
       k-in = omega (arith, k-below)
 
-      next-p : successor (read a) (getD (w .one) i 0) x ≡ to-p
+      next-p : successor (read a) (queue w .one i) x ≡ to-p
       next-p = run-a .leads j x (a-in j j-in) (common .above) (common .below) (common .first-one) (common .last-one)
 
-      next-q : successor (read b) (getD (w .two) i 0) x ≡ to-q
+      next-q : successor (read b) (queue w .two i) x ≡ to-q
       next-q = run-b .leads k x (b-in k k-in) (common .above) (common .below) (common .first-two) (common .last-two)
 
       sets-few : w .sets .n ≤ 512
@@ -142,7 +142,7 @@ module _ (a b : List ℕ) (low high : ℕ) (ra rb : List ℕ) (n1 i j k : ℕ) (
       pub turn-small : (to-p < 512) × (n1 + to-q < 512)
       turn-small = (omega (arith, turn-join .1, sets-few), omega (arith, turn-join .2, sets-few))
 
-      pub turn-push : (w .made < 512) × (i < w .made) × (getD (w .depth) i 0 ≤ i)
+      pub turn-push : (w .made < 512) × (i < w .made) × (queue w .depth i ≤ i)
       turn-push = (made-few, ready .i-in, ready .good .walking .shallow i (ready .i-in))
 
       module _ (m n : ℕ) (is-m : m ≡ acceptOf (read a) to-p) (is-n : n ≡ acceptOf (read b) to-q) where
@@ -151,7 +151,7 @@ module _ (a b : List ℕ) (low high : ℕ) (ra rb : List ℕ) (n1 i j k : ℕ) (
 
         turn-offer : m ≡ n → (v : Pairs) → Offered w v n1 i x to-p to-q → Turning a b low high ra rb n1 i j (k + 1) v
         turn-offer s v o =
-            let o′ : Offered w v (stateCount a) i x (successor (read a) (getD (w .one) i 0) x) (successor (read b) (getD (w .two) i 0) x) = rw (ready .is-n1, ← next-p, ← next-q) at o in
+            let o′ : Offered w v (stateCount a) i x (successor (read a) (queue w .one i) x) (successor (read b) (queue w .two i) x) = rw (ready .is-n1, ← next-p, ← next-q) at o in
             let on = onward a b low high (ready .sheets) w v i x (ready .good) (ready .i-in) (common .above) (common .below) o′ (rw (next-p, next-q) (sym is-m ∙ s ∙ is-n)) in
             let z = on .0 in
             let t = total a b low high (ready .sheets) in
@@ -164,9 +164,9 @@ module _ (a b : List ℕ) (low high : ℕ) (ra rb : List ℕ) (n1 i j k : ℕ) (
                 good = z .good;
                 i-in = omega (arith, z .more, ready .i-in);
                 closed = λ g l y c. rw (z .same-one g (omega (arith, ready .i-in)), z .same-two g (omega (arith, ready .i-in)))
-                    (z .keeps (successor (read a) (getD (w .one) g 0) y) (stateCount a + successor (read b) (getD (w .two) g 0) y)
-                    (omega (arith, t .first .next-in (getD (w .one) g 0) y (ready .good .walking .in-one g (omega (arith, ready .i-in))) c))
-                    (omega (arith, t .second .next-in (getD (w .two) g 0) y (ready .good .walking .in-two g (omega (arith, ready .i-in))) c))
+                    (z .keeps (successor (read a) (queue w .one g) y) (stateCount a + successor (read b) (queue w .two g) y)
+                    (omega (arith, t .first .next-in (queue w .one g) y (ready .good .walking .in-one g (omega (arith, ready .i-in))) c))
+                    (omega (arith, t .second .next-in (queue w .two g) y (ready .good .walking .in-two g (omega (arith, ready .i-in))) c))
                     (ready .closed g l y c));
               };
               rows = λ g l c c-in y lo hi p q. z .keeps (getD ra (5 * g + 4) 0) (stateCount a + getD rb (5 * c + 4) 0) (omega (arith, to-a g (omega arith))) (omega (arith, to-b c c-in)) (u .rows g l c c-in y lo hi p q);
@@ -179,10 +179,7 @@ module _ (a b : List ℕ) (low high : ℕ) (ra rb : List ℕ) (n1 i j k : ℕ) (
           pub turn-had : fresh ≡ false → Turning a b low high ra rb n1 i j (k + 1) (withSets w d)
           turn-had h = turn-offer s (withSets w d) (offer-had w n1 i x to-p to-q sets-few (ready .good .sets .long) d (rw h at t))
 
-          pub turn-put : fresh ≡ true → (one two from by depth : List ℕ) → Stored (w .one) (w .two) (w .from) (w .by) (w .depth) (w .made) i x to-p to-q one two from by depth
-              → Turning a b low high ra rb n1 i j (k + 1) (record { sets = d; one = one; two = two; from = from; by = by; depth = depth; made = w .made + 1 })
-          turn-put h one two from by depth z =
-              turn-offer s (record { sets = d; one = one; two = two; from = from; by = by; depth = depth; made = w .made + 1 })
-              (offer-put w n1 i x to-p to-q sets-few (ready .good .sets .long) d (rw h at t) made-few one two from by depth z)
+          pub turn-put : fresh ≡ true → (l : List ℕ) → Stored (w .queue) (w .made) i x to-p to-q l → Turning a b low high ra rb n1 i j (k + 1) (record { sets = d; queue = l; made = w .made + 1 })
+          turn-put h l z = turn-offer s (record { sets = d; queue = l; made = w .made + 1 }) (offer-put w n1 i x to-p to-q sets-few (ready .good .sets .long) d (rw h at t) made-few l z)
 
 pub ruleset turning = (turn-begin, turn-row, turn-done, turn-accept-a, turn-accept-b, turn-skip, turn-differ, needs)

@@ -1,8 +1,9 @@
 -- What the functions of the walk ask and give.
-use Prim.Native.Nat.{ℕ, _+_, _≤_, _<_}
-use mathlib.Core.List.{List}
+use Prim.Native.Nat.{ℕ, _+_, _*_, _≤_, _<_}
+use mathlib.Core.List.{List, [], _∷_}
 use mathlib.Core.Path.{_≡_}
-use lib.ListN.{length, getD, set}
+use lib.ListN.{length, getD}
+use lib.Seq.{sets}
 use Rattle.automata.specs.Automaton.{Transition, leaving}
 use Rattle.automata.specs.Records.{writeRecords}
 use Rattle.sheets.specs.Accepted.{Accepted}
@@ -19,7 +20,7 @@ use Rattle.equality.specs.declared.pairs.Seen.{Seen}
 use Rattle.equality.specs.declared.pairs.Seen.the-variants.{Alike, Differ}
 use Rattle.equality.specs.Successors.{successor, acceptOf}
 use Rattle.equality.specs.Forced.{Two, states}
-use Rattle.equality.specs.Walking.{Queue, Trail, Walking, Closed, Pushed}
+use Rattle.equality.specs.Walking.{Queue, Walking, Closed, Pushed}
 
 -- the two automata of two sheets
 abbrev pub twoOf : List ℕ → List ℕ → ℕ → ℕ → Two
@@ -39,45 +40,33 @@ abbrev pub FirstOf : Transition → Transition → ℕ → ℕ → First → Typ
 FirstOf d e low high (Symbol x) = Common d e low high x
 FirstOf d e low high Nothing = (x : ℕ) → Common d e low high x → ⊥
 
--- the pairs met so far and the sets that they are joined in. Pair i is made of one[i] and two[i]; but for the first, it was met from
--- pair from[i] by the symbol by[i], and depth[i] symbols lead to it
+-- the queue that words are read as, five for each pair
+abbrev pub queueOf : List ℕ → Queue
+queueOf l = record { one = λ i. getD l (5 * i) 0; two = λ i. getD l (5 * i + 1) 0; from = λ i. getD l (5 * i + 2) 0; by = λ i. getD l (5 * i + 3) 0; depth = λ i. getD l (5 * i + 4) 0 }
+
+-- the pairs met so far, as words, and the sets that they are joined in
 pub record Pairs : Type 0 where
   pub sets : DSU
-  pub one : List ℕ
-  pub two : List ℕ
-  pub from : List ℕ
-  pub by : List ℕ
-  pub depth : List ℕ
+  pub queue : List ℕ
   pub made : ℕ
 
 -- the same of the arrays
-abbrev pub pairsOf : List ℕ → List ℕ → List ℕ → List ℕ → List ℕ → List ℕ → List ℕ → ℕ → ℕ → Pairs
-pairsOf repr size one two from by depth n made = record { sets = setsOf repr size n; one = one; two = two; from = from; by = by; depth = depth; made = made }
-
-abbrev pub trailOf : List ℕ → List ℕ → List ℕ → Trail
-trailOf from by depth = record { from = λ i. getD from i 0; by = λ i. getD by i 0; depth = λ i. getD depth i 0 }
+abbrev pub pairsOf : List ℕ → List ℕ → List ℕ → ℕ → ℕ → Pairs
+pairsOf repr size queue n made = record { sets = setsOf repr size n; queue = queue; made = made }
 
 -- a state's class, and the queue of pairs
 abbrev pub classes : Pairs → ℕ → ℕ
 classes w = classOf (w .sets)
 
 abbrev pub queue : Pairs → Queue
-queue w = record { one = λ i. getD (w .one) i 0; two = λ i. getD (w .two) i 0; from = λ i. getD (w .from) i 0; by = λ i. getD (w .by) i 0; depth = λ i. getD (w .depth) i 0 }
+queue w = queueOf (w .queue)
 
--- the lists are as long as the arrays
-pub record Long (w : Pairs) : Type 0 where
-  pub one : length (w .one) ≡ 512
-  pub two : length (w .two) ≡ 512
-  pub from : length (w .from) ≡ 512
-  pub by : length (w .by) ≡ 512
-  pub depth : length (w .depth) ≡ 512
-
--- valid join sets of n elements
+-- valid join sets of n elements, and room for 512 pairs
 pub record Sets (w : Pairs) (n : ℕ) : Type 0 where
   pub valid : Valid (w .sets)
   pub is-n : w .sets .n ≡ n
   pub few : n ≤ 512
-  pub long : Long w
+  pub long : length (w .queue) ≡ 2560
 
 -- fresh sets with p and n1 + q joined, and the pair p, q
 pub record Begun (n n1 p q : ℕ) (r : Pairs) : Type 0 where
@@ -86,22 +75,18 @@ pub record Begun (n n1 p q : ℕ) (r : Pairs) : Type 0 where
   pub fresh : (x y : ℕ) → x < n → y < n → alone x ≡ alone y → x ≡ y
   pub all : Classes (λ x y. alone x ≡ alone y) n n
   pub merges : Merges n alone (classes r) p (n1 + q)
-  pub at-one : getD (r .one) 0 0 ≡ p
-  pub at-two : getD (r .two) 0 0 ≡ q
-  pub at-depth : getD (r .depth) 0 0 ≡ 0
+  pub at-one : queue r .one 0 ≡ p
+  pub at-two : queue r .two 0 ≡ q
+  pub at-depth : queue r .depth 0 ≡ 0
   pub made : r .made ≡ 1
 
--- one′ to depth′ are the lists one to depth with the pair p, q, met from pair i by x, behind the others
-pub record Stored (one two from by depth : List ℕ) (made i x p q : ℕ) (one′ two′ from′ by′ depth′ : List ℕ) : Type 0 where
-  pub put-one : one′ ≡ set one made p
-  pub put-two : two′ ≡ set two made q
-  pub put-from : from′ ≡ set from made i
-  pub put-by : by′ ≡ set by made x
-  pub put-depth : depth′ ≡ set depth made (getD depth i 0 + 1)
+-- l′ are the words l with the pair p, q, met from pair i by x, behind the others
+abbrev pub Stored : List ℕ → ℕ → ℕ → ℕ → ℕ → ℕ → List ℕ → Type 0
+Stored l made i x p q l′ = l′ ≡ sets l (5 * made) (p ∷ q ∷ i ∷ x ∷ (getD l (5 * i + 4) 0 + 1) ∷ [])
 
 -- w with other sets
 abbrev pub withSets : Pairs → DSU → Pairs
-withSets w d = record { sets = d; one = w .one; two = w .two; from = w .from; by = w .by; depth = w .depth; made = w .made }
+withSets w d = record { sets = d; queue = w .queue; made = w .made }
 
 -- r is w where p and n1 + q were joined before; else they are now, and the pair is the last
 pub data Offered (w r : Pairs) (n1 i x p q : ℕ) : Type 0 where
@@ -124,8 +109,8 @@ pub record Sheets (a b : List ℕ) (low high : ℕ) : Type 0 where
 pub record Ready (a b : List ℕ) (low high : ℕ) (ra rb : List ℕ) (n1 i : ℕ) (w : Pairs) : Type 0 where
   pub sheets : Sheets a b low high
   pub is-n1 : n1 ≡ stateCount a
-  pub run-a : ra ≡ writeRecords (leaving (read a) (getD (w .one) i 0))
-  pub run-b : rb ≡ writeRecords (leaving (read b) (getD (w .two) i 0))
+  pub run-a : ra ≡ writeRecords (leaving (read a) (queue w .one i))
+  pub run-b : rb ≡ writeRecords (leaving (read b) (queue w .two i))
   pub good : Good (twoOf a b low high) w
   pub i-in : i < w .made
   pub closed : Closed (twoOf a b low high) (classes w) (queue w) i
@@ -133,7 +118,7 @@ pub record Ready (a b : List ℕ) (low high : ℕ) (ra rb : List ℕ) (n1 i : �
 -- pair i is done, or x leads to a difference
 abbrev pub Saw : Two → ℕ → Pairs → Seen → Type 0
 Saw t i w Alike = Good t w × (i < w .made) × Closed t (classes w) (queue w) (i + 1)
-Saw t i w (Differ x) = Good t w × (i < w .made) × (t .low ≤ x) × (x ≤ t .high) × (acceptOf (t .one) (successor (t .one) (getD (w .one) i 0) x) ≡ acceptOf (t .two) (successor (t .two) (getD (w .two) i 0) x) → ⊥)
+Saw t i w (Differ x) = Good t w × (i < w .made) × (t .low ≤ x) × (x ≤ t .high) × (acceptOf (t .one) (successor (t .one) (queue w .one i) x) ≡ acceptOf (t .two) (successor (t .two) (queue w .two i) x) → ⊥)
 
 -- two such sheets and a buffer
 pub record Given (a b : List ℕ) (low high : ℕ) (o : List ℕ) : Type 0 where

@@ -1,12 +1,14 @@
 // The walk over pairs of states of two deterministic automata: the starts are joined, and pairs are met over the common ranges of their
 // records. Each pair joins two classes of states, so that there are fewer pairs than states; for each, every record of the one state is
 // held against every record of the other.
+// The pairs stand in a queue of five words each: the first state, the second, the pair that it was met from, the symbol, and how many
+// symbols lead to it. The first pair was met from none.
 ghost use mathlib.Core.Path.{_≡_};
-ghost use Prim.Native.Nat.{_≤_, _<_};
+ghost use Prim.Native.Nat.{_+_, _*_, _≤_, _<_};
 ghost use lib.ListN.{length, getD};
 ghost use Rattle.automata.specs.Records.{recordAt};
-ghost use Rattle.equality.specs.Walking.{Chained, Spelled};
-ghost use Rattle.equality.specs.Code.{twoOf, FirstOf, pairsOf, trailOf, Stored, Ready, Saw, Going, Given};
+ghost use Rattle.equality.specs.Walking.{trail, Chained, Spelled};
+ghost use Rattle.equality.specs.Code.{twoOf, FirstOf, queueOf, pairsOf, Stored, Ready, Saw, Going, Given};
 ghost use Rattle.equality.specs.Verdict.{Decided};
 use crate::Verdict;
 use dsu::DSU;
@@ -46,55 +48,38 @@ fn first_common(d: &[u32], e: &[u32], low: u32, high: u32) -> First
 }
 
 // The pair p, q, met from pair i by x, put behind the others.
-fn push(
-    one: &mut [u32; 512],
-    two: &mut [u32; 512],
-    from: &mut [u32; 512],
-    by: &mut [u32; 512],
-    depth: &mut [u32; 512],
-    made: usize,
-    i: usize,
-    x: u32,
-    p: u32,
-    q: u32,
-)
-    requires { ⌜ (made < 512) × (i < made) × (getD (now depth) i 0 ≤ i) ⌝ }
-    ensures { λ r. ⌜ Stored (now (one .entry)) (now (two .entry)) (now (from .entry)) (now (by .entry)) (now (depth .entry)) made i x p q (now (one .exit)) (now (two .exit)) (now (from .exit)) (now (by .exit)) (now (depth .exit)) ⌝ }
+fn push(queue: &mut [u32; 2560], made: usize, i: usize, x: u32, p: u32, q: u32)
+    requires { ⌜ (made < 512) × (i < made) × (getD (now queue) (5 * i + 4) 0 ≤ i) ⌝ }
+    ensures { λ r. ⌜ Stored (now (queue .entry)) made i x p q (now (queue .exit)) ⌝ }
 {
-    one[made] = p;
-    two[made] = q;
-    from[made] = i as u32;
-    by[made] = x;
-    depth[made] = depth[i] + 1;
+    let deep = queue[5 * i + 4] + 1;
+    let at = 5 * made;
+    queue[at] = p;
+    queue[at + 1] = q;
+    queue[at + 2] = i as u32;
+    queue[at + 3] = x;
+    queue[at + 4] = deep;
 }
 
 // The word that leads to the successors of pair i under x, at the front of out; how many symbols it has.
-fn spell(
-    from: &[u32; 512],
-    by: &[u32; 512],
-    depth: &[u32; 512],
-    i: usize,
-    x: u32,
-    out: &mut [u32],
-) -> usize
-    requires { ⌜ Chained (trailOf (now from) (now by) (now depth)) i × (i < 512) × (getD (now depth) i 0 < length (now out)) ⌝ }
-    ensures { λ n. ⌜ Spelled (trailOf (now (from .entry)) (now (by .entry)) (now (depth .entry))) i x n (now (out .entry)) (now (out .exit)) ⌝ }
+fn spell(queue: &[u32; 2560], i: usize, x: u32, out: &mut [u32]) -> usize
+    requires { ⌜ Chained (trail (queueOf (now queue))) i × (i < 512) × (getD (now queue) (5 * i + 4) 0 < length (now out)) ⌝ }
+    ensures { λ n. ⌜ Spelled (trail (queueOf (now (queue .entry)))) i x n (now (out .entry)) (now (out .exit)) ⌝ }
 {
-    let mut at = depth[i] as usize;
+    let mut at = queue[5 * i + 4] as usize;
     let n = at + 1;
     out[at] = x;
     let mut c = i;
     while 0 < at {
         at -= 1;
-        out[at] = by[c];
-        c = from[c] as usize;
+        out[at] = queue[5 * c + 3];
+        c = queue[5 * c + 2] as usize;
     }
     n
 }
 
 // The successors of pair i, which has the records ra and rb, up to the first two that differ in acceptance: joined, and put behind the
-// other pairs where they were not joined before. Pair i is made of one[i] and two[i]; but for the first, it was met from pair from[i]
-// by the symbol by[i], and depth[i] symbols lead to it. repr and size are the join sets of the n states of both.
+// other pairs where they were not joined before. repr and size are the join sets of the n states of both.
 fn turn(
     a: &[u32],
     b: &[u32],
@@ -104,18 +89,14 @@ fn turn(
     high: u32,
     repr: &mut [u32; 512],
     size: &mut [u32; 512],
-    one: &mut [u32; 512],
-    two: &mut [u32; 512],
-    from: &mut [u32; 512],
-    by: &mut [u32; 512],
-    depth: &mut [u32; 512],
+    queue: &mut [u32; 2560],
     n: usize,
     mut made: usize,
     n1: usize,
     i: usize,
 ) -> Turned
-    requires { ⌜ Ready (now a) (now b) low high (now ra) (now rb) n1 i (pairsOf (now repr) (now size) (now one) (now two) (now from) (now by) (now depth) n made) ⌝ }
-    ensures { λ r. ⌜ Saw (twoOf (now (a .entry)) (now (b .entry)) low high) i (pairsOf (now (repr .exit)) (now (size .exit)) (now (one .exit)) (now (two .exit)) (now (from .exit)) (now (by .exit)) (now (depth .exit)) n (r .made)) (r .seen) ⌝ }
+    requires { ⌜ Ready (now a) (now b) low high (now ra) (now rb) n1 i (pairsOf (now repr) (now size) (now queue) n made) ⌝ }
+    ensures { λ r. ⌜ Saw (twoOf (now (a .entry)) (now (b .entry)) low high) i (pairsOf (now (repr .exit)) (now (size .exit)) (now (queue .exit)) n (r .made)) (r .seen) ⌝ }
 {
     let ca = ra.len() / 5;
     let cb = rb.len() / 5;
@@ -124,21 +105,23 @@ fn turn(
         if ca <= j {
             break 'runs Seen::Alike;
         }
+        let at_a = 5 * j;
         let mut k: usize = 0;
         while k < cb {
-            match first_common(&ra[5 * j..5 * j + 5], &rb[5 * k..5 * k + 5], low, high) {
+            let at_b = 5 * k;
+            match first_common(&ra[at_a..at_a + 5], &rb[at_b..at_b + 5], low, high) {
                 First::Nothing => {
                     k += 1;
                 }
                 First::Symbol(x) => {
-                    let p = ra[5 * j + 4];
-                    let q = rb[5 * k + 4];
+                    let p = ra[at_a + 4];
+                    let q = rb[at_b + 4];
                     if sheets::accept_word(a, p) != sheets::accept_word(b, q) {
                         break 'runs Seen::Differ(x);
                     }
                     k += 1;
                     if dsu::join_in(repr, size, n, p as usize, n1 + q as usize) {
-                        push(one, two, from, by, depth, made, i, x, p, q);
+                        push(queue, made, i, x, p, q);
                         made += 1;
                     }
                 }
@@ -160,23 +143,19 @@ fn walk_pairs(
     high: u32,
     repr: &mut [u32; 512],
     size: &mut [u32; 512],
-    one: &mut [u32; 512],
-    two: &mut [u32; 512],
-    from: &mut [u32; 512],
-    by: &mut [u32; 512],
-    depth: &mut [u32; 512],
+    queue: &mut [u32; 2560],
     n: usize,
     mut made: usize,
     n1: usize,
     word: &mut [u32],
 ) -> Verdict
-    requires { ⌜ Going (now a) (now b) (now «starts_a») (now «starts_b») low high n1 0 (pairsOf (now repr) (now size) (now one) (now two) (now from) (now by) (now depth) n made) (now word) ⌝ }
+    requires { ⌜ Going (now a) (now b) (now «starts_a») (now «starts_b») low high n1 0 (pairsOf (now repr) (now size) (now queue) n made) (now word) ⌝ }
     ensures { λ r. ⌜ Decided (twoOf (now (a .entry)) (now (b .entry)) low high) (now (word .entry)) (now (word .exit)) r ⌝ }
 {
     let mut head: usize = 0;
     while head < made {
-        let p = one[head];
-        let q = two[head];
+        let p = queue[5 * head];
+        let q = queue[5 * head + 1];
         let ra = sheets::run(a, starts_a, p);
         let rb = sheets::run(b, starts_b, q);
         let t = turn(
@@ -188,11 +167,7 @@ fn walk_pairs(
             high,
             repr,
             size,
-            one,
-            two,
-            from,
-            by,
-            depth,
+            queue,
             n,
             made,
             n1,
@@ -202,7 +177,7 @@ fn walk_pairs(
         let seen = t.seen;
         match seen {
             Seen::Differ(x) => {
-                return Verdict::Different(spell(from, by, depth, head, x, word));
+                return Verdict::Different(spell(queue, head, x, word));
             }
             Seen::Alike => {
                 head += 1;
@@ -240,13 +215,9 @@ pub fn walk(a: &[u32], b: &[u32], low: u32, high: u32, word: &mut [u32]) -> Verd
         first as usize,
         n1 + second as usize,
     );
-    let mut one = [0u32; 512];
-    let mut two = [0u32; 512];
-    let mut from = [0u32; 512];
-    let mut by = [0u32; 512];
-    let mut depth = [0u32; 512];
-    one[0] = first;
-    two[0] = second;
+    let mut queue = [0u32; 2560];
+    queue[0] = first;
+    queue[1] = second;
     walk_pairs(
         a,
         b,
@@ -256,11 +227,7 @@ pub fn walk(a: &[u32], b: &[u32], low: u32, high: u32, word: &mut [u32]) -> Verd
         high,
         &mut repr,
         &mut size,
-        &mut one,
-        &mut two,
-        &mut from,
-        &mut by,
-        &mut depth,
+        &mut queue,
         n,
         1,
         n1,

@@ -1,6 +1,7 @@
 -- `turn` meets its contract: the rows before `j` are done, and of row `j` the records before `k`.
 use Prim.Native.Nat.{_-_}
 use native.Mathlib.Omega.{arith}
+use Rattle.dsu.specs.Sets.{setsOf}
 use Rattle.equality.specs.Code.{pairsOf}
 use Rattle.equality.proofs.Turning.{Turning, turning, turn-accept-a, turn-accept-b, turn-join, turn-small, turn-push, turn-had, turn-put, turn-row, turn-done, turn-differ}
 use borrow.Author.Needs.{needs}
@@ -8,16 +9,16 @@ use Rattle.equality.proofs.pairs.turn.Statement.{statement}
 use Rattle.equality.proofs.pairs.turn.Tie as tie
 
 abbrev Inv-loop : tie.InvT-loop
-Inv-loop a b ra rb low high repr₀ size₀ one₀ two₀ from₀ by₀ depth₀ n made₀ n1 i ca cb j k₀ repr size one two from by depth made k = Turning a b low high ra rb n1 i j k (pairsOf repr size one two from by depth n made)
+Inv-loop a b ra rb low high repr₀ size₀ queue₀ n made₀ n1 i ca cb j at-a k₀ repr size queue made k = Turning a b low high ra rb n1 i j k (pairsOf repr size queue n made)
 
 abbrev μ-loop : tie.MeasureT-loop
-μ-loop a b ra rb low high repr₀ size₀ one₀ two₀ from₀ by₀ depth₀ n made₀ n1 i ca cb j k₀ repr size one two from by depth made k = cb - k
+μ-loop a b ra rb low high repr₀ size₀ queue₀ n made₀ n1 i ca cb j at-a k₀ repr size queue made k = cb - k
 
 abbrev Inv-runs : tie.InvT-runs
-Inv-runs a b ra rb low high repr₀ size₀ one₀ two₀ from₀ by₀ depth₀ n made₀ n1 i ca cb j₀ repr size one two from by depth made j = Turning a b low high ra rb n1 i j 0 (pairsOf repr size one two from by depth n made)
+Inv-runs a b ra rb low high repr₀ size₀ queue₀ n made₀ n1 i ca cb j₀ repr size queue made j = Turning a b low high ra rb n1 i j 0 (pairsOf repr size queue n made)
 
 abbrev μ-runs : tie.MeasureT-runs
-μ-runs a b ra rb low high repr₀ size₀ one₀ two₀ from₀ by₀ depth₀ n made₀ n1 i ca cb j₀ repr size one two from by depth made j = ca - j
+μ-runs a b ra rb low high repr₀ size₀ queue₀ n made₀ n1 i ca cb j₀ repr size queue made j = ca - j
 
 accept-word-requires : tie.Need-accept-word-requires Inv-loop μ-loop Inv-runs μ-runs
 accept-word-requires c κs =
@@ -60,25 +61,26 @@ join-in-requires c κs =
 
 push-requires : tie.Need-push-requires Inv-loop μ-loop Inv-runs μ-runs
 push-requires c κs =
-    let e = c .before .before .before .before .before .before .before .before .before in
+    let e = c .before .before .before .before .before in
     let f = e .before .before .before .before .before .before .before .before in
     let l = f .before .before .before .before in
     turn-push _ _ _ _ _ _ _ _ _ _ _ (l .loop .inv) _ (f .first-common .ensures) _ (e .before .before .before .before .before .before .x .given .1) (l .before .if1 .left) (f .before .before .before .loop-test .taken)
 
 add-made : tie.Need-add-made Inv-loop μ-loop Inv-runs μ-runs
 add-made c =
-    let e = c .before .before .before .before .before .before .before .before .before .before in
+    let e = c .before .before .before .before .before .before in
     let f = e .before .before .before .before .before .before .before .before in
     let l = f .before .before .before .before in
     record { fits = omega (arith, turn-push _ _ _ _ _ _ _ _ _ _ _ (l .loop .inv) _ (f .first-common .ensures) _ (e .before .before .before .before .before .before .x .given .1) (l .before .if1 .left) (f .before .before .before .loop-test .taken) .0) }
 
 loop-again-2 : tie.Need-loop-again-2 Inv-loop μ-loop Inv-runs μ-runs
 loop-again-2 c =
-    let e = c .before .before .before .before .before .before .before .before .before .before in
+    let e = c .before .before .before .before .before .before in
     let f = e .before .before .before .before .before .before .before .before in
     let l = f .before .before .before .before in
+    let j = c .before .before .before .join-in in
     turn-put _ _ _ _ _ _ _ _ _ _ _ (l .loop .inv) _ (f .first-common .ensures) _ (e .before .before .before .before .before .before .x .given .1) (l .before .if1 .left) (f .before .before .before .loop-test .taken)
-    _ _ (e .before .before .accept-word .ensures) (e .before .accept-word2 .ensures) (e .if2 .left) _ _ (c .before .before .before .before .before .before .before .join-in .ensures) (c .before .before .before .before .before .before .if3 .taken) _ _ _ _ _ (c .push .ensures)
+    _ _ (e .before .before .accept-word .ensures) (e .before .accept-word2 .ensures) (e .if2 .left) (setsOf (j .last .0) (j .last .1 .0) (l .before .before .before .before .before .before .before .args .n)) _ (j .ensures) (c .before .before .if3 .taken) _ (c .push .ensures)
 
 loop-again-3 : tie.Need-loop-again-3 Inv-loop μ-loop Inv-runs μ-runs
 loop-again-3 c =
@@ -87,9 +89,6 @@ loop-again-3 c =
     let l = f .before .before .before .before in
     turn-had _ _ _ _ _ _ _ _ _ _ _ (l .loop .inv) _ (f .first-common .ensures) _ (e .before .before .before .before .before .before .x .given .1) (l .before .if1 .left) (f .before .before .before .loop-test .taken)
     _ _ (e .before .before .accept-word .ensures) (e .before .accept-word2 .ensures) (e .if2 .left) _ _ (c .before .join-in .ensures) (c .if3 .left)
-
-mul-q : tie.Need-mul-q Inv-loop μ-loop Inv-runs μ-runs
-mul-q c = record { fits = omega (arith, c .before .before .before .before .before .before .before .loop-test .taken, c .before .before .before .before .before .before .before .before .before .before .before .before .before .before .before .good .1 .1 .1 .0) }
 
 add-q : tie.Need-add-q Inv-loop μ-loop Inv-runs μ-runs
 add-q c = record { fits = omega (arith, c .before .before .before .before .before .before .before .loop-test .taken, c .before .before .before .before .before .before .before .before .before .before .before .before .before .before .before .good .1 .1 .1 .0) }
@@ -109,15 +108,10 @@ returns-2 c =
 pub turn-spec : {M : Type 1} → statement M
 turn-spec =
     tie.close
-    (tie.spec Inv-loop μ-loop Inv-runs μ-runs (λ c. search turning) (λ c. search needs) (λ c. search needs) (λ c. search needs)
-    (λ c. search needs) (λ c. search needs) (λ c. search needs) (λ c. search needs) (λ c. search needs)
-    (λ c. search needs) (λ c. search needs) (λ c. search needs) (λ c. search needs) (λ c. search needs)
-    (λ c. search needs) (λ c. search needs) (λ c κs. search needs) (λ c. search needs) (λ c. search needs)
-    (λ c. search needs) (λ c. search turning) (λ c. search needs) (λ c. search needs) (λ c. search needs)
-    (λ c. search needs) (λ c. search needs) mul-q add-q
+    (tie.spec Inv-loop μ-loop Inv-runs μ-runs (λ c. search turning) (λ c. search needs) (λ c. search needs) (λ c. search needs) (λ c. search needs) (λ c. search needs) (λ c. search needs) (λ c. search needs) (λ c. search needs) (λ c. search needs) (λ c. search needs) (λ c. search needs) (λ c. search needs) (λ c. search needs) (λ c κs. search needs) (λ c. search needs) (λ c. search needs) (λ c. search needs) (λ c. search turning) (λ c. search needs) (λ c. search needs) (λ c. search needs) (λ c. search needs) add-q
     (λ c. search (c .before .before .before .before .before .before .before .loop-test .taken, c .before .before .before .before .before .before .before .before .before .before .before .before .before .before .before .good .1 .1 .1 .0, needs))
     (λ c. search (c .before .before .before .before .before .before .before .before .loop-test .taken, needs)) accept-word-requires accept-word-requires-2 add-k-2 cast-join-in cast-join-in-2
     add-join-in join-in-requires push-requires add-made
-    (λ c. omega (arith, c .before .before .before .before .before .before .before .before .before .before .before .before .before .before .before .before .before .before .before .before .before .loop-test .taken)) loop-again-2
+    (λ c. omega (arith, c .before .before .before .before .before .before .before .before .before .before .before .before .before .before .before .before .before .loop-test .taken)) loop-again-2
     (λ c. omega (arith, c .before .before .before .before .before .before .before .before .before .before .before .before .before .before .before .loop-test .taken)) loop-again-3
     (λ c. search needs) (λ c. search needs) runs-again returns returns-2)
