@@ -15,18 +15,21 @@ module _ (l : List ℕ) (made i x p q : ℕ) (room : made < 512) (long : length 
   pub stored-long : length l′ ≡ 2560
   stored-long = ap length e ∙ length-sets l (5 * made) words ∙ long
 
+  -- the words before the pair, the pair's, and those behind
   whole : l′ ≡ take (5 * made) l ++ (words ++ drop (5 * made + 5) l)
   whole = e ∙ sets-eq words l (5 * made) (omega arith) ∙ append-assoc (take (5 * made) l) words _
 
   front : length (take (5 * made) l) ≡ 5 * made
   front = length-take-le (5 * made) l (omega arith)
 
+  -- a word before the pair, and one of the pair's or behind
   before : (k : ℕ) → k < 5 * made → getD l′ k 0 ≡ getD l k 0
   before k h = sym (getD-take (5 * made) l′ k 0 h) ∙ ap (λ (s : List ℕ). getD s k 0) (ap (take (5 * made)) whole ∙ take-at (take (5 * made) l) _ (5 * made) front) ∙ getD-take (5 * made) l k 0 h
 
   here : (k : ℕ) → getD l′ (5 * made + k) 0 ≡ getD (words ++ drop (5 * made + 5) l) k 0
   here k = sym (getD-drop (5 * made) l′ k 0) ∙ ap (λ (s : List ℕ). getD s k 0) (ap (drop (5 * made)) whole ∙ drop-at (take (5 * made) l) _ (5 * made) front)
 
+  -- so the queue has one pair more
   pub stored-pushed : Pushed (queueOf l) (queueOf l′) made i x p q
   stored-pushed = record {
     keep-one = λ j h. before (5 * j) (omega arith);

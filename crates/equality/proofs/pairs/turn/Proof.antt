@@ -108,7 +108,11 @@ returns-2 c =
 pub turn-spec : {M : Type 1} → statement M
 turn-spec =
     tie.close
-    (tie.spec Inv-loop μ-loop Inv-runs μ-runs (λ c. search turning) (λ c. search needs) (λ c. search needs) (λ c. search needs) (λ c. search needs) (λ c. search needs) (λ c. search needs) (λ c. search needs) (λ c. search needs) (λ c. search needs) (λ c. search needs) (λ c. search needs) (λ c. search needs) (λ c. search needs) (λ c κs. search needs) (λ c. search needs) (λ c. search needs) (λ c. search needs) (λ c. search turning) (λ c. search needs) (λ c. search needs) (λ c. search needs) (λ c. search needs) add-q
+    (tie.spec Inv-loop μ-loop Inv-runs μ-runs (λ c. search turning) (λ c. search needs) (λ c. search needs)
+    (λ c. search needs) (λ c. search needs) (λ c. search needs) (λ c. search needs) (λ c. search needs) (λ c. search needs)
+    (λ c. search needs) (λ c. search needs) (λ c. search needs) (λ c. search needs) (λ c. search needs)
+    (λ c κs. search needs) (λ c. search needs) (λ c. search needs) (λ c. search needs) (λ c. search turning)
+    (λ c. search needs) (λ c. search needs) (λ c. search needs) (λ c. search needs) add-q
     (λ c. search (c .before .before .before .before .before .before .before .loop-test .taken, c .before .before .before .before .before .before .before .before .before .before .before .before .before .before .before .good .1 .1 .1 .0, needs))
     (λ c. search (c .before .before .before .before .before .before .before .before .loop-test .taken, needs)) accept-word-requires accept-word-requires-2 add-k-2 cast-join-in cast-join-in-2
     add-join-in join-in-requires push-requires add-made
