@@ -1,11 +1,12 @@
 -- Reading and writing records: the law in each direction, lengths, and records by their place.
 use Prim.Native.Nat.{ℕ, zero, suc, _+_, _-_, _*_, _≤_, _<_}
-use mathlib.Core.List.{List, [], _∷_, _++_}
+use mathlib.Core.List.{List, [], _∷_, _++_, List·Memᴰ·head, List·Memᴰ·tail}
 use mathlib.Core.Path.{_≡_, refl, _∙_, ap}
 use native.Mathlib.Nat.{add-sub-cancel-left}
 use native.Mathlib.Omega.{arith}
 use lib.ListN.{length, getD, take, drop, length-drop}
 use lib.Seq.{drop-drop, getD-drop, getD-take}
+use Rattle.lists.specs.Lists.{_∈_}
 use Rattle.automata.specs.Automaton.{Transition}
 use Rattle.automata.specs.Records.{wordsOf, readRecords, writeRecords, recordAt}
 
@@ -99,3 +100,14 @@ part-record t at = rw (add-sub-cancel-left, field 0 (omega arith), field 1 (omeg
 
     field : (i : ℕ) → i < 5 → getD (take 5 (drop at t)) i 0 ≡ getD t (at + i) 0
     field i h = getD-take 5 (drop at t) i 0 h ∙ getD-drop at t i 0
+
+-- where no word is over k, no record ends above k
+pub records-most : (k : ℕ) (s : List ℕ) → ((i : ℕ) → getD s i 0 ≤ k) → (e : Transition) → e ∈ readRecords s → e .last ≤ k
+unfolding readRecords
+records-most k [] h e m = elim m [ ]
+records-most k (a ∷ []) h e m = elim m [ ]
+records-most k (a ∷ b ∷ []) h e m = elim m [ ]
+records-most k (a ∷ b ∷ c ∷ []) h e m = elim m [ ]
+records-most k (a ∷ b ∷ c ∷ d ∷ []) h e m = elim m [ ]
+records-most k (a ∷ b ∷ c ∷ d ∷ f ∷ s) h e (List·Memᴰ·head q) = rw q (h 3)
+records-most k (a ∷ b ∷ c ∷ d ∷ f ∷ s) h e (List·Memᴰ·tail m) = records-most k s (λ i. h (suc (suc (suc (suc (suc i)))))) e m

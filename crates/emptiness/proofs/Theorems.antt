@@ -2,7 +2,7 @@
 -- empty accepts no word exactly when no reachable state accepts.
 use Prim.Native.Nat.{ℕ, zero, suc, _+_, _≤_, _<_}
 use mathlib.Core.Bool.{Bool, true, false, cond, true≢false}
-use mathlib.Core.List.{List, [], _∷_, List·Memᴰ·head, List·Memᴰ·tail}
+use mathlib.Core.List.{List, [], _∷_}
 use mathlib.Core.Logic.{_↔_, ⊎-elim}
 use mathlib.Core.Path.{_≡_, refl, sym, _∙_, ap}
 use native.Mathlib.Nat.{le-refl}
@@ -16,8 +16,8 @@ use Rattle.lists.proofs.Lists.{any-in, any-out}
 use Rattle.lists.proofs.Tests.{test}
 use Rattle.automata.specs.Automaton.{Transition, Automaton, Run, Accepts, Word, none, more, InBounds}
 use Rattle.automata.specs.Automaton as runs
-use Rattle.automata.specs.Records.{readRecords}
 use Rattle.automata.specs.WellFormed.{WellFormed, lastSymbol}
+use Rattle.automata.proofs.Records.{records-most}
 use Rattle.refusal.specs.Answer.{refused, given}
 use Rattle.sets.proofs.Sets.{mem-has, has-mem}
 use Rattle.sheets.specs.Checked.{sheetFirst}
@@ -89,22 +89,11 @@ module _ (A : Automaton) (w : WellFormed A) where
     λ n. ⊎-elim (λ c. let r = some-word c in absurd (n (r .1 .word) (r .1 .symbols hi t) (r .0, r .1 .run, r .2))) (λ c. c) (test (hasReachableAccepting A)),
   )
 
--- the words of a sheet bound the symbols of its ranges
-lasts : (l : List ℕ) (b : ℕ) → ((i : ℕ) → getD l i 0 ≤ b) → (e : Transition) → e ∈ readRecords l → e .last ≤ b
-unfolding readRecords
-lasts [] b h e m = elim m [ ]
-lasts (v ∷ []) b h e m = elim m [ ]
-lasts (v ∷ w ∷ []) b h e m = elim m [ ]
-lasts (v ∷ w ∷ x ∷ []) b h e m = elim m [ ]
-lasts (v ∷ w ∷ x ∷ y ∷ []) b h e m = elim m [ ]
-lasts (v ∷ w ∷ x ∷ y ∷ z ∷ l) b h e (List·Memᴰ·head q) = rw q (h 3)
-lasts (v ∷ w ∷ x ∷ y ∷ z ∷ l) b h e (List·Memᴰ·tail m) = lasts l b (λ i. h (suc (suc (suc (suc (suc i)))))) e m
-
 -- a sheet of u32 words: it is empty exactly when no word of u32 symbols is accepted
 pub empty-sheet : (s : List ℕ) → fault s ≡ 0 → ((i : ℕ) → getD s i 0 ≤ lastSymbol) → (reachableAnswer s ≡ given false) ↔ ((v : List ℕ) → Word 0 lastSymbol v → Accepts (read s) v → ⊥)
 unfolding reachableAnswer sheetFirst
 empty-sheet s f b =
-    let r = empty-symbols (read s) (read-well s (accepted s f)) lastSymbol (lasts (drop (recordsAt s) s) lastSymbol (λ i. rw (getD-drop (recordsAt s) s i 0) (b (recordsAt s + i)))) in
+    let r = empty-symbols (read s) (read-well s (accepted s f)) lastSymbol (records-most lastSymbol (drop (recordsAt s) s) (λ i. rw (getD-drop (recordsAt s) s i 0) (b (recordsAt s + i)))) in
     (λ h. r .0 (out (rw f at h)), λ n. rw f (ap given (r .1 n)))
   where
     out : given (hasReachableAccepting (read s)) ≡ given false → hasReachableAccepting (read s) ≡ false

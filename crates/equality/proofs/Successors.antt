@@ -16,6 +16,7 @@ use Rattle.automata.specs.Automaton.{Transition, Automaton, Run, stay, skip, re
 use Rattle.automata.specs.Records.{recordAt, readRecords, writeRecords}
 use Rattle.automata.proofs.Records.{read-write, read-drop, records-at, length-write}
 use Rattle.automata.specs.Deterministic.{Deterministic}
+use Rattle.automata.proofs.Leaving.{leaves, leaving-in}
 use Rattle.equality.specs.Successors.{firstTarget, successor, stateAfter, acceptOf, acceptAfter}
 
 -- a record of a list of transitions that is written as words
@@ -84,23 +85,15 @@ module _ (lo hi : ℕ) (D : Automaton) (det : Deterministic lo hi D) where
         subst (λ (q : ℕ). q < D .size) (sym (successor-is p x h (s .0) (s .1) (e .0) (e .1) (e .2) (e .3) (e .4))) (ok .tos (e .0) (e .1))
 
     module _ (p : ℕ) (p-in : p < D .size) where
-      out : (e : Transition) → e ∈ leaving D p → e ∈ D .transitions × (e .from ≡ p)
-      unfolding leaving
-      out e m = let k = keep-out _ e (D .transitions) m in (k .0, eqb-true _ _ (k .1))
-
-      into : (e : Transition) → e ∈ D .transitions → e .from ≡ p → e ∈ leaving D p
-      unfolding leaving
-      into e m f = keep-in _ m (eq-eqb _ _ f)
-
       pub run-of : (l : List ℕ) → l ≡ writeRecords (leaving D p) → RunOf D lo hi p l
       run-of l is = subst (RunOf D lo hi p) (sym is) (record {
         count = length (leaving D p);
         whole = length-write (leaving D p);
-        leads = λ j x h above below a b. let k = out _ (written-mem (leaving D p) j h) in successor-is p x p-in above below _ (k .0) (k .1) a b;
-        inside = λ j h. ok .tos _ (out _ (written-mem (leaving D p) j h) .0);
+        leads = λ j x h above below a b. let k = leaves D p _ (written-mem (leaving D p) j h) in successor-is p x p-in above below _ (k .0) (k .1) a b;
+        inside = λ j h. ok .tos _ (leaves D p _ (written-mem (leaving D p) j h) .0);
         full = λ x above below.
             let e = successor-held p x p-in above below in
-            let w = written-place (leaving D p) (e .0) (into (e .0) (e .1) (e .2)) in
+            let w = written-place (leaving D p) (e .0) (leaving-in D p (e .0) (e .1) (e .2)) in
             (w .0, w .1, subst (λ (d : Transition). d .first ≤ x) (sym (w .2)) (e .3), subst (λ (d : Transition). x ≤ d .last) (sym (w .2)) (e .4));
       })
 

@@ -1,5 +1,5 @@
 -- Laws of written memory: one run behind another is one run, and lengths are kept.
-use Prim.Native.Nat.{ℕ, _+_}
+use Prim.Native.Nat.{ℕ, suc, _+_}
 use mathlib.Core.List.{List, [], _∷_, _++_}
 use mathlib.Core.Path.{_≡_, refl, _∙_, ap}
 use native.Mathlib.Omega.{arith}
@@ -15,6 +15,15 @@ written-none l i = record { stored = refl; behind = omega arith }
 -- one element
 pub written-one : (l : List ℕ) (i x : ℕ) → Written l i (x ∷ []) (set l i x) (i + 1)
 written-one l i x = record { stored = refl; behind = refl }
+
+-- five elements, as a record has
+pub written-five : (l : List ℕ) (at a b c d e : ℕ) → Written l at (a ∷ b ∷ c ∷ d ∷ e ∷ []) (set (set (set (set (set l at a) (at + 1) b) (at + 2) c) (at + 3) d) (at + 4) e) (at + 5)
+written-five l at a b c d e =
+    let one : at + 1 ≡ suc at = omega arith in
+    let two : at + 2 ≡ suc (suc at) = omega arith in
+    let three : at + 3 ≡ suc (suc (suc at)) = omega arith in
+    let four : at + 4 ≡ suc (suc (suc (suc at))) = omega arith in
+    record { stored = rw (one, two, three, four); behind = refl }
 
 -- a second run behind the first
 pub written-append : (l m n v w : List ℕ) (i j k : ℕ) → Written l i v m j → Written m j w n k → Written l i (v ++ w) n k

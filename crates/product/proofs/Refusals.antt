@@ -9,7 +9,7 @@ use borrow.Author.Tests.{eq-eqb, eqb-true}
 use lib.Dec.{eqb}
 use lib.ListN.{length, length-map}
 use Rattle.lists.specs.Lists.{_∈_, any, Ascending, Distinct}
-use Rattle.lists.proofs.Lists.{any-in, any-out, keep-in, keep-out}
+use Rattle.lists.proofs.Lists.{any-in, any-out}
 use Rattle.lists.proofs.Members.{map-out, at-in, distinct-map, distinct-length, ascending-distinct}
 use Rattle.lists.proofs.Tests.{and-both, and-parts, or-cases, or-left, or-right}
 use Rattle.automata.specs.Automaton.{Transition, Automaton, leaving, hasEpsilon}
@@ -25,6 +25,7 @@ use Rattle.product.specs.Reached.{Reached, step, Blocked, PairTransition
 use Rattle.product.proofs.Joints.{jointBy}
 use Rattle.product.proofs.Joints
 use Rattle.automata.proofs.Pairs.{pair-eq, pair-decides}
+use Rattle.automata.proofs.Leaving.{leaves, leaving-in}
 use Rattle.product.proofs.Pairs.{pairs-decides, graph-reached, reached-graph}
 use Rattle.product.proofs.Result.{startPair, from-in}
 use Rattle.product.proofs.Runs.{pairAt, leads}
@@ -39,14 +40,6 @@ unfolding isNone
 member-some {es = []} m = elim m [ ]
 member-some {es = d ∷ es} m = refl
 
-leaving-out : (A : Automaton) (p : ℕ) (e : Transition) → e ∈ leaving A p → e ∈ A .transitions × (e .from ≡ p)
-unfolding leaving
-leaving-out A p e m = let k = keep-out _ e (A .transitions) m in (k .0, eqb-true _ _ (k .1))
-
-leaving-in : (A : Automaton) {e : Transition} → e ∈ A .transitions → e ∈ leaving A (e .from)
-unfolding leaving
-leaving-in A {e} m = keep-in _ m (eq-eqb (e .from) (e .from) refl)
-
 module _ (A B : Automaton) (T : List Pair) (e : table (pairs A B) mostStates ≡ found T) where
   reached-in : {p q : ℕ} → Reached A B p q → record { left = p; right = q } ∈ T
   reached-in r = table-all (pairs A B) (pairs-decides A B) mostStates T e .whole _ (reached-graph A B r)
@@ -56,8 +49,8 @@ module _ (A B : Automaton) (T : List Pair) (e : table (pairs A B) mostStates ≡
 
   block : (p : Pair) (d c : Transition) → p ∈ T → d ∈ leaving A (p .left) → c ∈ leaving B (p .right) → (d .kind ≡ 0) ⊎ (c .kind ≡ 0) → Blocked A B
   block p d c m i j k =
-      let l = leaving-out A (p .left) d i in
-      let r = leaving-out B (p .right) c j in
+      let l = leaves A (p .left) d i in
+      let r = leaves B (p .right) c j in
       record {
         left = d;
         right = c;
@@ -90,8 +83,8 @@ module _ (A B : Automaton) (T : List Pair) (e : table (pairs A B) mostStates ≡
 
       into : Blocked A B → any (blockedAt A B) T ≡ true
       into b =
-          let i = leaving-in A (b .in-left) in
-          let j = leaving-in B (b .in-right) in
+          let i = leaving-in A (b .left .from) (b .left) (b .in-left) refl in
+          let j = leaving-in B (b .right .from) (b .right) (b .in-right) refl in
           any-in (blockedAt A B) (reached-in (b .reached))
           (and-both _ _ (and-both _ _ (member-some i) (member-some j))
           (⊎-elim (λ k. or-left _ _ (any-in _ i (eq-eqb _ _ k))) (λ k. or-right (any (λ e. eqb (e .kind) 0) (leaving A (b .left .from))) _ (any-in _ j (eq-eqb _ _ k))) (b .epsilon)))

@@ -8,7 +8,7 @@ use native.Mathlib.Omega.{arith}
 use borrow.Author.Needs.{needs}
 use lib.Dec.{eqb}
 use lib.ListN.{getD, length, take, drop, set, length-map, take-append-drop}
-use lib.Seq.{getD-take, getD-drop, take-take}
+use lib.Seq.{take-take}
 use Rattle.lists.specs.Lists.{_∈_}
 use Rattle.lists.specs.Written.{Written}
 use Rattle.lists.proofs.Parts.{take-more}
@@ -16,6 +16,7 @@ use Rattle.lists.proofs.Written.{written-none, written-append, written-more, wr
 use Rattle.labels.specs.Labels.{entry, writeEntries, countBytes, writeLabels, AllLabels, none, more}
 use Rattle.labels.proofs.Listing.{list-none, list-next, list-length, list-room, list-done, label-pair}
 use Rattle.sheets.specs.Sheet.{stateCount, read}
+use Rattle.sheets.proofs.Words.{accept-at}
 use Rattle.automata.specs.Pairs.{Pair}
 use Rattle.product.specs.Product.{acceptOf, labelOf}
 use Rattle.product.specs.Tables.{pairOf, tableOf, Within, sheetWords}
@@ -27,14 +28,10 @@ table-more : (words : List ℕ) (i : ℕ) → i < length words → tableOf words
 unfolding tableOf
 table-more words i h = ap (map pairOf) (take-more words i h) ∙ map-append pairOf (take i words) (getD words i 0 ∷ [])
 
--- the accept word of a state stands in the sheet
-accept-in : (s : List ℕ) (p : ℕ) → p < stateCount s → getD (read s .accept) p 0 ≡ getD s (p + 3) 0
-accept-in s p h = getD-take (stateCount s) (drop 3 s) p 0 h ∙ getD-drop 3 s p 0 ∙ ap (λ k. getD s k 0) (omega arith)
-
 pub accept-pair : (a b : List ℕ) (c x : ℕ) → pairOf c .left < stateCount a → pairOf c .right < stateCount b → x ≡ cond (eqb (getD b (c % 256 + 3) 0) 0) 0 (getD a (c / 256 + 3) 0)
     → x ≡ acceptOf (read a) (read b) (pairOf c)
 unfolding acceptOf
-accept-pair a b c x h k e = e ∙ sym (ap₂ (λ u v. cond (eqb u 0) 0 v) (accept-in b (c % 256) k) (accept-in a (c / 256) h))
+accept-pair a b c x h k e = e ∙ ap₂ (λ u v. cond (eqb u 0) 0 v) (accept-at b (c % 256) k) (accept-at a (c / 256) h)
 
 -- the accept words of i pairs
 pub words-begin : (a b words out : List ℕ) (at : ℕ) → Written out at (map (acceptOf (read a) (read b)) (tableOf words 0)) out at

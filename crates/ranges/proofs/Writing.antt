@@ -24,7 +24,7 @@ unfolding spanWords
 words-length [] = refl
 words-length (s ∷ hs) = let h = words-length hs in omega arith
 
-gap-short : (a b : ℕ) → length (gap a b) ≤ 1
+pub gap-short : (a b : ℕ) → length (gap a b) ≤ 1
 unfolding gap
 gap-short a b = go (ltb a b)
   where

@@ -2,19 +2,17 @@
 use Prim.Native.Nat.{ℕ, _+_, _*_, _≤_, _<_}
 use mathlib.Core.Bool.{Bool, true, false, cond, not, _&&_}
 use mathlib.Core.List.{List, [], _∷_}
-use mathlib.Core.Path.{_≡_, refl, sym, _∙_, ap, ap₂}
+use mathlib.Core.Path.{_≡_, refl, sym, _∙_, ap}
 use mathlib.Core.Logic.{⊎-elim}
 use native.Mathlib.Nat.{eq-or-lt-of-le}
-use native.Mathlib.Numerals.{add-one}
 use native.Mathlib.Omega.{arith}
 use borrow.Author.Needs.{needs}
 use borrow.Author.Tests.{eq-eqb, ne-eqb, le-leb, lt-leb, not-true, not-false}
 use lib.Dec.{eqb}
 use lib.ListN.{length, getD, drop, drop-of-length-le}
-use lib.Seq.{drop-cons}
 use Rattle.labels.specs.Labels.{sameLabel}
 use Rattle.lists.specs.Lists.{tabulate}
-use Rattle.lists.proofs.Lists.{tabulate-at, length-tabulate}
+use Rattle.lists.proofs.Lists.{length-tabulate}
 use Rattle.lists.proofs.Parts.{drop-at}
 use Rattle.refusal.specs.declared.InputRefusal.{InputRefusal}
 use Rattle.replay.specs.Cases.{listAt}
@@ -22,6 +20,7 @@ use Rattle.sets.specs.Sets.{Set, has, membersFrom}
 use Rattle.sets.specs.BitSet.{setAt, entries}
 use Rattle.sets.proofs.BitSet.{at-canon}
 use Rattle.sets.proofs.Members.{from-all, from-skip, from-here, from-end}
+use Rattle.sets.proofs.Steps.{entries-from}
 use Rattle.sheets.specs.Checked.{checkedNumber}
 use Rattle.sheets.specs.declared.Checked.{Checked}
 use Rattle.sheets.specs.declared.Checked.the-variants as checked
@@ -76,12 +75,6 @@ module _ (t l : List ℕ) (o i q : ℕ) (e : sameLabel l (setAt t o) ≡ sameLab
 pub rows-begun : (t s : List ℕ) (n at : ℕ) → areRows (entries t n) s at ≡ areRows (drop 0 (entries t n)) s at
 rows-begun t s n at = refl
 
-entry-at : (t : List ℕ) (n p : ℕ) → p < n → drop p (entries t n) ≡ setAt t (4 * p) ∷ drop (p + 1) (entries t n)
-unfolding entries
-entry-at t n p h =
-    drop-cons (tabulate n (λ j. setAt t (4 * j))) p [] (rw (length-tabulate n (λ j. setAt t (4 * j))) h)
-    ∙ ap₂ (λ (S : Set) (k : ℕ). S ∷ drop k (tabulate n (λ j. setAt t (4 * j)))) (tabulate-at n (λ j. setAt t (4 * j)) p [] h) (sym (add-one p))
-
 entry-end : (t : List ℕ) (n p : ℕ) → n ≤ p → drop p (entries t n) ≡ []
 unfolding entries
 entry-end t n p h = drop-of-length-le (tabulate n (λ j. setAt t (4 * j))) {i = p} (rw (length-tabulate n (λ j. setAt t (4 * j))) h)
@@ -94,12 +87,12 @@ module _ (t s : List ℕ) (n at p next : ℕ) (e : areRows (entries t n) s at �
   module _ (h : p < n) where
     pub rows-short : length s ≤ next → false ≡ areRows (entries t n) s at
     unfolding areRows
-    rows-short g = sym (e ∙ rw (entry-at t n p h, le-leb (length s) next g))
+    rows-short g = sym (e ∙ rw (entries-from t n p h, le-leb (length s) next g))
 
     module _ (g : next < length s) (x : List ℕ) (l : x ≡ listAt s next) (b : Bool) (f : b ≡ sameLabel x (setAt t (4 * p))) where
       rows-at : areRows (entries t n) s at ≡ cond b (areRows (drop (p + 1) (entries t n)) s (next + 1 + length x)) false
       unfolding areRows
-      rows-at = e ∙ rw (entry-at t n p h, lt-leb (length s) next g, ← l, ← f)
+      rows-at = e ∙ rw (entries-from t n p h, lt-leb (length s) next g, ← l, ← f)
 
       pub rows-other : not b ≡ true → false ≡ areRows (entries t n) s at
       rows-other d = sym (rows-at ∙ rw (not-true b d))

@@ -26,7 +26,7 @@ use Rattle.sheets.proofs.Meaning.{read-well}
 use Rattle.verdict_line.specs.Texts.{twoTexts, withSecondText, withFirstText, comparedTexts}
 use Rattle.verdict_line.specs.Line.{Line, refuses, same, differs, sameLine, differLine}
 use Rattle.samples.proofs.Patterns.{A, B, C, DA, DB, DC, determinized, no-fault}
-use Rattle.samples.proofs.Three.{both, three}
+use Rattle.samples.proofs.Three.{both, three, well-a, well-b}
 use Rattle.samples.proofs.Verdicts.{same-ab, differ-ac, only-nine}
 use Rattle.output.specs.Output.{statesFirst, transitionsFirst}
 
@@ -64,12 +64,6 @@ are-compared = (
   ap (λ (x : Answer Automaton). withFirst 0 lastSymbol x (determinize 0 lastSymbol (read B))) (determinized .0) ∙ ap (withSecond 0 lastSymbol DA) (determinized .1),
   ap (λ (x : Answer Automaton). withFirst 0 lastSymbol x (determinize 0 lastSymbol (read C))) (determinized .0) ∙ ap (withSecond 0 lastSymbol DA) (determinized .2),
 )
-
-well-a : WellFormed (read A)
-well-a = read-well A (accepted A (no-fault .0))
-
-well-b : WellFormed (read B)
-well-b = read-well B (accepted B (no-fault .1))
 
 well-c : WellFormed (read C)
 well-c = read-well C (accepted C (no-fault .2))

@@ -27,10 +27,10 @@ use Rattle.samples.proofs.Patterns.{range, A, B, DA, DB, determinized, 
 abbrev pub both : Two
 both = record { one = DA; two = DB; low = 0; high = lastSymbol }
 
-well-a : WellFormed (read A)
+pub well-a : WellFormed (read A)
 well-a = read-well A (accepted A (no-fault .0))
 
-well-b : WellFormed (read B)
+pub well-b : WellFormed (read B)
 well-b = read-well B (accepted B (no-fault .1))
 
 det-a : Deterministic 0 lastSymbol DA

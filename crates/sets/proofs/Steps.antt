@@ -99,17 +99,17 @@ pub ruleset wordLaws = (has-word, insert-word, empty-words, same-differ₀, same
 pub find-start : (T : List Set) (S : Set) → index same S T ≡ 0 + index same S (drop 0 T)
 find-start T S = omega arith
 
-module _ (t s : List ℕ) (n j : ℕ) (e : index same (setAt s 0) (entries t n) ≡ j + index same (setAt s 0) (drop j (entries t n))) where
-  rest : j < n → drop j (entries t n) ≡ setAt t (4 * j) ∷ drop (j + 1) (entries t n)
-  rest l = let m : j < length (entries t n) = rw length-entries l in rw (add-one, drop-cons (entries t n) j [], entry-at t n j l)
+pub entries-from : (t : List ℕ) (n j : ℕ) → j < n → drop j (entries t n) ≡ setAt t (4 * j) ∷ drop (j + 1) (entries t n)
+entries-from t n j l = let m : j < length (entries t n) = rw length-entries l in rw (add-one, drop-cons (entries t n) j [], entry-at t n j l)
 
+module _ (t s : List ℕ) (n j : ℕ) (e : index same (setAt s 0) (entries t n) ≡ j + index same (setAt s 0) (drop j (entries t n))) where
   pub find-here : (b : Bool) → j < n → b ≡ same (setAt s 0) (setAt t (4 * j)) → b ≡ true → j ≡ index same (setAt s 0) (entries t n)
   unfolding index
-  find-here b l d h = sym (e ∙ ap (λ T. j + index same (setAt s 0) T) (rest l) ∙ rw (sym d ∙ h) (omega arith))
+  find-here b l d h = sym (e ∙ ap (λ T. j + index same (setAt s 0) T) (entries-from t n j l) ∙ rw (sym d ∙ h) (omega arith))
 
   pub find-next : (b : Bool) → j < n → b ≡ same (setAt s 0) (setAt t (4 * j)) → b ≡ false → index same (setAt s 0) (entries t n) ≡ j + 1 + index same (setAt s 0) (drop (j + 1) (entries t n))
   unfolding index
-  find-next b l d h = e ∙ ap (λ T. j + index same (setAt s 0) T) (rest l) ∙ rw (sym d ∙ h) (omega arith)
+  find-next b l d h = e ∙ ap (λ T. j + index same (setAt s 0) T) (entries-from t n j l) ∙ rw (sym d ∙ h) (omega arith)
 
   pub find-end : j ≤ n → n ≤ j → n ≡ index same (setAt s 0) (entries t n)
   unfolding index

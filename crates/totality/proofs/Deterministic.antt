@@ -1,7 +1,7 @@
 -- When `is_nfa` is false: exactly where every symbol has one transition in every state and no epsilon stands. And the words of the complement.
 use Prim.Native.Nat.{ℕ, suc, _+_, _≤_, _<_}
 use mathlib.Core.Bool.{Bool, true, false, cond, false≢true}
-use mathlib.Core.List.{List, [], _∷_, List·Memᴰ·not-nil, List·Memᴰ·cases-cons}
+use mathlib.Core.List.{List, [], _∷_, List·Memᴰ·not-nil}
 use mathlib.Core.Logic.{⊎-elim, _↔_}
 use mathlib.Core.Path.{_≡_, refl, sym, _∙_, ap}
 use native.Mathlib.Nat.{eq-or-lt-of-le}
@@ -14,7 +14,6 @@ use Rattle.lists.specs.Lists.{_∈_, any, keep}
 use Rattle.lists.proofs.Tests.{test, or-false}
 use Rattle.lists.proofs.Lists.{any-out}
 use Rattle.automata.specs.Automaton.{Transition, Automaton, Accepts, Word, holds, carries, leaving, rangesOf, states, hasEpsilon}
-use Rattle.automata.specs.Records.{readRecords}
 use Rattle.automata.specs.WellFormed.{WellFormed, lastSymbol}
 use Rattle.ranges.specs.Missing.{missing}
 use Rattle.ranges.specs.Span.{overlapping}
@@ -29,6 +28,7 @@ use Rattle.sheets.proofs.Meaning.{read-well}
 use Rattle.automata.specs.Deterministic.{Deterministic}
 use Rattle.totality.specs.Totality.{holesOf, isNfaAt, isNfaIn, isNfa, totalized, flipped, complemented}
 use Rattle.automata.proofs.Leaving.{leaves, leaving-in}
+use Rattle.automata.proofs.Records.{records-most}
 use Rattle.totality.proofs.Totalized.{totalized-well}
 use Rattle.totality.proofs.Words.{Complete, unranged, held-or-free, totalize-words, flipped-words, total-complete, total-functional}
 
@@ -130,18 +130,8 @@ module _ (lo hi : ℕ) (A : Automaton) (v : WellFormed A) (within : (e : Transit
           (λ t. t) (test (any (λ e. eqb (e .kind) 0) (leaving A q)))
 
 -- the symbols of a sheet of 32-bit words are at most the last symbol
-records-below : (k : ℕ) (s : List ℕ) → ((i : ℕ) → getD s i 0 ≤ k) → (e : Transition) → e ∈ readRecords s → e .last ≤ k
-unfolding readRecords
-records-below k [] h e m = absurd (List·Memᴰ·not-nil m)
-records-below k (a ∷ []) h e m = absurd (List·Memᴰ·not-nil m)
-records-below k (a ∷ b ∷ []) h e m = absurd (List·Memᴰ·not-nil m)
-records-below k (a ∷ b ∷ c ∷ []) h e m = absurd (List·Memᴰ·not-nil m)
-records-below k (a ∷ b ∷ c ∷ d ∷ []) h e m = absurd (List·Memᴰ·not-nil m)
-records-below k (a ∷ b ∷ c ∷ d ∷ f ∷ s) h e m =
-    ⊎-elim (λ (q : e ≡ record { from = a; kind = b; first = c; last = d; to = f }). rw q (h 3)) (λ n. records-below k s (λ i. h (suc (suc (suc (suc (suc i)))))) e n) (List·Memᴰ·cases-cons m)
-
 pub read-within : (s : List ℕ) → ((i : ℕ) → getD s i 0 ≤ lastSymbol) → (e : Transition) → e ∈ read s .transitions → e .kind ≡ 1 → (0 ≤ e .first) × (e .last ≤ lastSymbol)
-read-within s h e m k = (omega arith, records-below lastSymbol (drop (recordsAt s) s) (λ i. rw (getD-drop (recordsAt s) s i 0) (h (recordsAt s + i))) e m)
+read-within s h e m k = (omega arith, records-most lastSymbol (drop (recordsAt s) s) (λ i. rw (getD-drop (recordsAt s) s i 0) (h (recordsAt s + i))) e m)
 
 -- of a sheet of 32-bit words
 pub sheet-exact : (s : List ℕ) → Accepted s → ((i : ℕ) → getD s i 0 ≤ lastSymbol) → (isNfa 0 lastSymbol (read s) ≡ false) ↔ Deterministic 0 lastSymbol (read s)

@@ -2,20 +2,17 @@
 use Prim.Native.Nat.{ℕ, suc, _+_, _*_, _^_, _≤_, _<_, min, max}
 use mathlib.Core.Bool.{Bool, true, false, _||_}
 use mathlib.Core.List.{List, [], _∷_, flatMap, append-assoc}
-use mathlib.Core.Logic.{⊎-elim}
 use mathlib.Core.Path.{_≡_, refl, sym, _∙_, ap}
 use native.Mathlib.Nat.{suc-mul, mul-le-mul, suc-le-suc-iff}
 use native.Mathlib.Omega.{arith}
 use mir.Syntax.{w64}
 use mir.Val.{Fits}
 use borrow.Author.Needs.{needs}
-use borrow.Author.Tests.{ltb-true, ltb-false}
-use lib.Dec.{ltb, eqb}
+use lib.Dec.{eqb}
 use lib.ListN.{length, take, drop, length-append}
 use lib.Seq.{take-at, length-take-le, sets, sets-eq, length-sets}
 use Rattle.lists.specs.Written.{Written}
 use Rattle.lists.specs.Lists.{any}
-use Rattle.lists.proofs.Tests.{test}
 use Rattle.lists.proofs.Lists.{length-keep}
 use Rattle.automata.specs.Automaton.{Transition, Automaton, leaving, rangesOf, states}
 use Rattle.automata.specs.Records.{readRecords, writeRecords}
@@ -25,8 +22,7 @@ use Rattle.automata.specs.WellFormed.{WellFormed}
 use Rattle.ranges.specs.Span.{Span}
 use Rattle.ranges.specs.Missing.{Sorted, missing, gap, scan, spanWords}
 use Rattle.ranges.proofs.Missing.{missing-scan}
-use Rattle.ranges.proofs.Scanned.{gap-some, gap-none}
-use Rattle.ranges.proofs.Writing.{words-length}
+use Rattle.ranges.proofs.Writing.{words-length, gap-short}
 use Rattle.ranges.proofs.Sorting.{leaving-sorted}
 use Rattle.sheets.specs.Runs.{RunAt}
 use Rattle.sheets.specs.Sheet.{stateCount, read}
@@ -81,9 +77,6 @@ module _ (lo hi : ℕ) (s : List ℕ) (q : ℕ) (e : isNfa lo hi (read s) ≡ is
     nfa-next p = nfa-at ∙ rw p
 
 pub ruleset sheetLaws = (nfa-start, nfa-ended, nfa-found, nfa-next, ready-run, run-sorted, run-room, needs)
-
-gap-short : (a b : ℕ) → length (gap a b) ≤ 1
-gap-short a b = ⊎-elim (λ t. rw (gap-some a b (ltb-true a b t)) (omega arith)) (λ t. rw (gap-none a b (ltb-false a b t)) (omega arith)) (test (ltb a b))
 
 -- sorted ranges leave at most one hole more than they are
 scan-short : (c hi : ℕ) (es : List Transition) → length (scan c hi es) ≤ suc (length es)

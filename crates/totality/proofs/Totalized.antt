@@ -1,7 +1,7 @@
 -- The totalized automaton: where its transitions come from, and that it is well-formed.
 use Prim.Native.Nat.{ℕ, zero, suc, _≤_, _<_}
 use mathlib.Core.Bool.{Bool, true, false, cond}
-use mathlib.Core.List.{List, [], _∷_, _++_, map, flatMap, List·Memᴰ·head, List·Memᴰ·tail, List·Memᴰ·not-nil, List·Memᴰ·append-cases, List·Memᴰ·eq-of-singleton, Memᴰ·append-left, Memᴰ·append-right, Memᴰ·map, Memᴰ·of-map}
+use mathlib.Core.List.{List, [], _∷_, _++_, map, flatMap, List·Memᴰ·head, List·Memᴰ·not-nil, List·Memᴰ·append-cases, List·Memᴰ·eq-of-singleton, Memᴰ·append-left, Memᴰ·append-right, Memᴰ·map, Memᴰ·of-map}
 use mathlib.Core.Logic.{⊎-elim}
 use mathlib.Core.Path.{_≡_, refl, sym, _∙_}
 use native.Mathlib.Omega.{arith}
@@ -18,6 +18,7 @@ use Rattle.totality.specs.Totality.{holesOf, holeTo, filled, filledIn, l
 use Rattle.automata.proofs.Leaving.{leaves, leaving-in}
 use Rattle.totality.proofs.Rows.{state-holes}
 use Rattle.lists.proofs.Every.{flat-in, flat-out}
+use Rattle.lists.proofs.Members.{ascending-append}
 use Rattle.automata.proofs.States.{states-in, states-out, states-ascend}
 
 -- a transition of the totalized automaton is one that was there, a hole that is led to the sink, or the sink's loop
@@ -54,11 +55,6 @@ module _ (lo hi : ℕ) (A : Automaton) (w : WellFormed A) where
   pub loop-in : loopOn lo hi (A .size) ∈ totalized lo hi A .transitions
   unfolding totalized
   loop-in = Memᴰ·append-right (filledIn lo hi A (states (A .size))) (List·Memᴰ·head refl)
-
-ascending-append : {X : Type 0} {R : X → X → Type 0} {l m : List X} → Ascending R l → Ascending R m → ((x y : X) → x ∈ l → y ∈ m → R x y) → Ascending R (l ++ m)
-ascending-append none b h = b
-ascending-append {l = x ∷ l} (more f a) b h =
-    more (λ y k. ⊎-elim (λ i. f y i) (λ i. h x y (List·Memᴰ·head refl) i) (List·Memᴰ·append-cases l k)) (ascending-append a b (λ y z i j. h y z (List·Memᴰ·tail i) j))
 
 -- transitions of ascending states, those of each in order
 rows-ascend : (f : ℕ → List Transition) {qs : List ℕ} → Ascending _<_ qs → ((q : ℕ) → Ascending Before (f q)) → ((q : ℕ) (e : Transition) → e ∈ f q → e .from ≡ q) → Ascending Before (flatMap f qs)

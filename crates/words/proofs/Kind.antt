@@ -9,8 +9,7 @@ use native.Mathlib.Omega.{arith}
 use borrow.Author.Needs.{needs}
 use borrow.Author.Tests.{eq-eqb, eqb-true, leb-true, ne-eqb, eqb-false, leb-false, le-leb, lt-leb}
 use lib.Dec.{eqb, leb}
-use lib.ListN.{getD, drop, length}
-use lib.Seq.{getD-take, getD-drop}
+use lib.ListN.{getD, length}
 use Rattle.lists.proofs.Tests.{test, or-cases, or-left, or-right}
 use Rattle.automata.specs.Automaton.{Automaton}
 use Rattle.sets.specs.Sets.{Set, has, Canon, membersFrom, nextMember}
@@ -20,6 +19,7 @@ use Rattle.sets.proofs.BitSet.{at-canon}
 use Rattle.sets.proofs.Members.{visit-start, visit-has, visit-next, from-end}
 use Rattle.sheets.specs.Accepted.{Accepted}
 use Rattle.sheets.specs.Sheet.{stateCount, read}
+use Rattle.sheets.proofs.Words.{accept-at}
 use Rattle.words.specs.Simulation.{least, kindOf}
 use Rattle.words.proofs.Visiting.{member-here, member-later}
 
@@ -130,9 +130,6 @@ module _ (s set : List ℕ) (a : Accepted s) where
   unfolding least
   kind-begins q e = ap (kindOf (read s)) (visit-start (setAt set 0) (at-canon set 0) q e)
 
-  member-word : (q : ℕ) → q < stateCount s → getD (read s .accept) q 0 ≡ getD s (q + 3) 0
-  member-word q l = getD-take (stateCount s) (drop 3 s) q 0 l ∙ getD-drop 3 s q 0 ∙ ap (λ k. getD s k 0) (omega arith)
-
   module _ (n : Canon (stateCount s) (setAt set 0)) (q : ℕ) (h : q ≡ nextMember (setAt set 0) q) (l : q < 256) where
     pub kind-inside : q + 3 < length s
     kind-inside = let b = has-below (stateCount s) (setAt set 0) n q (visit-has (setAt set 0) (at-canon set 0) q h l) in omega (arith, a .whole)
@@ -141,7 +138,7 @@ module _ (s set : List ℕ) (a : Accepted s) where
         → least m (kindOf (read s) (membersFrom x (setAt set 0))) ≡ kindOf (read s) (setAt set 0)
     unfolding kindOf
     kind-next b m x i e k =
-        let w = member-word q (has-below (stateCount s) (setAt set 0) n q (visit-has (setAt set 0) (at-canon set 0) q h l)) in
+        let w : getD (read s .accept) q 0 ≡ getD s (q + 3) 0 = sym (accept-at s q (has-below (stateCount s) (setAt set 0) n q (visit-has (setAt set 0) (at-canon set 0) q h l))) in
         ap (λ y. least y (kindOf (read s) (membersFrom x (setAt set 0)))) (e ∙ ap (least b) (sym w)) ∙ least-assoc b _ _
         ∙ ap (λ R. least b (kindOf (read s) R)) (sym (visit-next (setAt set 0) (at-canon set 0) q x h l k)) ∙ i
 

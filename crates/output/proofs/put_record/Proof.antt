@@ -2,7 +2,7 @@
 use borrow.Author.Needs.{needs}
 use native.Mathlib.Omega.{arith}
 use lib.ListN.{length-set}
-use Rattle.output.proofs.Writing.{five-stores}
+use Rattle.lists.proofs.Written.{written-five}
 use Rattle.output.proofs.put_record.Statement.{statement}
 use Rattle.output.proofs.put_record.Tie as tie
 
@@ -12,4 +12,4 @@ put-record-spec =
     (tie.spec (λ c. search needs) (λ c. search needs) (λ c. search needs) (λ c. search needs) (λ c. simp length-set (omega arith))
     (λ c. search needs) (λ c. search needs) (λ c. simp length-set (omega arith)) (λ c. search needs) (λ c. search needs)
     (λ c. simp length-set (omega arith)) (λ c. search needs) (λ c. search needs) (λ c. simp length-set (omega arith))
-    (λ c. search needs) (λ c. search needs) (λ c. five-stores _ _ _ _ _ _ _))
+    (λ c. search needs) (λ c. search needs) (λ c. written-five _ _ _ _ _ _ _))
