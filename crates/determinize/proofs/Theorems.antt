@@ -13,7 +13,7 @@ use Rattle.automata.specs.WellFormed.{WellFormed, Fits}
 use Rattle.sets.specs.Sets.{Set, has, pick}
 use Rattle.sheets.specs.Fault.{fault}
 use Rattle.sheets.specs.Sheet.{read, write}
-use Rattle.sheets.proofs.Meaning.{read-write-sheet, write-accepted}
+use Rattle.sheets.proofs.Meaning.{read-write-sheet, write-accepted, write-room}
 use Rattle.words.specs.Simulation.{closure, outgoing, step, simulate, startSet, kind}
 use Rattle.ranges.specs.Span.{Span}
 use Rattle.ranges.specs.Missing.{missing, Holes}
@@ -30,7 +30,7 @@ use Rattle.determinize.proofs.Steps.{part-step}
 use Rattle.determinize.proofs.Finished.{table-few, over-exact}
 use Rattle.determinize.proofs.Result.{one-built}
 use Rattle.determinize.proofs.Runs.{transition-facts, words-kept, kind-kept, state-reached}
-use Rattle.determinize.proofs.Written.{write-room, built-well-formed}
+use Rattle.determinize.proofs.Written.{built-well-formed}
 use Rattle.determinize.proofs.Sink.{part-transition, hole-transition, sink-loop, sink-rejects}
 use Rattle.determinize.proofs.Counts.{listed-states, listed-transitions, many-exact}
 use Rattle.determinize.proofs.Answers.{Outcome, too-many-sets, too-many-transitions, fits, outcome, Built, made-built, refused-over, refused-many, answer-over}

@@ -6,15 +6,12 @@ use mathlib.Core.Path.{_≡_, refl, _∙_}
 use native.Mathlib.Omega.{arith}
 use borrow.Author.Tests.{ltb-true, ltb-false}
 use lib.Dec.{ltb}
-use lib.ListN.{getD, length, length-append, length-map}
+use lib.ListN.{getD, length-map}
 use Rattle.lists.specs.Lists.{Ascending}
 use Rattle.lists.proofs.Tests.{test}
 use Rattle.automata.specs.Automaton.{Automaton}
-use Rattle.automata.specs.Records.{writeRecords}
-use Rattle.automata.specs.WellFormed.{greatestAccept, Lex, Before, WellFormed, Fits}
-use Rattle.automata.proofs.Records.{length-write}
+use Rattle.automata.specs.WellFormed.{greatestAccept, Lex, Before, WellFormed}
 use Rattle.sets.specs.Sets.{Set}
-use Rattle.sheets.specs.Sheet.{write}
 use Rattle.words.specs.Simulation.{outgoing, kindOf}
 use Rattle.words.proofs.Kind.{kindOf-some}
 use Rattle.search.specs.Search.{found}
@@ -33,17 +30,6 @@ module _ (lo hi : ℕ) (A : Automaton) (T : List Set) where
       (ascending-map {R = Ahead} (transitionOf A T j S) (λ s t h. Lex.later refl (Lex.later refl (Lex.here (omega (arith, h .0, h .1))))) (cut-ascend lo hi (outgoing A S)))
       (transitions-ascend (suc j) Ss)
       (λ d c m n. let f = from-of lo hi A T j S d m in let g = from-above lo hi A T (suc j) Ss c n in Lex.here (omega arith))
-
--- the sheet of an automaton within the limits fits an output of 10,500 words
-pub write-room : (A : Automaton) → length (A .accept) ≡ A .size → Fits A → length (write A) ≤ 10500
-write-room A h f =
-    omega (
-      arith,
-      length-append (A .accept) (length (A .transitions) ∷ writeRecords (A .transitions)),
-      length-write (A .transitions),
-      f .few-states,
-      f .few-transitions,
-    )
 
 -- an accept word of a set is one of its members'
 kindOf-most : (A : Automaton) → ((q : ℕ) → getD (A .accept) q 0 ≤ greatestAccept) → (S : Set) → kindOf A S ≤ greatestAccept

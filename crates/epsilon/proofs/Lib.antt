@@ -4,5 +4,4 @@ pub mod Runs
 pub mod Gathering
 pub mod Writing
 pub mod Answers
-pub mod Numbers
 pub mod Theorems

@@ -31,7 +31,7 @@ use Rattle.words.proofs.Kind.{kindOf-least, kindOf-some}
 use Rattle.epsilon.specs.Eliminate.{closureKinds, eliminated, eliminatedWith, eliminateAnswer}
 use Rattle.epsilon.specs.Meaning.{ClosureRange}
 use Rattle.epsilon.proofs.Members.{eliminated-out, eliminated-in}
-use Rattle.epsilon.proofs.Numbers.{fault-most}
+use Rattle.sheets.proofs.Numbers.{fault-most}
 use Rattle.epsilon.proofs.Runs.{only-ranges, states-kept, accept-at, words-kept, kinds-kept}
 
 module _ (A : Automaton) (ok : InBounds A) where

@@ -1,6 +1,7 @@
 -- The laws of outputs.
 pub mod Writing
 pub mod Answers
+pub mod Left
 pub mod Comparing
 pub mod Heads
 pub mod Merging

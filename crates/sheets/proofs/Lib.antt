@@ -1,6 +1,7 @@
 -- The laws of sheets.
 pub mod Checking
 pub mod Accepted
+pub mod Numbers
 pub mod Meaning
 pub mod Below
 pub mod Runs

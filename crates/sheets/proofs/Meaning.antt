@@ -186,3 +186,14 @@ write-accepted A w f =
       read-write ts,
     )
     pass
+
+-- the sheet of an automaton within the limits fits an output of 10,500 words
+pub write-room : (A : Automaton) → length (A .accept) ≡ A .size → Fits A → length (write A) ≤ 10500
+write-room A h f =
+    omega (
+      arith,
+      length-append (A .accept) (length (A .transitions) ∷ writeRecords (A .transitions)),
+      length-write (A .transitions),
+      f .few-states,
+      f .few-transitions,
+    )

@@ -28,8 +28,7 @@ use Rattle.refusal.specs.declared.Refusal.{Refusal}
 use Rattle.output.specs.Output.{roomFirst}
 use Rattle.sheets.specs.Fault.{fault}
 use Rattle.sheets.specs.Sheet.{read, write}
-use Rattle.sheets.proofs.Meaning.{read-write-sheet}
-use Rattle.determinize.proofs.Written.{write-room}
+use Rattle.sheets.proofs.Meaning.{read-write-sheet, write-room}
 use Rattle.parser.specs.Parsed.{Lengths, Output, parsed, parsedOf}
 use Rattle.parser.specs.Pattern.{Reading, parse}
 use Rattle.parser.specs.declared.Parsed.{Parsed}
