@@ -11,9 +11,10 @@ use lib.Seq.{getD-at}
 use borrow.Author.Tests.{lt-leb, le-ltb, eq-eqb, ne-eqb}
 use Rattle.dsu.specs.declared.DSU.{DSU}
 use Rattle.dsu.specs.declared.FindAnswer.{FindAnswer}
-use Rattle.dsu.specs.declared.Outcome.the-variants.{Done}
 use Rattle.dsu.specs.declared.Answer.{Answer}
-use Rattle.dsu.specs.Sets.{setsOf, findOf, under, join, unionOf, upTo, fresh, newOf}
+use Rattle.dsu.specs.declared.United.{United}
+use Rattle.dsu.specs.declared.United.the-variants as united
+use Rattle.dsu.specs.Sets.{setsOf, findOf, After, under, join, unionIn, madeOf, unionOf, upTo, fresh, newOf}
 use Rattle.dsu.specs.Steps.{Met}
 use Rattle.dsu.specs.Classes.{Classes, before}
 use Rattle.dsu.specs.Laws.{classOf, Same, Valid, NewLaw, FindLaw, UnionLaw}
@@ -103,42 +104,29 @@ find-law d x r e v h =
 
 -- union
 
-module _ (d : DSU) (x y : ℕ) (x-in : x < d .n) (y-in : y < d .n) where
-  -- by the way in which the classes change
-  apart-law : (s : DSU) → s .n ≡ d .n → Valid s → Joins (d .n) (classOf d) (classOf s) x y → UnionLaw d x y (record { outcome = Done; sets = s })
-  apart-law s is-n v j = record {
-    done = refl;
-    is-n = is-n;
-    valid = v;
-    joined = j .joined;
-    kept = j .kept;
-    only = j .only;
-    fewer = λ h k w. classes-fewer x-in y-in j w;
-    as-many = λ h k w. absurd (j .apart h);
-  }
+module _ (d : DSU) (x y : ℕ) where
+  -- e is d after a union of x and y, by what the two were
+  abbrev pub Unites : United → DSU → Type 0
+  Unites united.Apart e = Valid e × Joins (d .n) (classOf d) (classOf e) x y
+  Unites united.Together e = Valid e × Same d x y × ((w : ℕ) → w < d .n → classOf e w ≡ classOf d w)
+  Unites (united.Refused r) e = ⊥
 
-  same-law : (s : DSU) → s .n ≡ d .n → Valid s → Same d x y → ((w : ℕ) → w < d .n → classOf s w ≡ classOf d w) → UnionLaw d x y (record { outcome = Done; sets = s })
-  same-law s is-n v e same = record {
-    done = refl;
-    is-n = is-n;
-    valid = v;
-    joined = same-kept d s same x y x-in y-in e;
-    kept = same-kept d s same;
-    only = λ p q a b g. before (same-only d s same p q a b g);
-    fewer = λ h k w. absurd (h e);
-    as-many = λ h k w. same-classes d s same w;
-  }
+  -- the same of what is left in lent arrays
+  abbrev pub UnitesIn : After → Type 0
+  UnitesIn u = Unites (u .0) (setsOf (u .1) (u .2) (d .n))
 
 -- m has the parents after both finds
 module _ (d : DSU) (m : List ℕ) (v : Valid (setsOf m (d .size) (d .n))) (same : (w : ℕ) → w < d .n → classOf (setsOf m (d .size) (d .n)) w ≡ classOf d w) where
   -- y's root put under x's
-  under-joins : (x y : ℕ) → x < d .n → y < d .n → (r : Apart m (d .n) (classOf d x) (classOf d y)) → Joins (d .n) (classOf d) (classOf (under d m (classOf d x) (classOf d y) .sets)) x y
+  under-joins : (x y : ℕ) → x < d .n → y < d .n → (r : Apart m (d .n) (classOf d x) (classOf d y)) → UnitesIn d x y (under m (d .size) (classOf d x) (classOf d y))
   under-joins x y x-in y-in r =
-      let c = merged-class m (d .size) (d .n) v (classOf d x) (classOf d y) r in
-      merged-joins x-in y-in (r .apart) (record {
-        moved = λ w h e. c .moved w h (same w h ∙ e);
-        left = λ w h e. c .left w h (λ q. e (sym (same w h) ∙ q)) ∙ same w h;
-      })
+      let c = merged-class m (d .size) (d .n) v (classOf d x) (classOf d y) r in (
+        merged-valid m (d .size) (d .n) v (classOf d x) (classOf d y) r,
+        merged-joins x-in y-in (r .apart) (record {
+          moved = λ w h e. c .moved w h (same w h ∙ e);
+          left = λ w h e. c .left w h (λ q. e (sym (same w h) ∙ q)) ∙ same w h;
+        }),
+      )
 
   module _ (x y : ℕ) (x-in : x < d .n) (y-in : y < d .n) where
     abbrev a : ℕ
@@ -147,29 +135,26 @@ module _ (d : DSU) (m : List ℕ) (v : Valid (setsOf m (d .size) (d .n))) (same 
     abbrev b : ℕ
     b = classOf d y
 
-    pub first-law : Apart m (d .n) a b → UnionLaw d x y (under d m a b)
-    first-law r = apart-law d x y x-in y-in (under d m a b .sets) refl (merged-valid m (d .size) (d .n) v a b r) (under-joins x y x-in y-in r)
-
-    pub second-law : Apart m (d .n) b a → UnionLaw d x y (under d m b a)
-    second-law r = apart-law d x y x-in y-in (under d m b a .sets) refl (merged-valid m (d .size) (d .n) v b a r) (turned (under-joins y x y-in x-in r))
-
-    join-law : Met (d .size) (d .n) a × (getD m a 0 ≡ a) → Met (d .size) (d .n) b × (getD m b 0 ≡ b) → UnionLaw d x y (join d m a b)
+    join-unites : Met (d .size) (d .n) a × (getD m a 0 ≡ a) → Met (d .size) (d .n) b × (getD m b 0 ≡ b) → UnitesIn d x y (join m (d .size) (d .n) a b)
     unfolding join
-    join-law ra rb = by-same (ℕ-discrete a b)
+    join-unites ra rb = by-same (ℕ-discrete a b)
       where
-        by-size : Apart m (d .n) a b → (t : Bool) → ltb (getD (d .size) a 0) (getD (d .size) b 0) ≡ t → UnionLaw d x y (cond t (under d m b a) (under d m a b))
-        by-size r true e = second-law (record { a-in = r .b-in; b-in = r .a-in; a-root = r .b-root; b-root = r .a-root; apart = λ q. r .apart (sym q) })
-        by-size r false e = first-law r
+        by-size : Apart m (d .n) a b → (t : Bool) → UnitesIn d x y (cond t (under m (d .size) b a) (under m (d .size) a b))
+        by-size r true =
+            let w = under-joins y x y-in x-in (record { a-in = r .b-in; b-in = r .a-in; a-root = r .b-root; b-root = r .a-root; apart = λ q. r .apart (sym q) }) in
+            (w .0, turned (w .1))
+        by-size r false = under-joins x y x-in y-in r
 
-        by-same : Dec (a ≡ b) → UnionLaw d x y (join d m a b)
-        by-same (yes e) = rw (eq-eqb a b e) (same-law d x y x-in y-in (setsOf m (d .size) (d .n)) refl v e same)
+        by-same : Dec (a ≡ b) → UnitesIn d x y (join m (d .size) (d .n) a b)
+        by-same (yes e) = rw (eq-eqb a b e) (v, e, same)
         by-same (no h) =
             let r : Apart m (d .n) a b = record { a-in = ra .0 .inside; b-in = rb .0 .inside; a-root = ra .1; b-root = rb .1; apart = h } in
-            rw (ne-eqb a b h, le-ltb (d .n) (getD (d .size) a 0 + getD (d .size) b 0) (two-fit m (d .size) (d .n) v a b r)) (by-size r (ltb (getD (d .size) a 0) (getD (d .size) b 0)) refl)
+            rw (ne-eqb a b h, le-ltb (d .n) (getD (d .size) a 0 + getD (d .size) b 0) (two-fit m (d .size) (d .n) v a b r)) (by-size r (ltb (getD (d .size) a 0) (getD (d .size) b 0)))
 
-pub union-law : (d : DSU) (x y : ℕ) (r : Answer) → r ≡ unionOf d x y → Valid d → x < d .n → y < d .n → UnionLaw d x y r
-unfolding unionOf
-union-law d x y r e v x-in y-in =
+-- the arrays of valid sets after a union
+pub union-unites : (d : DSU) (x y : ℕ) → Valid d → x < d .n → y < d .n → UnitesIn d x y (unionIn (d .repr) (d .size) (d .n) x y)
+unfolding unionIn
+union-unites d x y v x-in y-in =
     let z = d .size in
     let n = d .n in
     let s = leads-to-class (d .repr) z n v x x-in in
@@ -179,8 +164,37 @@ union-law d x y r e v x-in y-in =
     let v₂ = after-valid v₁ t in
     let same₂ : (w : ℕ) → w < n → classOf (setsOf (after t) z n) w ≡ classOf d w = λ w h. after-class v₁ t w h ∙ same₁ w h in
     let end : (w : ℕ) → w < n → Met z n (classOf d w) × (getD (after t) (classOf d w) 0 ≡ classOf d w) = λ w h. leads-end (subst (Leads (after t) z n w) (same₂ w h) (leads-to-class (after t) z n v₂ w h)) in
-    let is : r ≡ join d (after t) (classOf d x) (classOf d y) = e ∙ rw (lt-leb n x x-in, lt-leb n y y-in, leads-way s, leads-way t) in
-    subst (UnionLaw d x y) (sym is) (join-law d (after t) v₂ same₂ x y x-in y-in (end x x-in) (end y y-in))
+    let is : unionIn (d .repr) z n x y ≡ join (after t) z n (classOf d x) (classOf d y) = rw (lt-leb n x x-in, lt-leb n y y-in, leads-way s, leads-way t) in
+    subst (UnitesIn d x y) (sym is) (join-unites d (after t) v₂ same₂ x y x-in y-in (end x x-in) (end y y-in))
+
+pub union-law : (d : DSU) (x y : ℕ) (r : Answer) → r ≡ unionOf d x y → Valid d → x < d .n → y < d .n → UnionLaw d x y r
+unfolding unionOf
+union-law d x y r e v x-in y-in =
+    let u = unionIn (d .repr) (d .size) (d .n) x y in
+    subst (UnionLaw d x y) (sym e) (by-case (u .0) (u .1) (u .2) (union-unites d x y v x-in y-in))
+  where
+    by-case : (u : United) (l z : List ℕ) → Unites d x y u (setsOf l z (d .n)) → UnionLaw d x y (madeOf d u l z)
+    by-case united.Apart l z w = let j = w .1 in record {
+      done = refl;
+      is-n = refl;
+      valid = w .0;
+      joined = j .joined;
+      kept = j .kept;
+      only = j .only;
+      fewer = λ h k c. classes-fewer x-in y-in j c;
+      as-many = λ h k c. absurd (j .apart h);
+    }
+    by-case united.Together l z w = let s = setsOf l z (d .n) in record {
+      done = refl;
+      is-n = refl;
+      valid = w .0;
+      joined = same-kept d s (w .2) x y x-in y-in (w .1);
+      kept = same-kept d s (w .2);
+      only = λ p q a b g. before (same-only d s (w .2) p q a b g);
+      fewer = λ h k c. absurd (h (w .1));
+      as-many = λ h k c. same-classes d s (w .2) c;
+    }
+    by-case (united.Refused r) l z w = absurd w
 
 -- sets have exactly one number of classes
 pub classes-number : (d : DSU) → (k : ℕ) × Classes (Same d) (d .n) k × ((j : ℕ) → Classes (Same d) (d .n) j → j ≡ k)

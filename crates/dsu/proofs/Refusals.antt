@@ -12,7 +12,7 @@ use borrow.Author.Tests.{lt-ltb, le-ltb, le-leb, lt-leb, eq-eqb, ne-eqb, ltb-tru
 use Rattle.dsu.specs.declared.DSU.{DSU}
 use Rattle.dsu.specs.declared.FindAnswer.{FindAnswer}
 use Rattle.dsu.specs.declared.Answer.{Answer}
-use Rattle.dsu.specs.Sets.{Seen, top, up, fault, seen, Way, broken, reached, point, onward, walk, way, findOf, under, join, joinSecond, joinFirst, unionOf, newOf}
+use Rattle.dsu.specs.Sets.{Seen, top, up, fault, seen, Way, broken, reached, point, onward, walk, way, findOf, After, under, join, joinSecond, joinFirst, unionIn, madeOf, unionOf, newOf}
 use Rattle.dsu.specs.Laws.{classOf}
 use Rattle.dsu.specs.Refusals.{foundNumber, outcomeNumber, OnWay, here, next, Fault, many, outside, small, no-size, large, Broken, TooLarge, BrokenUnion, first, second, joint, NewRefusals, FindRefusals, UnionRefusals}
 use Rattle.dsu.proofs.Leads.{Leads, after, leads-start, leads-way, leads-class, way-leads, after-leads, after-back}
@@ -129,17 +129,18 @@ module _ (d : DSU) where
 
   -- `union` of two elements inside. An array of the struct has 512 elements
   module _ (long : length (d .repr) ≡ 512) (x y : ℕ) (x-in : x < n) (y-in : y < n) where
-    abbrev UnionAnswers : Answer → Type 0
-    UnionAnswers r = Answers (BrokenUnion d x y) (outcomeNumber (r .outcome)) (r .sets ≡ d)
+    -- of what a union left in the arrays
+    abbrev UnionAnswers : After → Type 0
+    UnionAnswers u = let r = madeOf d (u .0) (u .1) (u .2) in Answers (BrokenUnion d x y) (outcomeNumber (r .outcome)) (r .sets ≡ d)
 
-    union-ways : (w : Way) → way l z n x ≡ w → joinFirst d y w ≡ unionOf d x y
-    unfolding unionOf
+    union-ways : (w : Way) → way l z n x ≡ w → joinFirst l z n y w ≡ unionIn l z n x y
+    unfolding unionIn
     union-ways w e = rw (lt-leb n x x-in, lt-leb n y y-in, e)
 
     -- the way of x leads to a; then that of y, with the parents afterwards
     module _ (a : ℕ) (t : Leads l z n x a) where
-      after-ways : (w : Way) → way (after t) z n y ≡ w → joinSecond d a w ≡ unionOf d x y
-      after-ways w e = ap (joinSecond d a) (sym e) ∙ union-ways (reached a (after t)) (leads-way t)
+      after-ways : (w : Way) → way (after t) z n y ≡ w → joinSecond (after t) z n a w ≡ unionIn l z n x y
+      after-ways w e = ap (joinSecond (after t) z n a) (sym e) ∙ union-ways (reached a (after t)) (leads-way t)
 
       fits : n ≤ length l
       fits = omega (arith, long, leads-start t .few)
@@ -164,32 +165,32 @@ module _ (d : DSU) where
         no-fault h (second w) = not-broken y b (after y-leads) y-in (leads-way y-leads) w
         no-fault h (joint w) = h w
 
-        by-size : (TooLarge d x y → ⊥) → (c : Bool) → UnionAnswers (cond c (under d (after s) b a) (under d (after s) a b))
+        by-size : (TooLarge d x y → ⊥) → (c : Bool) → UnionAnswers (cond c (under (after s) z b a) (under (after s) z a b))
         by-size o true = passed (no-fault o) refl
         by-size o false = passed (no-fault o) refl
 
-        join-answers : UnionAnswers (join d (after s) a b)
+        join-answers : UnionAnswers (join (after s) z n a b)
         unfolding join
         join-answers = by-class (leads-class t) (leads-class y-leads) (ℕ-discrete a b) (decLt n (getD z a 0 + getD z b 0))
           where
-            by-class : classOf d x ≡ a → classOf d y ≡ b → Dec (a ≡ b) → Dec (n < getD z a 0 + getD z b 0) → UnionAnswers (join d (after s) a b)
+            by-class : classOf d x ≡ a → classOf d y ≡ b → Dec (a ≡ b) → Dec (n < getD z a 0 + getD z b 0) → UnionAnswers (join (after s) z n a b)
             by-class ea eb (yes e) o = rw (eq-eqb a b e) (passed (no-fault (λ w. w .apart (ea ∙ e ∙ sym eb))) refl)
             by-class ea eb (no h) (yes o) = rw (ne-eqb a b h, lt-ltb n (getD z a 0 + getD z b 0) o) (refused (joint (record { apart = λ e. h (sym ea ∙ e ∙ eb); over = rw (ea, eb) o })) refl refl)
             by-class ea eb (no h) (no o) = rw (ne-eqb a b h, le-ltb n (getD z a 0 + getD z b 0) (omega arith)) (by-size (λ w. o (rw (ea, eb) at (w .over))) (ltb (getD z a 0) (getD z b 0)))
 
-    union-answers : UnionAnswers (unionOf d x y)
+    union-answers : UnionAnswers (unionIn l z n x y)
     union-answers = by-first (way l z n x) refl
       where
-        by-second : (a : ℕ) (t : Leads l z n x a) (w : Way) → way (after t) z n y ≡ w → UnionAnswers (unionOf d x y)
+        by-second : (a : ℕ) (t : Leads l z n x a) (w : Way) → way (after t) z n y ≡ w → UnionAnswers (unionIn l z n x y)
         by-second a t broken e = subst UnionAnswers (after-ways a t broken e) (refused (second (after-broken a t e)) refl refl)
         by-second a t (reached b m) e = let s = way-leads (after t) z n y b m y-in e in subst UnionAnswers (after-ways a t (reached b (after s)) (leads-way s)) (join-answers a t b s)
 
-        by-first : (w : Way) → way l z n x ≡ w → UnionAnswers (unionOf d x y)
+        by-first : (w : Way) → way l z n x ≡ w → UnionAnswers (unionIn l z n x y)
         by-first broken e = subst UnionAnswers (union-ways broken e) (refused (first (way-broken x x-in .0 e)) refl refl)
         by-first (reached a m) e = let t = way-leads l z n x a m x-in e in by-second a t (way (after t) z n y) refl
 
   union-outside : (x y : ℕ) → (n ≤ x) ⊎ (n ≤ y) → (outcomeNumber (unionOf d x y .outcome) ≡ 23) × (unionOf d x y .sets ≡ d)
-  unfolding unionOf
+  unfolding unionOf unionIn
   union-outside x y o = by-place (decLt x n) o
     where
       by-place : Dec (x < n) → (n ≤ x) ⊎ (n ≤ y) → (outcomeNumber (unionOf d x y .outcome) ≡ 23) × (unionOf d x y .sets ≡ d)
@@ -213,6 +214,7 @@ find-refusals d x r e = subst (FindRefusals d x) (sym e) (by-place (decLt x (d .
     }
 
 pub union-refusals : (d : DSU) (x y : ℕ) (r : Answer) → r ≡ unionOf d x y → length (d .repr) ≡ 512 → UnionRefusals d x y r
+unfolding unionOf
 union-refusals d x y r e long = subst (UnionRefusals d x y) (sym e) (by-place (decLt x (d .n)) (decLt y (d .n)))
   where
     not-in : (d .n ≤ x) ⊎ (d .n ≤ y) → x < d .n → y < d .n → ⊥

@@ -1,6 +1,6 @@
 -- What `new`, `find` and `union` answer, and the sets afterwards, on every value of the struct: `repr` has each element's parent,
 -- `size` the size of its class, and n is the number of elements. The refusal `Element` is document 01's 23, `JoinSets` its 24.
--- After a refusal the sets are as they were.
+-- After a refusal the sets are as they were. `union` is that on lent arrays, `unionIn`, on copies of the struct's.
 use Prim.Native.Nat.{ℕ, zero, suc, _+_}
 use mathlib.Core.Bool.{cond}
 use mathlib.Core.List.{List, [], _∷_, _++_}
@@ -15,6 +15,9 @@ use Rattle.dsu.specs.declared.FindAnswer.{FindAnswer}
 use Rattle.dsu.specs.declared.Outcome.the-variants.{Done}
 use Rattle.dsu.specs.declared.Outcome.the-variants as outcome
 use Rattle.dsu.specs.declared.Answer.{Answer}
+use Rattle.dsu.specs.declared.United.{United}
+use Rattle.dsu.specs.declared.United.the-variants.{Apart, Together}
+use Rattle.dsu.specs.declared.United.the-variants as united
 
 -- what is seen at an element on the way to its representative: it is its own parent, it has another one, or something is broken
 pub data Seen : Type 0 where
@@ -74,31 +77,46 @@ findOf d x =
 abbrev pub refuse : DSU → StateRefusal → Answer
 refuse d r = record { outcome = outcome.Refused r; sets = d }
 
--- the root b put under the root a, whose size is now that of both
-abbrev pub under : DSU → List ℕ → ℕ → ℕ → Answer
-under d repr a b = record { outcome = Done; sets = changed d (set repr b a) (set (d .size) a (getD (d .size) a 0 + getD (d .size) b 0)) }
+-- what two elements were before a union on lent arrays, and the parents and sizes after it
+abbrev pub After : Type 0
+After = United × List ℕ × List ℕ
+
+-- the root b put under the root a, whose size is then that of both
+abbrev pub under : List ℕ → List ℕ → ℕ → ℕ → After
+under repr size a b = (Apart, set repr b a, set size a (getD size a 0 + getD size b 0))
 
 -- two roots joined by size; on equal sizes the second joins the first. 24 where the joined size would be over n
-unfoldable pub join : DSU → List ℕ → ℕ → ℕ → Answer
-join d repr a b =
-    cond (eqb a b) (record { outcome = Done; sets = changed d repr (d .size) })
-    (cond (ltb (d .n) (getD (d .size) a 0 + getD (d .size) b 0)) (refuse d JoinSets)
-    (cond (ltb (getD (d .size) a 0) (getD (d .size) b 0)) (under d repr b a) (under d repr a b)))
+unfoldable pub join : List ℕ → List ℕ → ℕ → ℕ → ℕ → After
+join repr size n a b =
+    cond (eqb a b) (Together, repr, size)
+    (cond (ltb n (getD size a 0 + getD size b 0)) (united.Refused JoinSets, repr, size)
+    (cond (ltb (getD size a 0) (getD size b 0)) (under repr size b a) (under repr size a b)))
 
-abbrev pub joinSecond : DSU → ℕ → Way → Answer
-joinSecond d a broken = refuse d JoinSets
-joinSecond d a (reached b repr) = join d repr a b
+abbrev pub joinSecond : List ℕ → List ℕ → ℕ → ℕ → Way → After
+joinSecond repr size n a broken = (united.Refused JoinSets, repr, size)
+joinSecond repr size n a (reached b after) = join after size n a b
 
-abbrev pub joinFirst : DSU → ℕ → Way → Answer
-joinFirst d y broken = refuse d JoinSets
-joinFirst d y (reached a repr) = joinSecond d a (way repr (d .size) (d .n) y)
+abbrev pub joinFirst : List ℕ → List ℕ → ℕ → ℕ → Way → After
+joinFirst repr size n y broken = (united.Refused JoinSets, repr, size)
+joinFirst repr size n y (reached a after) = joinSecond after size n a (way after size n y)
 
--- `union`: 23 for either element before 24; then the way of x, that of y, and the join
+-- a union on lent arrays: 23 for either element before 24; then the way of x, that of y with the parents afterwards, and the join.
+-- A fault leaves the parents that the ways before it left
+unfoldable pub unionIn : List ℕ → List ℕ → ℕ → ℕ → ℕ → After
+unionIn repr size n x y =
+    cond (leb n x) (united.Refused Element, repr, size)
+    (cond (leb n y) (united.Refused Element, repr, size)
+    (joinFirst repr size n y (way repr size n x)))
+
+-- the answer to a union in d: the sets with what it left in the arrays, or d itself after a refusal
+abbrev pub madeOf : DSU → United → List ℕ → List ℕ → Answer
+madeOf d Apart repr size = record { outcome = Done; sets = changed d repr size }
+madeOf d Together repr size = record { outcome = Done; sets = changed d repr size }
+madeOf d (united.Refused r) repr size = refuse d r
+
+-- `union`: on copies of d's arrays
 unfoldable pub unionOf : DSU → ℕ → ℕ → Answer
-unionOf d x y =
-    cond (leb (d .n) x) (refuse d Element)
-    (cond (leb (d .n) y) (refuse d Element)
-    (joinFirst d y (way (d .repr) (d .size) (d .n) x)))
+unionOf d x y = let u = unionIn (d .repr) (d .size) (d .n) x y in madeOf d (u .0) (u .1) (u .2)
 
 -- 0, 1, .., n - 1
 unfoldable pub upTo : ℕ → List ℕ

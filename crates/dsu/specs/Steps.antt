@@ -1,10 +1,9 @@
 -- What the inner functions ask and give.
-use Prim.Native.Nat.{ℕ, _+_, _≤_, _<_}
-use mathlib.Core.Path.{_≡_}
+use Prim.Native.Nat.{ℕ, _≤_, _<_}
 use mathlib.Core.Bool.{cond}
 use mathlib.Core.List.{List}
 use lib.Dec.{leb}
-use lib.ListN.{getD, set}
+use lib.ListN.{getD}
 use Rattle.refusal.specs.declared.StateRefusal.the-variants.{Element, JoinSets}
 use Rattle.dsu.specs.declared.Found.{Found}
 use Rattle.dsu.specs.declared.Found.the-variants.{Root, Refused}
@@ -33,8 +32,3 @@ climbed repr (reached a after) = (Root a, after)
 -- the same with 23 before it
 unfoldable pub answered : List ℕ → List ℕ → ℕ → ℕ → Found × List ℕ
 answered repr size n x = cond (leb n x) (Refused Element, repr) (climbed repr (way repr size n x))
-
--- the parents and sizes l and z, with the root b put under the root a
-pub record Put (l z : List ℕ) (a b : ℕ) (l′ z′ : List ℕ) : Type 0 where
-  pub parents : l′ ≡ set l b a
-  pub sizes : z′ ≡ set z a (getD z a 0 + getD z b 0)

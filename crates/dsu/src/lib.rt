@@ -1,10 +1,10 @@
-// Join sets by value: each element's parent, the size of its class, and the number of elements.
+// Join sets, by value and on lent arrays: each element's parent, the size of its class, and the number of elements.
 ghost use mathlib.Core.Path.{_≡_};
 ghost use mathlib.Core.List.{List};
 ghost use Prim.Native.Nat.{ℕ, _<_};
 ghost use Rattle.dsu.specs.declared.Found.{Found};
-ghost use Rattle.dsu.specs.Sets.{way, setsOf, newOf, findOf, unionOf, join, under};
-ghost use Rattle.dsu.specs.Steps.{Met, Roots, Put, answered, climbed};
+ghost use Rattle.dsu.specs.Sets.{way, setsOf, After, join, unionIn, newOf, findOf, unionOf};
+ghost use Rattle.dsu.specs.Steps.{Met, Roots, answered, climbed};
 ghost use Rattle.dsu.specs.Laws.{Valid, JoinLaw};
 use refusal::StateRefusal;
 
@@ -34,6 +34,13 @@ pub enum Outcome {
 pub struct Answer {
     pub outcome: Outcome,
     pub sets: DSU,
+}
+
+// What two elements were before a union: in two classes, which are one afterwards; in one class; or the union is refused.
+enum United {
+    Apart,
+    Together,
+    Refused(StateRefusal),
 }
 
 fn wide(x: u32) -> usize
@@ -92,59 +99,52 @@ fn find_from(repr: &mut [u32; 512], size: &[u32; 512], n: usize, x: usize) -> Fo
     find_in(repr, size, n, x)
 }
 
-// The root b put under the root a, whose size is then that of both.
-fn put_in(repr: &mut [u32; 512], size: &mut [u32; 512], n: usize, a: u32, b: u32)
+// Two roots joined by size; on equal sizes the second joins the first.
+fn join_roots(repr: &mut [u32; 512], size: &mut [u32; 512], n: usize, a: u32, b: u32) -> United
     requires { ⌜ Roots (now size) n a b ⌝ }
-    ensures { λ r. ⌜ Put (now (repr .entry)) (now (size .entry)) a b (now (repr .exit)) (now (size .exit)) ⌝ }
+    ensures { λ r. ⌜ _≡_ {A = After} (r, now (repr .exit), now (size .exit)) (join (now (repr .entry)) (now (size .entry)) n a b) ⌝ }
 {
+    if a == b {
+        return United::Together;
+    }
     let i = a as usize;
     let j = b as usize;
-    size[i] = size[i] + size[j];
-    repr[j] = a;
-}
-
-// The same in sets with the parents repr.
-fn put_under(sets: DSU, mut repr: [u32; 512], a: u32, b: u32) -> Answer
-    requires { ⌜ Roots (sets .size) (sets .n) a b ⌝ }
-    ensures { λ r. ⌜ r ≡ under sets repr a b ⌝ }
-{
-    let mut size = sets.size;
-    put_in(&mut repr, &mut size, sets.n, a, b);
-    Answer {
-        outcome: Outcome::Done,
-        sets: DSU {
-            repr,
-            size,
-            n: sets.n,
-        },
-    }
-}
-
-// Two roots joined by size; on equal sizes the second joins the first. repr has the parents after both were found.
-fn join_roots(sets: DSU, repr: [u32; 512], a: u32, b: u32) -> Answer
-    requires { ⌜ Roots (sets .size) (sets .n) a b ⌝ }
-    ensures { λ r. ⌜ r ≡ join sets repr a b ⌝ }
-{
-    let size = sets.size;
-    let n = sets.n;
-    if a == b {
-        return Answer {
-            outcome: Outcome::Done,
-            sets: DSU { repr, size, n },
-        };
-    }
-    let first = size[wide(a)];
-    let second = size[wide(b)];
-    if n < wide(first) + wide(second) {
-        return Answer {
-            outcome: Outcome::Refused(StateRefusal::JoinSets),
-            sets,
-        };
+    let first = size[i];
+    let second = size[j];
+    let both = first + second;
+    if n < both as usize {
+        return United::Refused(StateRefusal::JoinSets);
     }
     if first < second {
-        return put_under(sets, repr, b, a);
+        repr[i] = b;
+        size[j] = both;
+        return United::Apart;
     }
-    put_under(sets, repr, a, b)
+    repr[j] = a;
+    size[i] = both;
+    United::Apart
+}
+
+// The classes of x and y made one, on lent arrays of any value: 23 is sought for both, then 24 on the way of x, on that of y, and
+// in the join. After a refusal the sizes are as they were, and the parents those that the finds left.
+fn union_in(repr: &mut [u32; 512], size: &mut [u32; 512], n: usize, x: usize, y: usize) -> United
+    ensures { λ r. ⌜ _≡_ {A = After} (r, now (repr .exit), now (size .exit)) (unionIn (now (repr .entry)) (now (size .entry)) n x y) ⌝ }
+{
+    if n <= x {
+        return United::Refused(StateRefusal::Element);
+    }
+    if n <= y {
+        return United::Refused(StateRefusal::Element);
+    }
+    let f = find_from(repr, size, n, x);
+    let Found::Root(a) = f else {
+        return United::Refused(StateRefusal::JoinSets);
+    };
+    let g = find_from(repr, size, n, y);
+    let Found::Root(b) = g else {
+        return United::Refused(StateRefusal::JoinSets);
+    };
+    join_roots(repr, size, n, a, b)
 }
 
 // The classes of x and y made one, where they are two, on lent arrays of valid sets; whether they were two. Two elements that are
@@ -153,23 +153,11 @@ pub fn join_in(repr: &mut [u32; 512], size: &mut [u32; 512], n: usize, x: usize,
     requires { ⌜ Valid (setsOf (now repr) (now size) n) × (x < n) × (y < n) ⌝ }
     ensures { λ r. ⌜ JoinLaw (setsOf (now (repr .entry)) (now (size .entry)) n) (setsOf (now (repr .exit)) (now (size .exit)) n) x y r ⌝ }
 {
-    let f = find_from(repr, size, n, x);
-    let Found::Root(a) = f else {
-        return false;
-    };
-    let g = find_from(repr, size, n, y);
-    let Found::Root(b) = g else {
-        return false;
-    };
-    if a == b {
-        return false;
+    match union_in(repr, size, n, x, y) {
+        United::Apart => true,
+        United::Together => false,
+        United::Refused(_) => false,
     }
-    if size[a as usize] < size[b as usize] {
-        put_in(repr, size, n, b, a);
-        return true;
-    }
-    put_in(repr, size, n, a, b);
-    true
 }
 
 impl DSU {
@@ -210,39 +198,22 @@ impl DSU {
         }
     }
 
-    // The classes of x and y made one.
+    // The classes of x and y made one. After a refusal the sets are as they were.
     pub fn union(self, x: usize, y: usize) -> Answer
         ensures { λ r. ⌜ r ≡ unionOf self x y ⌝ }
     {
-        let n = self.n;
-        if n <= x {
-            return Answer {
-                outcome: Outcome::Refused(StateRefusal::Element),
-                sets: self,
-            };
-        }
-        if n <= y {
-            return Answer {
-                outcome: Outcome::Refused(StateRefusal::Element),
-                sets: self,
-            };
-        }
         let mut repr = self.repr;
-        let size = self.size;
-        let f = find_from(&mut repr, &size, n, x);
-        let Found::Root(a) = f else {
-            return Answer {
-                outcome: Outcome::Refused(StateRefusal::JoinSets),
+        let mut size = self.size;
+        let n = self.n;
+        match union_in(&mut repr, &mut size, n, x, y) {
+            United::Refused(r) => Answer {
+                outcome: Outcome::Refused(r),
                 sets: self,
-            };
-        };
-        let g = find_from(&mut repr, &size, n, y);
-        let Found::Root(b) = g else {
-            return Answer {
-                outcome: Outcome::Refused(StateRefusal::JoinSets),
-                sets: self,
-            };
-        };
-        join_roots(self, repr, a, b)
+            },
+            _ => Answer {
+                outcome: Outcome::Done,
+                sets: DSU { repr, size, n },
+            },
+        }
     }
 }
