@@ -12,3 +12,5 @@ pub mod Laws
 pub mod Generated
 pub mod Lent
 pub mod Refusals
+pub mod Compressing
+pub mod Theorems

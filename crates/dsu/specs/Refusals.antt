@@ -1,4 +1,4 @@
--- When 23 and 24 are given, told with no walk: the elements on the way from x, and what may be broken at each.
+-- When 23 and 24 are given, and what a find leaves, told with no walk: the elements on the way from x, and what may be broken at each.
 use Prim.Native.Nat.{ℕ, _+_, _≤_, _<_}
 use mathlib.Core.Path.{_≡_}
 use mathlib.Core.Logic.{_⊎_, _↔_}
@@ -28,6 +28,14 @@ outcomeNumber (outcome.Refused r) = stateNumber r
 pub data OnWay (d : DSU) : ℕ → ℕ → Type 0 where
   here : {x : ℕ} → OnWay d x x
   next : {x y : ℕ} → (getD (d .repr) x 0 ≡ x → ⊥) → OnWay d (getD (d .repr) x 0) y → OnWay d x y
+
+-- e is d after a find of x that answered a: each element on the way from x has a as its parent, every other one the parent that it
+-- had; sizes and n are as they were
+pub record Compressed (d : DSU) (x a : ℕ) (e : DSU) : Type 0 where
+  pub passed : (y : ℕ) → OnWay d x y → getD (e .repr) y 0 ≡ a
+  pub others : (y : ℕ) → (OnWay d x y → ⊥) → getD (e .repr) y 0 ≡ getD (d .repr) y 0
+  pub sizes : e .size ≡ d .size
+  pub is-n : e .n ≡ d .n
 
 -- what is broken at y
 pub data Fault (d : DSU) (y : ℕ) : Type 0 where
