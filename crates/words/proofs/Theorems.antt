@@ -114,6 +114,7 @@ module _ (s w : List ℕ) (r : Acceptance) (call : answerOf r ≡ acceptsWords s
   pub accepts-words : (k : ℕ) → r ≡ Kind k → (0 < k) ↔ Accepts (read s) w
   accepts-words k h = let p = words-kind k h in kind-accepts s w (p .0) k (p .1)
 
+  -- it is 0 or 1
   pub accepts-words-bit : (k : ℕ) → r ≡ Kind k → k ≤ 1
   accepts-words-bit k h = let p = words-kind k h in kind-bit s w (p .0) k (p .1)
 
@@ -165,6 +166,7 @@ module _ (s t : List ℕ) (r : Acceptance) (call : answerOf r ≡ acceptsText s 
   pub accepts-text : (k : ℕ) → r ≡ Kind k → (ps : List ℕ) × Encoded t ps × ((0 < k) ↔ Accepts (read s) ps)
   accepts-text k h = let (f, (ps, c, e)) = text-kind k h in (ps, c, kind-accepts s ps f k e)
 
+  -- it is 0 or 1
   pub accepts-text-bit : (k : ℕ) → r ≡ Kind k → k ≤ 1
   accepts-text-bit k h = let (f, (ps, c, e)) = text-kind k h in kind-bit s ps f k e
 
