@@ -9,31 +9,46 @@
 -- reached-listed, determinize-states, determinize-transitions: how many states and transitions there are, counted in a list of the sets.
 -- determinize-wellformed, determinize-fits, determinize-written, determinize-read, determinize-room: the result can be written as a sheet.
 -- refused-21, refused-22, determinize-given: the exact conditions of the answers.
+-- Of the call `determinize::determinize`, from its contract:
+-- determinize-left, determinize-left-words, determinize-left-one: the result that it leaves in the outputs.
+-- determinize-20, determinize-fault, determinize-21, determinize-22, determinize-0: the exact conditions of its refusals, and of none.
+-- determinize-unchanged: a refusal leaves the outputs as they were.
 use Prim.Native.Nat.{ℕ, suc, _+_, _≤_, _<_}
 use mathlib.Core.List.{List, [], _∷_}
 use mathlib.Core.Logic.{_⊎_, _↔_}
-use mathlib.Core.Path.{_≡_, refl, sym, _∙_, subst}
+use mathlib.Core.Path.{_≡_, refl, sym, _∙_, ap, subst}
 use native.Mathlib.Omega.{arith}
-use lib.ListN.{length}
+use lib.ListN.{length, take}
 use Rattle.lists.specs.Lists.{_∈_, any, keep}
-use Rattle.lists.proofs.Lists.{keep-out}
+use Rattle.lists.proofs.Lists.{keep-out, length-tabulate}
 use Rattle.automata.specs.Automaton.{Transition, Automaton, Run, Accepts, Word, InBounds, carries}
-use Rattle.automata.specs.WellFormed.{WellFormed, Fits}
+use Rattle.automata.specs.WellFormed.{lastSymbol, WellFormed, Fits}
+use Rattle.labels.specs.Forms.{numberedLabel, numbered}
+use Rattle.labels.proofs.Listing.{labels-tabulate, label-numbered}
+use Rattle.output.specs.declared.Made.{Made}
+use Rattle.output.specs.declared.Made.the-variants.{Lengths}
+use Rattle.output.specs.Left.{madeNumber, Room, Leaves, Unchanged}
+use Rattle.output.specs.Made.{outputOf}
+use Rattle.output.specs.Output.{Pattern, outputs, roomFirst}
+use Rattle.output.proofs.Left.{Writable, call-refused, sheet-call-20, sheet-call-fault, sheet-call-number, sheet-call-given, sheet-call-leaves}
 use Rattle.sets.specs.Sets.{Set, has, pick}
+use Rattle.sheets.specs.Checked.{sheetFirst}
 use Rattle.sheets.specs.Fault.{fault}
 use Rattle.sheets.specs.Sheet.{read, write}
-use Rattle.sheets.proofs.Meaning.{read-write-sheet, write-accepted, write-room}
+use Rattle.sheets.proofs.Accepted.{accepted}
+use Rattle.sheets.proofs.Meaning.{read-well, read-write-sheet, write-accepted, write-room}
 use Rattle.words.specs.Simulation.{closure, outgoing, step, simulate, startSet, kind}
 use Rattle.ranges.specs.Span.{Span}
 use Rattle.ranges.specs.Missing.{missing, Holes}
 use Rattle.ranges.proofs.Missing.{missing-holes}
-use Rattle.refusal.specs.Answer.{refused, given}
+use Rattle.refusal.specs.Answer.{Answer, refused, given}
 use Rattle.search.specs.Search.{found, over}
 use Rattle.determinize.specs.Partition.{Part, partOf, partition, Parts}
 use Rattle.determinize.specs.Determinize.{table, built, determinize}
 use Rattle.automata.specs.Deterministic.{Deterministic, Between}
 use Rattle.determinize.specs.Sink.{Sink}
 use Rattle.determinize.specs.Reached.{MoreThan, AllReached, degrees, MoreTransitions}
+use Rattle.determinize.specs.Sheets.{labelled, determinizeSheet}
 use Rattle.determinize.proofs.Parts.{parts-exact}
 use Rattle.determinize.proofs.Steps.{part-step}
 use Rattle.determinize.proofs.Finished.{table-few, table-all, over-exact}
@@ -42,7 +57,7 @@ use Rattle.determinize.proofs.Runs.{transition-facts, words-kept, kind-
 use Rattle.determinize.proofs.Written.{built-well-formed}
 use Rattle.determinize.proofs.Sink.{state-same, part-transition, hole-transition, only-transition, sink-loop, sink-rejects}
 use Rattle.determinize.proofs.Counts.{listed-states, listed-transitions, many-exact}
-use Rattle.determinize.proofs.Answers.{Outcome, too-many-sets, too-many-transitions, fits, outcome, Built, made-built, refused-over, refused-many, answer-over}
+use Rattle.determinize.proofs.Answers.{Outcome, too-many-sets, too-many-transitions, fits, outcome, Built, made-built, refused-above, refused-over, refused-many, answer-over}
 
 module _ (lo hi : ℕ) (A : Automaton) (ok : InBounds A) where
   -- the parts of a set are those of document 01
@@ -201,3 +216,127 @@ module _ (lo hi : ℕ) (A : Automaton) (ok : InBounds A) where
       go (too-many-sets e q) = absurd (n (over-exact lo hi A ok .0 e))
       go (too-many-transitions T e h q) = absurd (k (many-exact lo hi A ok T e .0 h))
       go (fits T e h q) = (built lo hi A T, q)
+
+-- the answer with labels is refused and given where the answer is
+labelled-refused : (a : Answer Automaton) (n : ℕ) → (labelled a ≡ refused n) ↔ (a ≡ refused n)
+unfolding labelled
+labelled-refused (refused m) n = (λ e. let z : m ≡ n = cc in ap refused z, λ e. let z : m ≡ n = cc in ap refused z)
+labelled-refused (given D) n = (λ e. let z : _≡_ {A = ℕ} 0 1 = cc in absurd (omega arith), λ e. let z : _≡_ {A = ℕ} 0 1 = cc in absurd (omega arith))
+
+-- the result with its labels
+abbrev pattern : Automaton → Pattern
+pattern D = record { automaton = D; labels = numbered (D .size) }
+
+labelled-given : (a : Answer Automaton) (P : Pattern) → labelled a ≡ given P → (D : Automaton) × (a ≡ given D)
+unfolding labelled
+labelled-given (refused m) P e = let z : _≡_ {A = ℕ} 0 1 = cc in absurd (omega arith)
+labelled-given (given D) P e = (D, refl)
+
+given-labelled : (a : Answer Automaton) (D : Automaton) → a ≡ given D → labelled a ≡ given (pattern D)
+unfolding labelled
+given-labelled a D e = ap labelled e
+
+-- what the call leaves: r is its answer, o and l are the outputs before it, o′ and l′ after it
+module _ (s o l o′ l′ : List ℕ) (r : Made) (call : outputOf r o′ l′ ≡ outputs o l (determinizeSheet s o l)) where
+  -- the answer behind 20 and the sheet's faults
+  abbrev answer : Answer Pattern
+  answer = labelled (determinize 0 lastSymbol (read s))
+
+  contract : outputOf r o′ l′ ≡ outputs o l (roomFirst o l (sheetFirst s answer))
+  unfolding determinizeSheet
+  contract = call
+
+  well : fault s ≡ 0 → WellFormed (read s)
+  well f = read-well s (accepted s f)
+
+  over-20 : (n : ℕ) → answer ≡ refused n → 20 < n
+  over-20 n e = refused-above 0 lastSymbol (read s) n (labelled-refused (determinize 0 lastSymbol (read s)) n .0 e)
+
+  module _ (w b : ℕ) (lengths : r ≡ Lengths w b) where
+    made : (fault s ≡ 0) × ((D : Automaton) × (determinize 0 lastSymbol (read s) ≡ given D))
+    made =
+        let (room, f, (P, e)) = sheet-call-given s o l o′ l′ r answer contract .0 (ap madeNumber lengths) in
+        (f, labelled-given (determinize 0 lastSymbol (read s)) P e)
+
+    writable : (D : Automaton) → determinize 0 lastSymbol (read s) ≡ given D → Writable (pattern D)
+    unfolding numbered
+    writable D e =
+        let ok = well (made .0) in
+        let fits = determinize-fits 0 lastSymbol (read s) (ok .states) D e in
+        record {
+          well = determinize-wellformed 0 lastSymbol (read s) (ok .states) D e ok;
+          fits = fits;
+          labels = labels-tabulate (D .size) numberedLabel (λ k h. label-numbered k (omega (arith, fits .few-states)));
+          each = length-tabulate (D .size) numberedLabel;
+        }
+
+    -- the determinization stands in the outputs as an accepted sheet with the labels D0, D1 and so on; nothing behind it is changed
+    pub determinize-left : (D : Automaton) × (determinize 0 lastSymbol (read s) ≡ given D) × Leaves o l o′ l′ w b D (numbered (D .size))
+    determinize-left =
+        let (D, e) = made .1 in
+        (D, e, sheet-call-leaves s o l o′ l′ r answer contract w b lengths (pattern D) (given-labelled (determinize 0 lastSymbol (read s)) D e) (writable D e))
+
+    -- what is read from the output accepts the words of the input
+    pub determinize-left-words : (v : List ℕ) → Word 0 lastSymbol v → Accepts (read (take w o′)) v ↔ Accepts (read s) v
+    determinize-left-words v x =
+        let (D, e, left) = determinize-left in
+        subst (λ (E : Automaton). Accepts E v ↔ Accepts (read s) v) (sym (left .reads)) (determinize-words 0 lastSymbol (read s) (well (made .0) .states) D e v x)
+
+    -- and has exactly one transition for every symbol in every state
+    pub determinize-left-one : Deterministic 0 lastSymbol (read (take w o′))
+    determinize-left-one =
+        let (D, e, left) = determinize-left in
+        subst (Deterministic 0 lastSymbol) (sym (left .reads)) (determinize-deterministic 0 lastSymbol (read s) (well (made .0) .states) D e)
+
+  -- 20 is answered exactly where an output is too short
+  pub determinize-20 : (madeNumber r ≡ 20) ↔ (Room o l → ⊥)
+  determinize-20 = sheet-call-20 s o l o′ l′ r answer contract (λ e. let k = over-20 20 e in omega arith)
+
+  -- 1 to 6 are answered exactly where there is room and the sheet has that fault
+  pub determinize-fault : (n : ℕ) → 0 < n → n ≤ 6 → (madeNumber r ≡ n) ↔ (Room o l × (fault s ≡ n))
+  determinize-fault n some few = sheet-call-fault s o l o′ l′ r answer contract n some few (λ e. let k = over-20 n e in omega arith)
+
+  limit : (n : ℕ) → 20 < n → (madeNumber r ≡ n) ↔ (Room o l × (fault s ≡ 0) × (determinize 0 lastSymbol (read s) ≡ refused n))
+  limit n k =
+      let c = sheet-call-number s o l o′ l′ r answer contract n (omega arith) (λ z. omega arith) in
+      let q = labelled-refused (determinize 0 lastSymbol (read s)) n in
+      (λ e. let (m, f, h) = c .0 e in (m, f, q .0 h), λ (m, f, h). c .1 (m, f, q .1 h))
+
+  -- 21 is answered exactly where there is room, the sheet has no fault, and words reach more than 255 nonempty sets
+  pub determinize-21 : (madeNumber r ≡ 21) ↔ (Room o l × (fault s ≡ 0) × MoreThan 255 0 lastSymbol (read s))
+  determinize-21 =
+      let c = limit 21 (omega arith) in (
+        λ e. let (m, f, h) = c .0 e in (m, f, refused-21 0 lastSymbol (read s) (well f .states) .0 h),
+        λ (m, f, h). c .1 (m, f, refused-21 0 lastSymbol (read s) (well f .states) .1 h),
+      )
+
+  -- 22 is answered exactly where they don't, and the parts and the holes of the sets with the sink's loop are more than 2,048
+  pub determinize-22 : (madeNumber r ≡ 22)
+      ↔ (Room o l × (fault s ≡ 0) × (MoreThan 255 0 lastSymbol (read s) → ⊥) × MoreTransitions 2048 0 lastSymbol (read s))
+  determinize-22 =
+      let c = limit 22 (omega arith) in (
+        λ e. let (m, f, h) = c .0 e in let (n, k) = refused-22 0 lastSymbol (read s) (well f .states) .0 h in (m, f, n, k),
+        λ (m, f, n, k). c .1 (m, f, refused-22 0 lastSymbol (read s) (well f .states) .1 (n, k)),
+      )
+
+  -- nothing is refused exactly where none of them holds
+  pub determinize-0 : (madeNumber r ≡ 0)
+      ↔ (Room o l × (fault s ≡ 0) × (MoreThan 255 0 lastSymbol (read s) → ⊥) × (MoreTransitions 2048 0 lastSymbol (read s) → ⊥))
+  determinize-0 =
+      let c = sheet-call-given s o l o′ l′ r answer contract in (
+        λ e.
+            let (m, f, (P, h)) = c .0 e in
+            let (D, q) = labelled-given (determinize 0 lastSymbol (read s)) P h in
+            let few : MoreThan 255 0 lastSymbol (read s) → ⊥ = λ n. refused-given q (refused-21 0 lastSymbol (read s) (well f .states) .1 n) in
+            (m, f, few, λ k. refused-given q (refused-22 0 lastSymbol (read s) (well f .states) .1 (few, k))),
+        λ (m, f, n, k).
+            let (D, q) = determinize-given 0 lastSymbol (read s) (well f .states) n k in
+            c .1 (m, f, (pattern D, given-labelled (determinize 0 lastSymbol (read s)) D q)),
+      )
+    where
+      refused-given : {D : Automaton} {n : ℕ} → determinize 0 lastSymbol (read s) ≡ given D → determinize 0 lastSymbol (read s) ≡ refused n → ⊥
+      refused-given {D} {n} p q = let x : given D ≡ refused n = sym p ∙ q in let z : _≡_ {A = ℕ} 0 1 = cc in omega arith
+
+  -- a refusal leaves the outputs as they were
+  pub determinize-unchanged : (madeNumber r ≡ 0 → ⊥) → Unchanged o l o′ l′
+  determinize-unchanged = call-refused o l o′ l′ r (sheetFirst s answer) contract
