@@ -47,6 +47,15 @@ module _ (lo hi : ℕ) (A : Automaton) where
           ⊎-elim (λ t. let h = ltb-true mostTransitions n t in too-many-transitions T e h (answer-many T e h)) (λ t. let h = ltb-false mostTransitions n t in fits T e h (answer-given T e h))
           (test (ltb mostTransitions n))
 
+  -- no other refusal is given
+  pub refused-above : (n : ℕ) → determinize lo hi A ≡ refused n → 20 < n
+  refused-above n p = go outcome
+    where
+      go : Outcome → 20 < n
+      go (too-many-sets e q) = let z : 21 ≡ n = cc in omega arith
+      go (too-many-transitions T e h q) = let z : 22 ≡ n = cc in omega arith
+      go (fits T e h q) = let z : _≡_ {A = ℕ} 0 1 = cc in absurd (omega arith)
+
   -- an automaton that was given comes from a finished table, with few enough transitions
   pub record Built (D : Automaton) : Type 0 where
     pub sets : List Set

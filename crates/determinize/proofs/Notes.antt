@@ -28,7 +28,8 @@ use Rattle.words.proofs.Outgoing.{outgoing-nil, step-nil}
 use Rattle.determinize.specs.Determinize.{table, states, transitionOf, transitionsOf, transitionsFrom}
 use Rattle.determinize.specs.Notes.{number, noteOf, notesOf, notesFrom, sinkNotes, settle}
 use Rattle.determinize.proofs.Finished.{table-few, table-closed}
-use Rattle.determinize.proofs.Sink.{cut-nothing, sink-index}
+use Rattle.determinize.proofs.Runs.{sink-index}
+use Rattle.determinize.proofs.Sink.{cut-nothing}
 
 -- a set that a table has keeps its number while the table grows
 index-later : (R : Set) (T more : List Set) → R ∈ T → index same R (T ++ more) ≡ index same R T

@@ -4,20 +4,21 @@ use mathlib.Core.Bool.{true, false}
 use mathlib.Core.List.{List, [], List·Memᴰ·head}
 use mathlib.Core.Logic.{⊎-elim, _↔_}
 use mathlib.Core.Path.{_≡_, refl, sym, _∙_, ap, subst}
+use native.Mathlib.Nat.{eq-or-lt-of-le}
 use native.Mathlib.Omega.{arith}
 use borrow.Author.Tests.{eqb-true, leb-true, ltb-true, ltb-false}
 use lib.Dec.{eqb, leb, ltb}
 use lib.ListN.{getD, length, List·getD-eq-default}
-use Rattle.lists.specs.Lists.{_∈_, Distinct}
+use Rattle.lists.specs.Lists.{_∈_}
 use Rattle.lists.proofs.Lists.{keep-out}
 use Rattle.lists.proofs.Tests.{test, and-parts}
 use Rattle.automata.specs.Automaton.{Transition, Automaton, Run, stay, skip, read, Accepts, Word, none, more, InBounds, holds, carries}
 use Rattle.lists.specs.Index.{index, same}
-use Rattle.lists.proofs.Index.{index-le, index-place, same-decides}
+use Rattle.lists.proofs.Index.{index-le, index-in, index-place, same-decides}
 use Rattle.sets.specs.Sets.{Set, has}
 use Rattle.sets.proofs.Tables.{at-index}
 use Rattle.words.specs.Simulation.{closure, outgoing, step, simulate, startSet, kindOf, kind}
-use Rattle.words.proofs.Closures.{join, closure-sound, closure-complete}
+use Rattle.words.proofs.Closures.{join, closure-sound, closure-complete, run-bound}
 use Rattle.words.proofs.Simulation.{simulate-sound, simulate-complete, closure-shut, accepts-kind}
 use Rattle.words.proofs.Kind.{kindOf-some, kindOf-least}
 use Rattle.search.specs.Search.{found}
@@ -31,11 +32,6 @@ use Rattle.determinize.proofs.Result.{states-at, length-states, origin,
 zero-both : (a b : ℕ) → a ≤ 0 → (0 < b → 0 < a) → a ≡ b
 zero-both a zero h f = omega arith
 zero-both a (suc b) h f = absurd (let g = f (omega arith) in omega arith)
-
--- distinct sets stand at different places
-distinct-at : (T : List Set) → Distinct T → (i j : ℕ) → i < length T → j < length T → getD T i [] ≡ getD T j [] → i ≡ j
-distinct-at T d i j a b e =
-    sym (index-place same same-decides [] d i a) ∙ ap (λ S. index same S T) e ∙ index-place same same-decides [] d j b
 
 module _ (lo hi : ℕ) (A : Automaton) (ok : InBounds A) (T : List Set) (e : table lo hi A ≡ found T) where
   abbrev D : Automaton
@@ -136,15 +132,35 @@ module _ (lo hi : ℕ) (A : Automaton) (ok : InBounds A) (T : List Set) (e : tab
       zero-both _ (getD (D .accept) (r .0) 0) z y ∙ end-kind (r .1))
       (test (ltb 0 (kindOf D S)))
 
+  -- the empty set is not in the table
+  pub sink-index : index same [] T ≡ length T
+  sink-index =
+      ⊎-elim (λ (q : index same [] T ≡ length T). q) (λ (l : index same [] T < length T). absurd (table-all lo hi A ok T e .good .nonempty [] (index-in same same-decides [] T l) refl))
+      (eq-or-lt-of-le (index-le same [] T))
+
+  -- a state is the place of its set, the sink that of the empty set
+  state-index : (j : ℕ) → j < D .size → index same (getD T j []) T ≡ j
+  unfolding built
+  state-index j h =
+      ⊎-elim (λ t. index-place same same-decides [] (table-all lo hi A ok T e .good .distinct) j (ltb-true j (length T) t))
+      (λ t.
+      let l : length T ≤ j = ltb-false j (length T) t in
+      let z : length T ≡ j = omega arith in
+      ap (λ S. index same S T) (List·getD-eq-default T [] l) ∙ sink-index ∙ z)
+      (test (ltb j (length T)))
+
+  -- a word leads to a state exactly where it leads to the state's set
+  pub run-exact : (k : ℕ) → k < D .size → (v : List ℕ) → Word lo hi v → Run D (D .start) v k ↔ (simulate A (startSet A) v ≡ getD T k [])
+  run-exact k h v x = (
+    λ r. sym (run-end r),
+    λ q.
+        let (i, r) = run-on x (D .start) (built-bounds .starts) in
+        let z : i ≡ k = sym (state-index i (run-bound D built-bounds (built-bounds .starts) r)) ∙ ap (λ S. index same S T) (run-end r ∙ q) ∙ state-index k h in
+        subst (λ i. Run D (D .start) v i) z r,
+  )
+
   -- a word leads to every state but the sink
   pub state-reached : (j : ℕ) → j < length T → (w : List ℕ) × Word lo hi w × Run D (D .start) w j
   state-reached j h =
-      let g = table-all lo hi A ok T e .good in
-      let m = at-in T j [] h in
-      let x = g .reached _ m in
-      let r = run-on (x .1) (D .start) (built-bounds .starts) in
-      let k = r .0 in
-      let q : getD T k [] ≡ getD T j [] = run-end (r .1) ∙ x .2 in
-      let l : k < length T =
-      ⊎-elim (λ t. ltb-true k (length T) t) (λ t. absurd (g .nonempty _ m (sym q ∙ List·getD-eq-default T [] (ltb-false k (length T) t)))) (test (ltb k (length T))) in
-      (x .0, x .1, subst (λ k. Run D (D .start) (x .0) k) (distinct-at T (g .distinct) k j l h q) (r .1))
+      let (w, v, q) = table-all lo hi A ok T e .good .reached _ (at-in T j [] h) in
+      (w, v, run-exact j (unfold built in omega arith) w v .1 q)

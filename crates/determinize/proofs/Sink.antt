@@ -1,21 +1,21 @@
 -- Where the transitions lead: those of the parts to the sets of the parts, those of the holes to the sink, and the sink's loop to itself.
-use Prim.Native.Nat.{ℕ, suc, _-_, _≤_, _<_}
+use Prim.Native.Nat.{ℕ, suc, _+_, _-_, _≤_, _<_}
 use mathlib.Core.Bool.{true, false, not}
 use mathlib.Core.List.{List, [], _∷_, map}
-use mathlib.Core.Logic.{⊎-elim, _↔_}
-use mathlib.Core.Path.{_≡_, refl, sym, _∙_, ap, subst}
-use native.Mathlib.Nat.{eq-or-lt-of-le}
+use mathlib.Core.Logic.{_⊎_, inl, inr, ⊎-elim, _↔_}
+use mathlib.Core.Path.{_≡_, sym, _∙_, ap, subst}
 use native.Mathlib.Omega.{arith}
 use borrow.Author.Tests.{not-true}
 use lib.Dec.{eqb}
 use lib.ListN.{getD, length, List·getD-eq-default}
 use Rattle.lists.specs.Lists.{_∈_, any}
-use Rattle.lists.proofs.Lists.{keep-out}
+use Rattle.lists.proofs.Lists.{keep-in, keep-out}
 use Rattle.lists.proofs.Tests.{test}
-use Rattle.automata.specs.Automaton.{Automaton, Run, InBounds, holds, leaving}
+use Rattle.automata.specs.Automaton.{Transition, Automaton, Run, Word, InBounds, holds, leaving}
 use Rattle.lists.specs.Index.{index, same}
-use Rattle.lists.proofs.Index.{index-le, index-in, index-lt, same-decides}
+use Rattle.lists.proofs.Index.{index-lt, same-decides}
 use Rattle.sets.specs.Sets.{Set}
+use Rattle.sets.proofs.Tables.{at-index}
 use Rattle.words.specs.Simulation.{outgoing, step, simulate, startSet, kindOf}
 use Rattle.words.proofs.Closures.{run-bound}
 use Rattle.ranges.specs.Span.{Span}
@@ -27,12 +27,12 @@ use Rattle.lists.proofs.Members.{map-in}
 use Rattle.ranges.proofs.Spans.{cut-stretch}
 use Rattle.words.proofs.Outgoing.{outgoing-nil, step-nil}
 use Rattle.determinize.specs.Partition.{Part, partOf, partition}
-use Rattle.determinize.specs.Determinize.{table, transitionOf, transitionsOf, built}
-use Rattle.determinize.proofs.Parts.{part-out}
+use Rattle.determinize.specs.Determinize.{table, states, transitionOf, transitionsOf, built}
+use Rattle.determinize.proofs.Parts.{part-out, part-in}
 use Rattle.determinize.proofs.Steps.{step-free, step-held}
-use Rattle.determinize.proofs.Finished.{table-closed, table-all}
-use Rattle.determinize.proofs.Runs.{built-bounds, run-end}
-use Rattle.determinize.proofs.Result.{leaving-built, accept-built}
+use Rattle.determinize.proofs.Finished.{table-closed}
+use Rattle.determinize.proofs.Runs.{built-bounds, run-end, run-exact, sink-index}
+use Rattle.determinize.proofs.Result.{states-at, origin, leaving-built, accept-built}
 
 -- without ranges there is one span
 pub cut-nothing : (lo hi : ℕ) → lo ≤ hi → cutAll lo hi [] ≡ record { low = lo; high = hi } ∷ []
@@ -42,12 +42,6 @@ cut-nothing lo hi h =
     cut-step hi [] lo h ∙ rw (z, cut-end hi [] (suc hi) (omega arith))
 
 module _ (lo hi : ℕ) (A : Automaton) (ok : InBounds A) (T : List Set) (e : table lo hi A ≡ found T) where
-  -- the empty set is not in the table
-  pub sink-index : index same [] T ≡ length T
-  sink-index =
-      ⊎-elim (λ (q : index same [] T ≡ length T). q) (λ (l : index same [] T < length T). absurd (table-all lo hi A ok T e .good .nonempty [] (index-in same same-decides [] T l) refl))
-      (eq-or-lt-of-le (index-le same [] T))
-
   -- a symbol leads to the sink exactly if no range of the set holds it
   pub holes-sink : (j x : ℕ) → lo ≤ x → x ≤ hi → (index same (step A (getD T j []) x) T ≡ length T) ↔ (any (holds x) (outgoing A (getD T j [])) ≡ false)
   holes-sink j x l u =
@@ -61,7 +55,7 @@ module _ (lo hi : ℕ) (A : Automaton) (ok : InBounds A) (T : List Set) (e : tab
             (table-closed lo hi A ok T e j x l u)))
             (λ t. t)
             (test (any (holds x) (outgoing A S))),
-        λ f. rw (step-free A S x f) sink-index,
+        λ f. rw (step-free A S x f) (sink-index lo hi A ok T e),
       )
 
   abbrev D : Automaton
@@ -81,8 +75,13 @@ module _ (lo hi : ℕ) (A : Automaton) (ok : InBounds A) (T : List Set) (e : tab
     near : j < D .size
     near = run-bound D (built-bounds lo hi A ok T e) (built-bounds lo hi A ok T e .starts) r
 
+    -- words lead to this state exactly where they lead to the same set
+    pub state-same : (v : List ℕ) → Word lo hi v → Run D (D .start) v j ↔ (simulate A (startSet A) v ≡ simulate A (startSet A) w)
+    state-same v x = let t = run-exact lo hi A ok T e j near v x in (λ q. t .0 q ∙ here, λ q. t .1 (q ∙ sym here))
+
     pub part-transition : (p : Part) → p ∈ partition (A .size) lo hi (outgoing A (simulate A (startSet A) w))
         → (k : ℕ) × (k < length T) × ((record { from = j; kind = 1; first = p .low; last = p .high; to = k }) ∈ D .transitions)
+        × (getD T k [] ≡ step A (simulate A (startSet A) w) (p .low))
     unfolding transitionOf partOf
     part-transition p m =
         let S = getD T j [] in
@@ -90,12 +89,13 @@ module _ (lo hi : ℕ) (A : Automaton) (ok : InBounds A) (T : List Set) (e : tab
         let s = x .span in
         let v = cut-stretch lo hi (outgoing A S) s (x .in) in
         let k = index same (step A S (s .low)) T in
+        let i = table-closed lo hi A ok T e j (s .low) (v .above) (omega (arith, v .full, v .below)) in
         let l : k < length T =
-        ⊎-elim (λ (z : step A S (s .low) ≡ []). absurd (step-held A ok S (s .low) (x .held) z)) (λ i. index-lt same same-decides (step A S (s .low)) i)
-        (table-closed lo hi A ok T e j (s .low) (v .above) (omega (arith, v .full, v .below))) in (
+        ⊎-elim (λ (z : step A S (s .low) ≡ []). absurd (step-held A ok S (s .low) (x .held) z)) (λ i. index-lt same same-decides (step A S (s .low)) i) i in (
           k,
           l,
           subst (λ (q : Part). (record { from = j; kind = 1; first = q .low; last = q .high; to = k }) ∈ D .transitions) (sym (x .is)) (span-in j near s (x .in)),
+          at-index T (step A S (s .low)) i ∙ ap (λ R. step A R (s .low)) here ∙ ap (λ (q : Part). step A (simulate A (startSet A) w) (q .low)) (sym (x .is)),
         )
 
     pub hole-transition : (s : Span) → s ∈ missing lo hi (outgoing A (simulate A (startSet A) w))
@@ -107,6 +107,24 @@ module _ (lo hi : ℕ) (A : Automaton) (ok : InBounds A) (T : List Set) (e : tab
         let v = cut-stretch lo hi (outgoing A S) s (k .0) in
         rw (sym (holes-sink j (s .low) (v .above) (omega (arith, v .full, v .below)) .1 (not-true _ (k .1)))) (span-in j near s (k .0))
 
+    -- each transition that leaves it is that of a part or of a hole
+    pub only-transition : (d : Transition) → d ∈ D .transitions → d .from ≡ j
+        → ((p : Part) × p ∈ partition (A .size) lo hi (outgoing A (simulate A (startSet A) w)) × (d .first ≡ p .low) × (d .last ≡ p .high))
+        ⊎ ((h : Span) × h ∈ missing lo hi (outgoing A (simulate A (startSet A) w)) × (d .first ≡ h .low) × (d .last ≡ h .high))
+    unfolding built transitionOf partOf missing covered
+    only-transition d m f =
+        let S = simulate A (startSet A) w in
+        let r = origin lo hi A T 0 (states T) d m in
+        let s = r .span in
+        let g : d .from ≡ 0 + r .place = ap (λ x. x .from) (r .is) in
+        let q : r .place ≡ j = omega arith in
+        let i : s ∈ cutAll lo hi (outgoing A S) = subst (λ R. s ∈ cutAll lo hi (outgoing A R)) (states-at T (r .place) ∙ ap (λ k. getD T k []) q ∙ here) (r .in) in
+        let a : d .first ≡ s .low = ap (λ x. x .first) (r .is) in
+        let b : d .last ≡ s .high = ap (λ x. x .last) (r .is) in
+        ⊎-elim (λ (t : any (holds (s .low)) (outgoing A S) ≡ true). inl (partOf (A .size) (outgoing A S) s, part-in (A .size) lo hi (outgoing A S) s i t, a, b))
+        (λ (t : any (holds (s .low)) (outgoing A S) ≡ false). inr (s, keep-in (λ s. not (covered (outgoing A S) s)) i (ap not t), a, b))
+        (test (any (holds (s .low)) (outgoing A S)))
+
   pub sink-loop : lo ≤ hi → leaving D (length T) ≡ record { from = length T; kind = 1; first = lo; last = hi; to = length T } ∷ []
   unfolding transitionsOf transitionOf
   sink-loop h =
@@ -114,7 +132,7 @@ module _ (lo hi : ℕ) (A : Automaton) (ok : InBounds A) (T : List Set) (e : tab
       leaving-built lo hi A T n (unfold built in omega arith)
       ∙ ap (transitionsOf lo hi A T n) (List·getD-eq-default T [] (omega arith))
       ∙ ap (map (transitionOf A T n [])) (ap (cutAll lo hi) (outgoing-nil A) ∙ cut-nothing lo hi h)
-      ∙ ap (λ k. record { from = n; kind = 1; first = lo; last = hi; to = k } ∷ []) (ap (λ R. index same R T) (step-nil A lo) ∙ sink-index)
+      ∙ ap (λ k. record { from = n; kind = 1; first = lo; last = hi; to = k } ∷ []) (ap (λ R. index same R T) (step-nil A lo) ∙ sink-index lo hi A ok T e)
 
   pub sink-rejects : getD (D .accept) (length T) 0 ≡ 0
   unfolding kindOf

@@ -1,46 +1,71 @@
 -- What is proved of determinizing, for every automaton whose states are in bounds. An accepted sheet reads as such an automaton, and as a
 -- well-formed one. `lo` and `hi` are the least and the greatest symbol.
+-- determinize-parts, determinize-holes, determinize-targets: the parts, the holes and the targets of a set are those of document 01.
+-- determinize-words, determinize-kinds: the words are kept.
+-- determinize-one, determinize-deterministic, determinize-between: every symbol has exactly one transition in every state.
+-- determinize-reached, determinize-sink: words lead to all states but the last, which is the sink.
+-- determinize-state: states are sets; determinize-part, determinize-hole, determinize-only: each part and each hole has its transition, and there are
+-- no others.
+-- reached-listed, determinize-states, determinize-transitions: how many states and transitions there are, counted in a list of the sets.
+-- determinize-wellformed, determinize-fits, determinize-written, determinize-read, determinize-room: the result can be written as a sheet.
+-- refused-21, refused-22, determinize-given: the exact conditions of the answers.
+-- Of the call `determinize::determinize`, from its contract:
+-- determinize-left, determinize-left-words, determinize-left-one: the result that it leaves in the outputs.
+-- determinize-20, determinize-fault, determinize-21, determinize-22, determinize-0: the exact conditions of its refusals, and of none.
+-- determinize-unchanged: a refusal leaves the outputs as they were.
 use Prim.Native.Nat.{ℕ, suc, _+_, _≤_, _<_}
 use mathlib.Core.List.{List, [], _∷_}
-use mathlib.Core.Logic.{_↔_}
-use mathlib.Core.Path.{_≡_, refl, sym, _∙_, subst}
+use mathlib.Core.Logic.{_⊎_, _↔_}
+use mathlib.Core.Path.{_≡_, refl, sym, _∙_, ap, subst}
 use native.Mathlib.Omega.{arith}
-use lib.ListN.{length}
+use lib.ListN.{length, take}
 use Rattle.lists.specs.Lists.{_∈_, any, keep}
-use Rattle.lists.proofs.Lists.{keep-out}
+use Rattle.lists.proofs.Lists.{keep-out, length-tabulate}
 use Rattle.automata.specs.Automaton.{Transition, Automaton, Run, Accepts, Word, InBounds, carries}
-use Rattle.automata.specs.WellFormed.{WellFormed, Fits}
+use Rattle.automata.specs.WellFormed.{lastSymbol, WellFormed, Fits}
+use Rattle.labels.specs.Forms.{numberedLabel, numbered}
+use Rattle.labels.proofs.Listing.{labels-tabulate, label-numbered}
+use Rattle.output.specs.declared.Made.{Made}
+use Rattle.output.specs.declared.Made.the-variants.{Lengths}
+use Rattle.output.specs.Left.{madeNumber, Room, Leaves, Unchanged}
+use Rattle.output.specs.Made.{outputOf}
+use Rattle.output.specs.Output.{Pattern, outputs, roomFirst}
+use Rattle.output.proofs.Left.{Writable, call-refused, sheet-call-20, sheet-call-fault, sheet-call-number, sheet-call-given, sheet-call-leaves}
 use Rattle.sets.specs.Sets.{Set, has, pick}
+use Rattle.sheets.specs.Checked.{sheetFirst}
 use Rattle.sheets.specs.Fault.{fault}
 use Rattle.sheets.specs.Sheet.{read, write}
-use Rattle.sheets.proofs.Meaning.{read-write-sheet, write-accepted, write-room}
+use Rattle.sheets.proofs.Accepted.{accepted}
+use Rattle.sheets.proofs.Meaning.{read-well, read-write-sheet, write-accepted, write-room}
 use Rattle.words.specs.Simulation.{closure, outgoing, step, simulate, startSet, kind}
 use Rattle.ranges.specs.Span.{Span}
 use Rattle.ranges.specs.Missing.{missing, Holes}
 use Rattle.ranges.proofs.Missing.{missing-holes}
-use Rattle.refusal.specs.Answer.{refused, given}
+use Rattle.refusal.specs.Answer.{Answer, refused, given}
 use Rattle.search.specs.Search.{found, over}
 use Rattle.determinize.specs.Partition.{Part, partOf, partition, Parts}
 use Rattle.determinize.specs.Determinize.{table, built, determinize}
 use Rattle.automata.specs.Deterministic.{Deterministic, Between}
 use Rattle.determinize.specs.Sink.{Sink}
 use Rattle.determinize.specs.Reached.{MoreThan, AllReached, degrees, MoreTransitions}
+use Rattle.determinize.specs.Sheets.{labelled, determinizeSheet}
 use Rattle.determinize.proofs.Parts.{parts-exact}
 use Rattle.determinize.proofs.Steps.{part-step}
-use Rattle.determinize.proofs.Finished.{table-few, over-exact}
+use Rattle.determinize.proofs.Finished.{table-few, table-all, over-exact}
 use Rattle.determinize.proofs.Result.{one-built}
-use Rattle.determinize.proofs.Runs.{transition-facts, words-kept, kind-kept, state-reached}
+use Rattle.determinize.proofs.Runs.{transition-facts, words-kept, kind-kept, state-reached, run-exact}
 use Rattle.determinize.proofs.Written.{built-well-formed}
-use Rattle.determinize.proofs.Sink.{part-transition, hole-transition, sink-loop, sink-rejects}
+use Rattle.determinize.proofs.Sink.{state-same, part-transition, hole-transition, only-transition, sink-loop, sink-rejects}
 use Rattle.determinize.proofs.Counts.{listed-states, listed-transitions, many-exact}
-use Rattle.determinize.proofs.Answers.{Outcome, too-many-sets, too-many-transitions, fits, outcome, Built, made-built, refused-over, refused-many, answer-over}
+use Rattle.determinize.proofs.Answers.{Outcome, too-many-sets, too-many-transitions, fits, outcome, Built, made-built, refused-above, refused-over, refused-many, answer-over}
 
 module _ (lo hi : ℕ) (A : Automaton) (ok : InBounds A) where
-  -- the parts and the holes of a set are those of document 01
+  -- the parts of a set are those of document 01
   pub determinize-parts : (S : Set) → Parts lo hi (outgoing A S) (partition (A .size) lo hi (outgoing A S))
   determinize-parts S =
       parts-exact (A .size) lo hi (outgoing A S) (unfold outgoing in λ e m. ok .tos e (keep-out _ e (A .transitions) m .0))
 
+  -- its holes are the maximal runs of symbols that no range holds
   pub determinize-holes : WellFormed A → (S : Set) → Holes lo hi (outgoing A S) (missing lo hi (outgoing A S))
   determinize-holes w S = missing-holes lo hi (outgoing A S) (unfold outgoing in λ e m. w .sound e (keep-out _ e (A .transitions) m .0) .full)
 
@@ -53,32 +78,36 @@ module _ (lo hi : ℕ) (A : Automaton) (ok : InBounds A) where
     by : Built lo hi A D
     by = made-built lo hi A D e
 
-    -- the words are kept, and their kinds
+    -- the words are kept
     pub determinize-words : (w : List ℕ) → Word lo hi w → Accepts D w ↔ Accepts A w
     determinize-words w v = rw (by .is) (words-kept lo hi A ok (by .sets) (by .whole) w v)
 
+    -- and the accept word that each word is given
     pub determinize-kinds : (w : List ℕ) → Word lo hi w → kind D w ≡ kind A w
     determinize-kinds w v = rw (by .is) (kind-kept lo hi A ok (by .sets) (by .whole) w v)
 
-    -- every symbol between the ends has exactly one transition in every state, and there are no epsilons
+    -- every symbol between the ends has exactly one transition in every state
     pub determinize-one : (j x : ℕ) → j < D .size → lo ≤ x → x ≤ hi → (d : Transition) × (keep (carries j x) (D .transitions) ≡ d ∷ [])
     determinize-one = rw (by .is) (one-built lo hi A (by .sets))
 
+    -- and there are no epsilons
     pub determinize-deterministic : Deterministic lo hi D
     determinize-deterministic =
         let l = transition-facts lo hi A ok (by .sets) (by .whole) in
         rw (by .is) (record { ranges = λ d m. l d m .is-range; one = one-built lo hi A (by .sets) })
 
+    -- no transition holds a symbol outside the ends
     pub determinize-between : Between lo hi D
     determinize-between =
         let l = transition-facts lo hi A ok (by .sets) (by .whole) in
         rw (by .is) (record { above = λ d m. l d m .low; below = λ d m. l d m .high })
 
-    -- a word leads to every state but the last, and the last is the sink
+    -- a word leads to every state but the last
     pub determinize-reached : (j : ℕ) → suc j < D .size → (w : List ℕ) × Word lo hi w × Run D (D .start) w j
     unfolding built
     determinize-reached j h = rw (by .is) (state-reached lo hi A ok (by .sets) (by .whole) j (let k = rw (by .is) at h in omega (arith, k)))
 
+    -- the last state is the sink: it loops on all symbols and rejects
     pub determinize-sink : lo ≤ hi → Sink lo hi D
     determinize-sink h =
         rw (by .is)
@@ -89,18 +118,25 @@ module _ (lo hi : ℕ) (A : Automaton) (ok : InBounds A) where
           rejects = sink-rejects lo hi A ok (by .sets) (by .whole);
         })
 
-    -- a state to which a word leads has a transition for each part, to a state that is not the sink, and one for each hole, to the sink
+    -- of a state to which a word w leads
     module _ (w : List ℕ) (j : ℕ) (r : Run D (D .start) w j) where
       run : Run (built lo hi A (by .sets)) (built lo hi A (by .sets) .start) w j
       run = subst (λ (E : Automaton). Run E (E .start) w j) (by .is) r
 
+      -- states are sets: another word leads to it exactly where it leads to the same set
+      pub determinize-state : (v : List ℕ) → Word lo hi v → Run D (D .start) v j ↔ (simulate A (startSet A) v ≡ simulate A (startSet A) w)
+      determinize-state v x = rw (by .is) (state-same lo hi A ok (by .sets) (by .whole) w j run v x)
+
+      -- each part of its set has a transition, to the state of exactly the set to which the part leads; that is not the sink
       pub determinize-part : (p : Part) → p ∈ partition (A .size) lo hi (outgoing A (simulate A (startSet A) w))
           → (k : ℕ) × (suc k < D .size) × ((record { from = j; kind = 1; first = p .low; last = p .high; to = k }) ∈ D .transitions)
+          × ((v : List ℕ) → Word lo hi v → Run D (D .start) v k ↔ (simulate A (startSet A) v ≡ step A (simulate A (startSet A) w) (p .low)))
       unfolding built
       determinize-part p m =
-          let x = part-transition lo hi A ok (by .sets) (by .whole) w j run p m in
-          rw (by .is) (x .0, omega (arith, x .1), x .2)
+          let (k, l, t, q) = part-transition lo hi A ok (by .sets) (by .whole) w j run p m in
+          rw (by .is) (k, omega arith, t, λ v x. let c = run-exact lo hi A ok (by .sets) (by .whole) k (omega arith) v x in (λ y. c .0 y ∙ q, λ y. c .1 (y ∙ sym q)))
 
+      -- each hole of its set has a transition, to the sink
       pub determinize-hole : (s : Span) → s ∈ missing lo hi (outgoing A (simulate A (startSet A) w)) → (k : ℕ) → D .size ≡ suc k
           → (record { from = j; kind = 1; first = s .low; last = s .high; to = k }) ∈ D .transitions
       unfolding built
@@ -108,37 +144,59 @@ module _ (lo hi : ℕ) (A : Automaton) (ok : InBounds A) where
           let z : length (by .sets) ≡ k = let y = rw (by .is) at n in omega (arith, y) in
           rw (by .is, ← z) (hole-transition lo hi A ok (by .sets) (by .whole) w j run s m)
 
-    -- the states and the transitions, counted in any list of the nonempty sets that words reach
+      -- it has no other transitions
+      pub determinize-only : (d : Transition) → d ∈ D .transitions → d .from ≡ j
+          → ((p : Part) × p ∈ partition (A .size) lo hi (outgoing A (simulate A (startSet A) w)) × (d .first ≡ p .low) × (d .last ≡ p .high))
+          ⊎ ((h : Span) × h ∈ missing lo hi (outgoing A (simulate A (startSet A) w)) × (d .first ≡ h .low) × (d .last ≡ h .high))
+      determinize-only d m f =
+          only-transition lo hi A ok (by .sets) (by .whole) w j run d (subst (λ (E : Automaton). d ∈ E .transitions) (by .is) m) f
+
+    -- the states are the nonempty sets that words reach, in whatever order they are listed, and the sink
     pub determinize-states : (U : List Set) → AllReached lo hi A U → D .size ≡ length U + 1
     determinize-states U u = rw (by .is) (listed-states lo hi A ok (by .sets) (by .whole) U u)
 
+    -- the transitions are the parts and the holes of these sets, and the sink's loop
     pub determinize-transitions : lo ≤ hi → (U : List Set) → AllReached lo hi A U → length (D .transitions) ≡ degrees lo hi A U + 1
     determinize-transitions h U u = rw (by .is) (listed-transitions lo hi A ok (by .sets) (by .whole) h U u)
 
-    -- the result is written as an accepted sheet
+    -- the result of a well-formed automaton is well-formed
     pub determinize-wellformed : WellFormed A → WellFormed D
     determinize-wellformed w = rw (by .is) (built-well-formed lo hi A w (by .sets) (by .whole))
 
+    -- it has at most 256 states and 2,048 transitions
     pub determinize-fits : Fits D
     unfolding built
     determinize-fits = record { few-states = rw (by .is) (omega (arith, table-few lo hi A ok (by .sets) (by .whole))); few-transitions = by .few }
 
+    -- it is written as an accepted sheet
     pub determinize-written : WellFormed A → fault (write D) ≡ 0
     determinize-written w = write-accepted D (determinize-wellformed w) determinize-fits
 
+    -- from which it is read again
     pub determinize-read : WellFormed A → read (write D) ≡ D
     determinize-read w = read-write-sheet D (determinize-wellformed w .accepts)
 
+    -- and which an output of the fixed size has room for
     pub determinize-room : WellFormed A → length (write D) ≤ 10500
     determinize-room w = write-room D (determinize-wellformed w .accepts) determinize-fits
 
-  -- the exact conditions of the refusals
+  -- where 21 is not given there is a list of the sets that words reach
+  pub reached-listed : (MoreThan 255 lo hi A → ⊥) → (T : List Set) × AllReached lo hi A T
+  reached-listed n = go (outcome lo hi A)
+    where
+      go : Outcome lo hi A → (T : List Set) × AllReached lo hi A T
+      go (too-many-sets e q) = absurd (n (over-exact lo hi A ok .0 e))
+      go (too-many-transitions T e h q) = (T, table-all lo hi A ok T e)
+      go (fits T e h q) = (T, table-all lo hi A ok T e)
+
+  -- 21 is given exactly where words reach more than 255 nonempty sets
   pub refused-21 : (determinize lo hi A ≡ refused 21) ↔ MoreThan 255 lo hi A
   refused-21 = (λ e. over-exact lo hi A ok .0 (refused-over lo hi A e), λ m. answer-over lo hi A (over-exact lo hi A ok .1 m))
 
   found-few : {T : List Set} → table lo hi A ≡ found T → MoreThan 255 lo hi A → ⊥
   found-few {T} e m = let c : found T ≡ over = sym e ∙ over-exact lo hi A ok .1 m in let z : _≡_ {A = ℕ} 0 1 = cc in absurd (omega arith)
 
+  -- 22 is given exactly where they don't, and the parts and the holes of the sets with the sink's loop are more than 2,048
   pub refused-22 : (determinize lo hi A ≡ refused 22) ↔ ((MoreThan 255 lo hi A → ⊥) × MoreTransitions 2048 lo hi A)
   refused-22 = (
     λ e. let r = refused-many lo hi A e in (found-few (r .whole), many-exact lo hi A ok (r .sets) (r .whole) .0 (r .many)),
@@ -158,3 +216,127 @@ module _ (lo hi : ℕ) (A : Automaton) (ok : InBounds A) where
       go (too-many-sets e q) = absurd (n (over-exact lo hi A ok .0 e))
       go (too-many-transitions T e h q) = absurd (k (many-exact lo hi A ok T e .0 h))
       go (fits T e h q) = (built lo hi A T, q)
+
+-- the answer with labels is refused and given where the answer is
+labelled-refused : (a : Answer Automaton) (n : ℕ) → (labelled a ≡ refused n) ↔ (a ≡ refused n)
+unfolding labelled
+labelled-refused (refused m) n = (λ e. let z : m ≡ n = cc in ap refused z, λ e. let z : m ≡ n = cc in ap refused z)
+labelled-refused (given D) n = (λ e. let z : _≡_ {A = ℕ} 0 1 = cc in absurd (omega arith), λ e. let z : _≡_ {A = ℕ} 0 1 = cc in absurd (omega arith))
+
+-- the result with its labels
+abbrev pattern : Automaton → Pattern
+pattern D = record { automaton = D; labels = numbered (D .size) }
+
+labelled-given : (a : Answer Automaton) (P : Pattern) → labelled a ≡ given P → (D : Automaton) × (a ≡ given D)
+unfolding labelled
+labelled-given (refused m) P e = let z : _≡_ {A = ℕ} 0 1 = cc in absurd (omega arith)
+labelled-given (given D) P e = (D, refl)
+
+given-labelled : (a : Answer Automaton) (D : Automaton) → a ≡ given D → labelled a ≡ given (pattern D)
+unfolding labelled
+given-labelled a D e = ap labelled e
+
+-- what the call leaves: r is its answer, o and l are the outputs before it, o′ and l′ after it
+module _ (s o l o′ l′ : List ℕ) (r : Made) (call : outputOf r o′ l′ ≡ outputs o l (determinizeSheet s o l)) where
+  -- the answer behind 20 and the sheet's faults
+  abbrev answer : Answer Pattern
+  answer = labelled (determinize 0 lastSymbol (read s))
+
+  contract : outputOf r o′ l′ ≡ outputs o l (roomFirst o l (sheetFirst s answer))
+  unfolding determinizeSheet
+  contract = call
+
+  well : fault s ≡ 0 → WellFormed (read s)
+  well f = read-well s (accepted s f)
+
+  over-20 : (n : ℕ) → answer ≡ refused n → 20 < n
+  over-20 n e = refused-above 0 lastSymbol (read s) n (labelled-refused (determinize 0 lastSymbol (read s)) n .0 e)
+
+  module _ (w b : ℕ) (lengths : r ≡ Lengths w b) where
+    made : (fault s ≡ 0) × ((D : Automaton) × (determinize 0 lastSymbol (read s) ≡ given D))
+    made =
+        let (room, f, (P, e)) = sheet-call-given s o l o′ l′ r answer contract .0 (ap madeNumber lengths) in
+        (f, labelled-given (determinize 0 lastSymbol (read s)) P e)
+
+    writable : (D : Automaton) → determinize 0 lastSymbol (read s) ≡ given D → Writable (pattern D)
+    unfolding numbered
+    writable D e =
+        let ok = well (made .0) in
+        let fits = determinize-fits 0 lastSymbol (read s) (ok .states) D e in
+        record {
+          well = determinize-wellformed 0 lastSymbol (read s) (ok .states) D e ok;
+          fits = fits;
+          labels = labels-tabulate (D .size) numberedLabel (λ k h. label-numbered k (omega (arith, fits .few-states)));
+          each = length-tabulate (D .size) numberedLabel;
+        }
+
+    -- the determinization stands in the outputs as an accepted sheet with the labels D0, D1 and so on; nothing behind it is changed
+    pub determinize-left : (D : Automaton) × (determinize 0 lastSymbol (read s) ≡ given D) × Leaves o l o′ l′ w b D (numbered (D .size))
+    determinize-left =
+        let (D, e) = made .1 in
+        (D, e, sheet-call-leaves s o l o′ l′ r answer contract w b lengths (pattern D) (given-labelled (determinize 0 lastSymbol (read s)) D e) (writable D e))
+
+    -- what is read from the output accepts the words of the input
+    pub determinize-left-words : (v : List ℕ) → Word 0 lastSymbol v → Accepts (read (take w o′)) v ↔ Accepts (read s) v
+    determinize-left-words v x =
+        let (D, e, left) = determinize-left in
+        subst (λ (E : Automaton). Accepts E v ↔ Accepts (read s) v) (sym (left .reads)) (determinize-words 0 lastSymbol (read s) (well (made .0) .states) D e v x)
+
+    -- and has exactly one transition for every symbol in every state
+    pub determinize-left-one : Deterministic 0 lastSymbol (read (take w o′))
+    determinize-left-one =
+        let (D, e, left) = determinize-left in
+        subst (Deterministic 0 lastSymbol) (sym (left .reads)) (determinize-deterministic 0 lastSymbol (read s) (well (made .0) .states) D e)
+
+  -- 20 is answered exactly where an output is too short
+  pub determinize-20 : (madeNumber r ≡ 20) ↔ (Room o l → ⊥)
+  determinize-20 = sheet-call-20 s o l o′ l′ r answer contract (λ e. let k = over-20 20 e in omega arith)
+
+  -- 1 to 6 are answered exactly where there is room and the sheet has that fault
+  pub determinize-fault : (n : ℕ) → 0 < n → n ≤ 6 → (madeNumber r ≡ n) ↔ (Room o l × (fault s ≡ n))
+  determinize-fault n some few = sheet-call-fault s o l o′ l′ r answer contract n some few (λ e. let k = over-20 n e in omega arith)
+
+  limit : (n : ℕ) → 20 < n → (madeNumber r ≡ n) ↔ (Room o l × (fault s ≡ 0) × (determinize 0 lastSymbol (read s) ≡ refused n))
+  limit n k =
+      let c = sheet-call-number s o l o′ l′ r answer contract n (omega arith) (λ z. omega arith) in
+      let q = labelled-refused (determinize 0 lastSymbol (read s)) n in
+      (λ e. let (m, f, h) = c .0 e in (m, f, q .0 h), λ (m, f, h). c .1 (m, f, q .1 h))
+
+  -- 21 is answered exactly where there is room, the sheet has no fault, and words reach more than 255 nonempty sets
+  pub determinize-21 : (madeNumber r ≡ 21) ↔ (Room o l × (fault s ≡ 0) × MoreThan 255 0 lastSymbol (read s))
+  determinize-21 =
+      let c = limit 21 (omega arith) in (
+        λ e. let (m, f, h) = c .0 e in (m, f, refused-21 0 lastSymbol (read s) (well f .states) .0 h),
+        λ (m, f, h). c .1 (m, f, refused-21 0 lastSymbol (read s) (well f .states) .1 h),
+      )
+
+  -- 22 is answered exactly where they don't, and the parts and the holes of the sets with the sink's loop are more than 2,048
+  pub determinize-22 : (madeNumber r ≡ 22)
+      ↔ (Room o l × (fault s ≡ 0) × (MoreThan 255 0 lastSymbol (read s) → ⊥) × MoreTransitions 2048 0 lastSymbol (read s))
+  determinize-22 =
+      let c = limit 22 (omega arith) in (
+        λ e. let (m, f, h) = c .0 e in let (n, k) = refused-22 0 lastSymbol (read s) (well f .states) .0 h in (m, f, n, k),
+        λ (m, f, n, k). c .1 (m, f, refused-22 0 lastSymbol (read s) (well f .states) .1 (n, k)),
+      )
+
+  -- nothing is refused exactly where none of them holds
+  pub determinize-0 : (madeNumber r ≡ 0)
+      ↔ (Room o l × (fault s ≡ 0) × (MoreThan 255 0 lastSymbol (read s) → ⊥) × (MoreTransitions 2048 0 lastSymbol (read s) → ⊥))
+  determinize-0 =
+      let c = sheet-call-given s o l o′ l′ r answer contract in (
+        λ e.
+            let (m, f, (P, h)) = c .0 e in
+            let (D, q) = labelled-given (determinize 0 lastSymbol (read s)) P h in
+            let few : MoreThan 255 0 lastSymbol (read s) → ⊥ = λ n. refused-given q (refused-21 0 lastSymbol (read s) (well f .states) .1 n) in
+            (m, f, few, λ k. refused-given q (refused-22 0 lastSymbol (read s) (well f .states) .1 (few, k))),
+        λ (m, f, n, k).
+            let (D, q) = determinize-given 0 lastSymbol (read s) (well f .states) n k in
+            c .1 (m, f, (pattern D, given-labelled (determinize 0 lastSymbol (read s)) D q)),
+      )
+    where
+      refused-given : {D : Automaton} {n : ℕ} → determinize 0 lastSymbol (read s) ≡ given D → determinize 0 lastSymbol (read s) ≡ refused n → ⊥
+      refused-given {D} {n} p q = let x : given D ≡ refused n = sym p ∙ q in let z : _≡_ {A = ℕ} 0 1 = cc in omega arith
+
+  -- a refusal leaves the outputs as they were
+  pub determinize-unchanged : (madeNumber r ≡ 0 → ⊥) → Unchanged o l o′ l′
+  determinize-unchanged = call-refused o l o′ l′ r (sheetFirst s answer) contract

@@ -1,5 +1,5 @@
 -- From the contract of a call with two outputs to what it leaves in them: the laws by which each operation's theorem about its call is proved.
-use Prim.Native.Nat.{ℕ, _+_, _≤_}
+use Prim.Native.Nat.{ℕ, _+_, _≤_, _<_}
 use mathlib.Core.Bool.{Bool, true, false, cond}
 use mathlib.Core.List.{List}
 use mathlib.Core.Logic.{_↔_}
@@ -17,10 +17,12 @@ use Rattle.refusal.specs.Number.{numberOf}
 use Rattle.refusal.specs.declared.Refusal.{Refusal}
 use Rattle.refusal.specs.declared.Refusal.the-variants.{Input, State}
 use Rattle.refusal.specs.declared.StateRefusal.the-variants.{OutputLength, States, Transitions, Element, JoinSets}
+use Rattle.sheets.specs.Checked.{sheetFirst}
 use Rattle.sheets.specs.Fault.{fault}
 use Rattle.sheets.specs.Sheet.{read, write}
 use Rattle.sheets.proofs.Checking.{refused-some}
 use Rattle.sheets.proofs.Meaning.{read-write-sheet, write-accepted, write-room}
+use Rattle.sheets.proofs.Numbers.{sheet-given, sheet-number, sheet-fault}
 use Rattle.output.specs.declared.Made.{Made}
 use Rattle.output.specs.declared.Made.the-variants.{Lengths, Refused}
 use Rattle.output.specs.Left.{madeNumber, Room, Leaves, Unchanged}
@@ -238,3 +240,37 @@ module _ (o l o′ l′ : List ℕ) (r : Made) (a : Answer Pattern) (call : outp
             let x : w ≡ length (write (Q .automaton)) = cc in
             let y : b ≡ length (writeLabels (Q .labels)) = cc in
             rw (x, y, i, j, same) (written-leaves o l P ok h)
+
+-- the contract of a call that checks one sheet: a is the answer behind 20 and the faults of the sheet s
+module _ (s o l o′ l′ : List ℕ) (r : Made) (a : Answer Pattern) (call : outputOf r o′ l′ ≡ outputs o l (roomFirst o l (sheetFirst s a))) where
+  -- 20 is answered exactly where an output is too short, if no other refusal is 20
+  pub sheet-call-20 : (a ≡ refused 20 → ⊥) → (madeNumber r ≡ 20) ↔ (Room o l → ⊥)
+  sheet-call-20 other = call-20 o l o′ l′ r (sheetFirst s a) call (λ e. other (sheet-number s a 20 (omega arith) .0 e .1))
+
+  -- 1 to 6 are answered exactly where there is room and the sheet has that fault, if no other refusal has that number
+  pub sheet-call-fault : (n : ℕ) → 0 < n → n ≤ 6 → (a ≡ refused n → ⊥) → (madeNumber r ≡ n) ↔ (Room o l × (fault s ≡ n))
+  sheet-call-fault n some few other =
+      let c = call-number o l o′ l′ r (sheetFirst s a) call n (λ z. omega arith) (λ z. omega arith) in
+      let f = sheet-fault s a n some other in
+      (λ e. let x = c .0 e in (x .0, f .0 (x .1)), λ x. c .1 (x .0, f .1 (x .1)))
+
+  -- any other number is answered exactly where there is room, the sheet has no fault and the answer has it
+  pub sheet-call-number : (n : ℕ) → 6 < n → (n ≡ 20 → ⊥) → (madeNumber r ≡ n) ↔ (Room o l × (fault s ≡ 0) × (a ≡ refused n))
+  sheet-call-number n many other =
+      let c = call-number o l o′ l′ r (sheetFirst s a) call n (λ z. omega arith) other in
+      let f = sheet-number s a n many in
+      (λ e. let x = c .0 e in let y = f .0 (x .1) in (x .0, y .0, y .1), λ x. c .1 (x .0, f .1 (x .1, x .2)))
+
+  -- nothing is refused exactly where there is room, the sheet has no fault and a pattern is given
+  pub sheet-call-given : (madeNumber r ≡ 0) ↔ (Room o l × (fault s ≡ 0) × ((P : Pattern) × (a ≡ given P)))
+  sheet-call-given =
+      let c = call-given o l o′ l′ r (sheetFirst s a) call in (
+        λ e. let (m, (P, h)) = c .0 e in let y = sheet-given s a P .0 h in (m, y .0, (P, y .1)),
+        λ (m, f, (P, h)). c .1 (m, (P, sheet-given s a P .1 (f, h))),
+      )
+
+  -- a pattern that is given stands in the outputs
+  pub sheet-call-leaves : (w b : ℕ) → r ≡ Lengths w b → (P : Pattern) → a ≡ given P → Writable P → Leaves o l o′ l′ w b (P .automaton) (P .labels)
+  sheet-call-leaves w b lengths P given-P ok =
+      let f = sheet-call-given .0 (ap madeNumber lengths) .1 in
+      call-leaves o l o′ l′ r (sheetFirst s a) call w b lengths P (sheet-given s a P .1 (f, given-P)) ok

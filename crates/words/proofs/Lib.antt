@@ -9,5 +9,4 @@ pub mod Epsilons
 pub mod Stepping
 pub mod Reading
 pub mod Answers
-pub mod KindByRuns
 pub mod Theorems

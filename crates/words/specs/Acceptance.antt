@@ -29,6 +29,11 @@ abbrev pub answerOf : Acceptance → Answer ℕ
 answerOf (Kind k) = given k
 answerOf (Refused r) = refused (inputNumber r)
 
+-- document 01's number of an answer: 0 where nothing is refused
+abbrev pub acceptanceNumber : Acceptance → ℕ
+acceptanceNumber (Kind k) = 0
+acceptanceNumber (Refused r) = inputNumber r
+
 -- the code points of a text that is not malformed
 unfoldable pub pointsOf : Decoded → List ℕ
 pointsOf malformed = []
