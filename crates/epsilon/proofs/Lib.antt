@@ -4,4 +4,5 @@ pub mod Runs
 pub mod Gathering
 pub mod Writing
 pub mod Answers
+pub mod Result
 pub mod Theorems

@@ -1,38 +1,49 @@
--- What is proved of epsilon elimination, for every automaton whose states are in bounds. An accepted sheet reads as such an
--- automaton, and as a well-formed one.
-use Prim.Native.Nat.{ℕ, zero, suc, _≤_, _<_}
-use mathlib.Core.Bool.{Bool, true, false}
+-- What is proved of epsilon elimination (document 01, "Beside the equality").
+--
+-- Of an automaton whose states are in bounds, as an accepted sheet reads:
+--   eliminate-words        the words are kept
+--   eliminate-kinds        and so are the accept words that they get
+--   eliminate-ranges       no transition is an epsilon
+--   eliminate-transitions  each state has the ranges of its closure
+--   eliminate-accept       and its acceptance
+-- Of the call on the sheet s with the labels b, from its contract:
+--   eliminate-left         where lengths are answered, the eliminated automaton and the labels of the input stand in the outputs
+--   eliminate-left-words   the sheet left accepts the words that s accepts
+--   eliminate-left-ranges  it has no epsilon
+--   eliminate-left-states  it has the states and the start of s
+--   eliminate-lengths      where lengths are answered, exactly
+--   eliminate-20, eliminate-fault, eliminate-10, eliminate-22, eliminate-never-21
+--                          where each number is answered, exactly
+--   eliminate-unchanged    a refusal leaves both outputs as they were
+use Prim.Native.Nat.{ℕ, _≤_, _<_}
 use mathlib.Core.List.{List, []}
-use mathlib.Core.Logic.{_↔_, ⊎-elim}
-use mathlib.Core.Path.{_≡_, refl, sym, _∙_, subst}
+use mathlib.Core.Logic.{_↔_}
+use mathlib.Core.Path.{_≡_, sym, _∙_, ap, subst}
 use native.Mathlib.Omega.{arith}
-use borrow.Author.Tests.{ltb-true, ltb-false, eqb-true, eqb-false}
-use lib.Dec.{ltb, eqb}
-use lib.ListN.{length, getD, List·getD-eq-default}
+use lib.ListN.{length, getD, take}
 use Rattle.lists.specs.Lists.{_∈_}
-use Rattle.lists.proofs.Lists.{length-tabulate}
-use Rattle.lists.proofs.Tests.{test}
-use Rattle.automata.specs.Automaton.{Transition, Automaton, Run, Accepts, InBounds}
-use Rattle.automata.specs.WellFormed.{Sound, WellFormed, mostStates, mostTransitions}
-use Rattle.automata.proofs.Ordered.{inOrder-ascending}
-use Rattle.labels.specs.Labels.{labelsOk, labelsFault, readLabels, writeLabels}
-use Rattle.labels.proofs.Labels
-use Rattle.output.specs.Output.{Pattern, labelsFirst, transitionsFirst}
-use Rattle.refusal.specs.Answer.{refused, given}
-use Rattle.sets.specs.Sets.{Set}
-use Rattle.sheets.specs.Checked.{sheetFirst}
+use Rattle.automata.specs.Automaton.{Transition, Automaton, Run, Accepts, InBounds, EpsilonFree}
+use Rattle.automata.specs.WellFormed.{mostTransitions}
+use Rattle.labels.specs.Labels.{labelsFault, readLabels}
+use Rattle.output.specs.declared.Made.{Made}
+use Rattle.output.specs.declared.Made.the-variants.{Lengths}
+use Rattle.output.specs.Left.{madeNumber, Room, Leaves, Unchanged}
+use Rattle.output.specs.Made.{outputOf}
+use Rattle.output.specs.Output.{outputs, roomFirst}
+use Rattle.output.proofs.Exact.{inputs-given, checked-given, checked-20, checked-fault, checked-10, checked-number}
+use Rattle.output.proofs.Left.{call-refused, call-leaves}
 use Rattle.sheets.specs.Fault.{fault}
-use Rattle.sheets.specs.Sheet.{stateCount, read, write}
+use Rattle.sheets.specs.Sheet.{stateCount, read}
 use Rattle.sheets.proofs.Accepted.{accepted}
-use Rattle.sheets.proofs.Meaning.{read-well, write-accepted}
-use Rattle.words.specs.Simulation.{closure, kindOf, kind}
+use Rattle.sheets.proofs.Meaning.{read-well}
+use Rattle.words.specs.Simulation.{closure, kind}
 use Rattle.words.proofs.Closures.{closure-sound, closure-complete}
 use Rattle.words.proofs.Kind.{kindOf-least, kindOf-some}
-use Rattle.epsilon.specs.Eliminate.{closureKinds, eliminated, eliminatedWith, eliminateAnswer}
+use Rattle.epsilon.specs.Eliminate.{eliminated, eliminatedWith, eliminateAnswer}
 use Rattle.epsilon.specs.Meaning.{ClosureRange}
 use Rattle.epsilon.proofs.Members.{eliminated-out, eliminated-in}
-use Rattle.sheets.proofs.Numbers.{fault-most}
-use Rattle.epsilon.proofs.Runs.{only-ranges, states-kept, accept-at, words-kept, kinds-kept}
+use Rattle.epsilon.proofs.Result.{result, behind-given, given-behind, behind-22, behind-other, result-writable}
+use Rattle.epsilon.proofs.Runs.{only-ranges, accept-at, words-kept, kinds-kept}
 
 module _ (A : Automaton) (ok : InBounds A) where
   -- the words are kept, and the accept words that they get
@@ -43,7 +54,7 @@ module _ (A : Automaton) (ok : InBounds A) where
   eliminate-kinds = kinds-kept A ok
 
   -- there are no epsilons
-  pub eliminate-ranges : (e : Transition) → e ∈ eliminated A .transitions → e .kind ≡ 1
+  pub eliminate-ranges : EpsilonFree (eliminated A)
   eliminate-ranges = only-ranges A ok
 
   -- each state has the ranges of its closure
@@ -65,101 +76,72 @@ module _ (A : Automaton) (ok : InBounds A) where
     λ r. rw (accept-at A ok p l) (kindOf-least A (closure A p) (r .0) (closure-complete A ok l (r .1)) (r .2) .0),
   )
 
-kind-most : (A : Automaton) → WellFormed A → (S : Set) → kindOf A S ≤ 1
-kind-most A w S = go (kindOf A S) refl
-  where
-    go : (k : ℕ) → kindOf A S ≡ k → k ≤ 1
-    go zero e = omega arith
-    go (suc k) e = let r = kindOf-some A S (rw e (omega arith)) in omega (arith, r .2, w .accept-words (r .0), e)
+-- the call on the sheet s with the labels b: r is its answer, o and l are the outputs before it, o′ and l′ after it
+module _ (s b o l o′ l′ : List ℕ) (r : Made) (call : outputOf r o′ l′ ≡ outputs o l (roomFirst o l (eliminateAnswer s b))) where
+  -- nothing is refused exactly where there is room, nothing has a fault and the transitions are few enough
+  pub eliminate-lengths : (madeNumber r ≡ 0) ↔ (Room o l × (fault s ≡ 0) × (labelsFault (stateCount s) b ≡ 0) × (length (eliminated (read s) .transitions) ≤ mostTransitions))
+  unfolding eliminateAnswer
+  eliminate-lengths =
+      let c = checked-given s b (eliminatedWith (read s) (readLabels b)) o l o′ l′ r call in
+      (λ h. let (k, f, g, x) = c .0 h in (k, f, g, behind-given s b (x .0) (x .1)), λ (k, f, g, few). c .1 (k, f, g, (result s b, given-behind s b few)))
 
--- a well-formed automaton stays one
-module _ (A : Automaton) (w : WellFormed A) where
-  accept-word : (q : ℕ) → getD (eliminated A .accept) q 0 ≤ 1
-  unfolding eliminated closureKinds
-  accept-word q =
-      ⊎-elim (λ t. rw (accept-at A (w .states) q (ltb-true q (A .size) t)) (kind-most A w (closure A q)))
-      (λ t. rw (List·getD-eq-default (closureKinds A (A .size)) 0 {n = q} (rw (length-tabulate (A .size) (λ p. kindOf A (closure A p))) (ltb-false q (A .size) t))) (omega arith))
-      (test (ltb q (A .size)))
+  module _ (w n : ℕ) (lengths : r ≡ Lengths w n) where
+    answered : (fault s ≡ 0) × (labelsFault (stateCount s) b ≡ 0) × (length (eliminated (read s) .transitions) ≤ mostTransitions)
+    answered = let (k, f, g, few) = eliminate-lengths .0 (ap madeNumber lengths) in (f, g, few)
 
-  pub eliminate-well : WellFormed (eliminated A)
-  unfolding eliminated closureKinds
-  eliminate-well =
-      record {
-        states = states-kept A (w .states);
-        accepts = length-tabulate (A .size) _;
-        accept-words = accept-word;
-        sound = λ e m. let c = eliminated-out A e m .1 in let s = w .sound (c .source) (c .in) in subst Sound (sym (c .is)) (record { known = s .known; full = s .full; blank = s .blank });
-        ascends = inOrder-ascending _;
-      }
+    states : InBounds (read s)
+    states = read-well s (accepted s (answered .0)) .states
 
-  -- within the limits it is an accepted sheet
-  pub eliminate-sheet : A .size ≤ mostStates → length (eliminated A .transitions) ≤ mostTransitions → fault (write (eliminated A)) ≡ 0
-  unfolding eliminated
-  eliminate-sheet h k = write-accepted (eliminated A) eliminate-well (record { few-states = h; few-transitions = k })
+    -- the eliminated automaton stands in the one output, and the labels of the input in the other
+    pub eliminate-left : Leaves o l o′ l′ w n (eliminated (read s)) (readLabels b)
+    unfolding eliminateAnswer
+    eliminate-left =
+        let (f, g, few) = answered in
+        let e = inputs-given s b (eliminatedWith (read s) (readLabels b)) (result s b) .1 (f, g, given-behind s b few) in
+        call-leaves o l o′ l′ r (eliminateAnswer s b) call w n lengths (result s b) e (result-writable s b f g few)
 
--- the answer for a sheet and its labels: the sheet's fault, the labels' fault, too many transitions, or the result
-module _ (s b : List ℕ) where
-  data Outcome : Type 0 where
-    sheet-faulty : (fault s ≡ 0 → ⊥) → eliminateAnswer s b ≡ refused (fault s) → Outcome
-    labels-faulty : fault s ≡ 0 → labelsFault (stateCount s) b ≡ 10 → eliminateAnswer s b ≡ refused 10 → Outcome
-    too-many : fault s ≡ 0 → labelsFault (stateCount s) b ≡ 0 → mostTransitions < length (eliminated (read s) .transitions) → eliminateAnswer s b ≡ refused 22 → Outcome
-    fits : fault s ≡ 0 → labelsFault (stateCount s) b ≡ 0 → length (eliminated (read s) .transitions) ≤ mostTransitions
-        → eliminateAnswer s b ≡ given (record { automaton = eliminated (read s); labels = readLabels b }) → Outcome
+    -- the sheet left accepts the words that the input accepts
+    pub eliminate-left-words : (v : List ℕ) → Accepts (read (take w o′)) v ↔ Accepts (read s) v
+    eliminate-left-words v = subst (λ (A : Automaton). Accepts A v ↔ Accepts (read s) v) (sym (eliminate-left .reads)) (eliminate-words (read s) states v)
 
-  outcome : Outcome
-  unfolding eliminateAnswer sheetFirst labelsFirst eliminatedWith transitionsFirst labelsFault
-  outcome = go (eqb (fault s) 0) refl
-    where
-      many : (c : Bool) → ltb mostTransitions (length (eliminated (read s) .transitions)) ≡ c → fault s ≡ 0 → labelsFault (stateCount s) b ≡ 0 → Outcome
-      many true e f g = too-many f g (ltb-true _ _ e) (rw (f, g, e))
-      many false e f g = fits f g (ltb-false _ _ e) (rw (f, g, e))
+    -- it has no epsilon
+    pub eliminate-left-ranges : EpsilonFree (read (take w o′))
+    eliminate-left-ranges = subst EpsilonFree (sym (eliminate-left .reads)) (eliminate-ranges (read s) states)
 
-      labels : (c : Bool) → labelsOk (stateCount s) b ≡ c → fault s ≡ 0 → Outcome
-      labels true e f = many _ refl f (rw e)
-      labels false e f = labels-faulty f (rw e) (rw (f, e))
+    -- and the states and the start of the input
+    pub eliminate-left-states : (read (take w o′) .size ≡ stateCount s) × (read (take w o′) .start ≡ read s .start)
+    unfolding eliminated
+    eliminate-left-states = (ap (λ (A : Automaton). A .size) (eliminate-left .reads), ap (λ (A : Automaton). A .start) (eliminate-left .reads))
 
-      go : (c : Bool) → eqb (fault s) 0 ≡ c → Outcome
-      go true e = labels _ refl (eqb-true _ _ e)
-      go false e = sheet-faulty (eqb-false _ _ e) (rw e)
+  -- 20 exactly where an output is too short
+  pub eliminate-20 : (madeNumber r ≡ 20) ↔ (Room o l → ⊥)
+  unfolding eliminateAnswer
+  eliminate-20 = checked-20 s b (eliminatedWith (read s) (readLabels b)) o l o′ l′ r call (behind-other s b 20 (λ z. omega arith))
 
-  -- 22 exactly
-  pub eliminate-22 : (eliminateAnswer s b ≡ refused 22) ↔ ((fault s ≡ 0) × (labelsFault (stateCount s) b ≡ 0) × (mostTransitions < length (eliminated (read s) .transitions)))
-  eliminate-22 = (out outcome, into outcome)
-    where
-      out : Outcome → eliminateAnswer s b ≡ refused 22 → (fault s ≡ 0) × (labelsFault (stateCount s) b ≡ 0) × (mostTransitions < length (eliminated (read s) .transitions))
-      out (sheet-faulty n e) h = let z : fault s ≡ 22 = cc in absurd (omega (arith, fault-most s))
-      out (labels-faulty f g e) h = let z : _≡_ {A = ℕ} 10 22 = cc in absurd (omega arith)
-      out (too-many f g m e) h = (f, g, m)
-      out (fits f g m e) h = let z : _≡_ {A = ℕ} 0 1 = cc in absurd (omega arith)
+  -- 1 to 6 exactly where there is room and the sheet has that fault
+  pub eliminate-fault : (m : ℕ) → 1 ≤ m → m ≤ 6 → (madeNumber r ≡ m) ↔ (Room o l × (fault s ≡ m))
+  unfolding eliminateAnswer
+  eliminate-fault m i j = checked-fault s b (eliminatedWith (read s) (readLabels b)) o l o′ l′ r call m i j (behind-other s b m (λ z. omega arith))
 
-      into : Outcome → (fault s ≡ 0) × (labelsFault (stateCount s) b ≡ 0) × (mostTransitions < length (eliminated (read s) .transitions)) → eliminateAnswer s b ≡ refused 22
-      into (sheet-faulty n e) h = absurd (n (h .0))
-      into (labels-faulty f g e) h = absurd (omega (arith, h .1))
-      into (too-many f g m e) h = e
-      into (fits f g m e) h = absurd (omega (arith, h .2))
+  -- 10 exactly where there is room, the sheet has no fault and the labels have one
+  pub eliminate-10 : (madeNumber r ≡ 10) ↔ (Room o l × (fault s ≡ 0) × (labelsFault (stateCount s) b ≡ 10))
+  unfolding eliminateAnswer
+  eliminate-10 = checked-10 s b (eliminatedWith (read s) (readLabels b)) o l o′ l′ r call (behind-other s b 10 (λ z. omega arith))
 
-  -- what is given: the eliminated automaton with the labels kept, an accepted sheet with an accepted list of labels
-  pub record Given (P : Pattern) : Type 0 where
-    pub sheet : fault s ≡ 0
-    pub labels : labelsFault (stateCount s) b ≡ 0
-    pub is : P ≡ record { automaton = eliminated (read s); labels = readLabels b }
-    pub accepted-sheet : fault (write (P .automaton)) ≡ 0
-    pub same-labels : writeLabels (P .labels) ≡ b
+  -- 22 exactly where there is room, nothing has a fault and the transitions are over 2,048
+  pub eliminate-22 : (madeNumber r ≡ 22) ↔ (Room o l × (fault s ≡ 0) × (labelsFault (stateCount s) b ≡ 0) × (mostTransitions < length (eliminated (read s) .transitions)))
+  unfolding eliminateAnswer
+  eliminate-22 =
+      let c = checked-number s b (eliminatedWith (read s) (readLabels b)) o l o′ l′ r call 22 (omega arith) (λ z. omega arith) (λ z. omega arith) in
+      (λ h. let (k, f, g, e) = c .0 h in (k, f, g, behind-22 s b .0 e), λ (k, f, g, many). c .1 (k, f, g, behind-22 s b .1 many))
 
-  pub eliminate-given : (P : Pattern) → eliminateAnswer s b ≡ given P → Given P
-  eliminate-given P h = go outcome
-    where
-      go : Outcome → Given P
-      go (sheet-faulty n e) = let z : _≡_ {A = ℕ} 0 1 = cc in absurd (omega arith)
-      go (labels-faulty f g e) = let z : _≡_ {A = ℕ} 0 1 = cc in absurd (omega arith)
-      go (too-many f g m e) = let z : _≡_ {A = ℕ} 0 1 = cc in absurd (omega arith)
-      go (fits f g m e) =
-          let a = accepted s f in
-          let i : P ≡ record { automaton = eliminated (read s); labels = readLabels b } = cc in
-          record {
-            sheet = f;
-            labels = g;
-            is = i;
-            accepted-sheet = rw i (eliminate-sheet (read s) (read-well s a) (a .few-states) m);
-            same-labels = rw i (Labels.write-read (stateCount s) b g);
-          }
+  -- never 21: the states are those of the input
+  pub eliminate-never-21 : madeNumber r ≡ 21 → ⊥
+  unfolding eliminateAnswer
+  eliminate-never-21 h =
+      let (k, f, g, e) = checked-number s b (eliminatedWith (read s) (readLabels b)) o l o′ l′ r call 21 (omega arith) (λ z. omega arith) (λ z. omega arith) .0 h in
+      behind-other s b 21 (λ z. omega arith) e
+
+  -- a refusal leaves both outputs as they were
+  pub eliminate-unchanged : (madeNumber r ≡ 0 → ⊥) → Unchanged o l o′ l′
+  eliminate-unchanged = call-refused o l o′ l′ r (eliminateAnswer s b) call

@@ -2,6 +2,7 @@
 pub mod Writing
 pub mod Answers
 pub mod Left
+pub mod Exact
 pub mod Comparing
 pub mod Heads
 pub mod Merging

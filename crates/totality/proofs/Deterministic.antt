@@ -1,42 +1,37 @@
--- When `is_nfa` is false: exactly where every symbol has one transition in every state and no epsilon stands. And the words of the complement.
+-- When `is_nfa` is true, and when it is false: exactly where every symbol has one transition in every state and no epsilon stands. And the words of the
+-- complement.
 use Prim.Native.Nat.{ℕ, suc, _+_, _≤_, _<_}
 use mathlib.Core.Bool.{Bool, true, false, cond, false≢true}
-use mathlib.Core.List.{List, [], _∷_, List·Memᴰ·not-nil}
+use mathlib.Core.List.{List, [], _∷_, List·Memᴰ·head, List·Memᴰ·not-nil}
 use mathlib.Core.Logic.{⊎-elim, _↔_}
 use mathlib.Core.Path.{_≡_, refl, sym, _∙_, ap}
 use native.Mathlib.Nat.{eq-or-lt-of-le}
 use native.Mathlib.Omega.{arith}
-use borrow.Author.Tests.{eqb-true, eqb-false, ltb-false}
+use borrow.Author.Tests.{eq-eqb, eqb-true, eqb-false, ltb-true, ltb-false}
 use lib.Dec.{ltb, eqb}
 use lib.ListN.{length, getD, drop}
 use lib.Seq.{getD-drop}
 use Rattle.lists.specs.Lists.{_∈_, any, keep}
-use Rattle.lists.proofs.Tests.{test, or-false}
-use Rattle.lists.proofs.Lists.{any-out}
-use Rattle.automata.specs.Automaton.{Transition, Automaton, Accepts, Word, holds, carries, leaving, rangesOf, states, hasEpsilon}
+use Rattle.lists.proofs.Tests.{test, and-both, and-parts, or-cases, or-false}
+use Rattle.lists.proofs.Lists.{any-in, any-out}
+use Rattle.automata.specs.Automaton.{Transition, Automaton, Accepts, Word, holds, carries, leaving, rangesOf, states, hasEpsilon, EpsilonFree}
 use Rattle.automata.specs.WellFormed.{WellFormed, lastSymbol}
-use Rattle.ranges.specs.Missing.{missing}
-use Rattle.ranges.specs.Span.{overlapping}
+use Rattle.ranges.specs.Missing.{missing, Free}
+use Rattle.ranges.specs.Span.{Span, overlapping, OverlapFree}
 use Rattle.lists.proofs.Every.{any-none}
 use Rattle.automata.proofs.States.{states-in, states-out}
-use Rattle.ranges.proofs.Overlap.{one-each}
+use Rattle.ranges.proofs.Held.{held}
+use Rattle.ranges.proofs.Overlap.{overlap-shared, one-each}
 use Rattle.ranges.proofs.Functional.{overlap-functional}
 use Rattle.ranges.proofs.Sorting.{leaving-sorted}
-use Rattle.sheets.specs.Accepted.{Accepted}
 use Rattle.sheets.specs.Sheet.{recordsAt, read}
-use Rattle.sheets.proofs.Meaning.{read-well}
 use Rattle.automata.specs.Deterministic.{Deterministic}
-use Rattle.totality.specs.Totality.{holesOf, isNfaAt, isNfaIn, isNfa, totalized, flipped, complemented}
-use Rattle.automata.proofs.Leaving.{leaves, leaving-in}
+use Rattle.totality.specs.Totality.{holesOf, isNfaAt, isNfaIn, isNfa, Settled, Unsettled, epsilon, overlap, hole, Complete, totalized, flipped, complemented}
+use Rattle.automata.proofs.Leaving.{leaves, leaving-in, leaving-range}
 use Rattle.automata.proofs.Records.{records-most}
+use Rattle.totality.proofs.Rows.{state-holes}
 use Rattle.totality.proofs.Totalized.{totalized-well}
-use Rattle.totality.proofs.Words.{Complete, unranged, held-or-free, totalize-words, flipped-words, total-complete, total-functional}
-
--- the transitions of a state have no epsilon, no overlap and no hole
-pub record Settled (lo hi : ℕ) (es : List Transition) : Type 0 where
-  pub no-epsilon : hasEpsilon es ≡ false
-  pub no-overlap : overlapping (rangesOf es) ≡ false
-  pub no-hole : holesOf lo hi es ≡ []
+use Rattle.totality.proofs.Words.{unranged, held-or-free, words-kept, flipped-words, total-complete, total-functional}
 
 none-long : {X : Type 0} (l : List X) → ltb 0 (length l) ≡ false → l ≡ []
 none-long [] h = refl
@@ -44,9 +39,9 @@ none-long (x ∷ l) h = absurd (omega (arith, ltb-false 0 (suc (length l)) h))
 
 module _ (lo hi : ℕ) (A : Automaton) where
   -- `is_nfa` is false exactly where this holds of every state
-  pub nfa-settled : (isNfa lo hi A ≡ false) ↔ ((q : ℕ) → q < A .size → Settled lo hi (leaving A q))
+  pub settled-exact : (isNfa lo hi A ≡ false) ↔ ((q : ℕ) → q < A .size → Settled lo hi (leaving A q))
   unfolding isNfa isNfaIn isNfaAt
-  nfa-settled = (
+  settled-exact = (
     λ h q l.
         let a = or-false (hasEpsilon (leaving A q)) _ (any-none (λ q. isNfaAt lo hi (leaving A q)) (states (A .size)) h q (states-in (A .size) q l)) in
         let b = or-false (overlapping (rangesOf (leaving A q))) _ (a .1) in
@@ -67,18 +62,58 @@ module _ (lo hi : ℕ) (A : Automaton) where
     own-complete : isNfa lo hi A ≡ false → Complete lo hi A
     own-complete n =
         record {
-          next = λ p x h l u. ⊎-elim (λ r. r) (λ (s, m, i). absurd (List·Memᴰ·not-nil (rw (nfa-settled .0 n p h .no-hole) at m))) (held-or-free lo hi A v p x l u);
+          next = λ p x h l u. ⊎-elim (λ r. r) (λ (s, m, i). absurd (List·Memᴰ·not-nil (rw (settled-exact .0 n p h .no-hole) at m))) (held-or-free lo hi A v p x l u);
         }
 
+    no-unsettled : isNfa lo hi A ≡ false → Unsettled lo hi A → ⊥
+    unfolding hasEpsilon carries
+    no-unsettled n (epsilon e m k) = false≢true (sym (settled-exact .0 n (e .from) (v .states .froms e m) .no-epsilon) ∙ any-in (λ e. eqb (e .kind) 0) (leaving-in A (e .from) e m refl) (eq-eqb _ _ k))
+    no-unsettled n (overlap q l s) = false≢true (sym (settled-exact .0 n q l .no-overlap) ∙ overlap-shared (rangesOf (leaving A q)) (leaving-sorted A q v) .1 s)
+    no-unsettled n (hole q x l a b f) =
+        let (e, m, c, k, i, j) = own-complete n .next q x l a b in
+        false≢true (sym (f e m) ∙ and-both _ _ (eq-eqb _ _ c) (and-both _ _ (eq-eqb _ _ k) (held x e i j)))
+
+    unheld : (q x : ℕ) → Free x (rangesOf (leaving A q)) → (e : Transition) → e ∈ A .transitions → carries q x e ≡ false
+    unfolding carries
+    unheld q x free e m =
+        ⊎-elim
+        (λ (t : carries q x e ≡ true).
+        let p = and-parts (eqb (e .from) q) _ t in
+        let r = and-parts (eqb (e .kind) 1) (holds x e) (p .1) in
+        absurd (false≢true (sym (free e (leaving-range A q e (leaving-in A q e m (eqb-true _ _ (p .0))) (eqb-true _ _ (r .0)))) ∙ r .1)))
+        (λ t. t) (test (carries q x e))
+
+    first-hole : (q : ℕ) → q < A .size → (hs : List Span) → holesOf lo hi (leaving A q) ≡ hs → 0 < length hs → Unsettled lo hi A
+    first-hole q l [] c n = absurd (omega arith)
+    first-hole q l (h ∷ hs) c n =
+        let m : h ∈ holesOf lo hi (leaving A q) = rw c (List·Memᴰ·head refl) in
+        let (a, b, free) = state-holes A v q lo hi .exact (h .low) .0 (h, m, record { above = omega arith; below = state-holes A v q lo hi .full h m }) in
+        hole q (h .low) l a b (unheld q (h .low) free)
+
+    -- `is_nfa` is true exactly where there is an epsilon, an overlap or a hole
+    pub unsettled-exact : (isNfa lo hi A ≡ true) ↔ Unsettled lo hi A
+    unfolding isNfa isNfaIn isNfaAt hasEpsilon
+    unsettled-exact = (
+      λ h.
+          let (q, m, k) = any-out (λ q. isNfaAt lo hi (leaving A q)) (states (A .size)) h in
+          let l = states-out (A .size) q m in
+          ⊎-elim (λ t. let (e, i, j) = any-out (λ e. eqb (e .kind) 0) (leaving A q) t in epsilon e (leaves A q e i .0) (eqb-true _ _ j))
+          (λ t.
+          ⊎-elim (λ u. overlap q l (overlap-shared (rangesOf (leaving A q)) (leaving-sorted A q v) .0 u)) (λ u. first-hole q l (holesOf lo hi (leaving A q)) refl (ltb-true 0 _ u))
+          (or-cases (overlapping (rangesOf (leaving A q))) _ t))
+          (or-cases (hasEpsilon (leaving A q)) _ k),
+      λ u. ⊎-elim (λ t. t) (λ (n : isNfa lo hi A ≡ false). absurd (no-unsettled n u)) (test (isNfa lo hi A)),
+    )
+
     -- where no epsilon and no overlap stood, the complement's words are the others
-    pub complement-words : lo ≤ hi → ((e : Transition) → e ∈ A .transitions → e .kind ≡ 1) → ((q : ℕ) → q < A .size → overlapping (rangesOf (leaving A q)) ≡ false) → (w : List ℕ) → Word lo hi w → Accepts (complemented lo hi A) w ↔ (Accepts A w → ⊥)
+    pub other-words : lo ≤ hi → EpsilonFree A → OverlapFree A → (w : List ℕ) → Word lo hi w → Accepts (complemented lo hi A) w ↔ (Accepts A w → ⊥)
     unfolding complemented
-    complement-words c ranges apart w i = go (isNfa lo hi A) refl
+    other-words c ranges apart w i = go (isNfa lo hi A) refl
       where
         go : (b : Bool) → isNfa lo hi A ≡ b → Accepts (flipped (cond b (totalized lo hi A) A)) w ↔ (Accepts A w → ⊥)
         go true e =
             let f = flipped-words lo hi (totalized lo hi A) (totalized-well lo hi A v c) (total-complete lo hi A v) (total-functional lo hi A v ranges apart) w i in
-            (λ a n. f .0 a (totalize-words lo hi A v w .1 n), λ n. f .1 (λ a. n (totalize-words lo hi A v w .0 a)))
+            (λ a n. f .0 a (words-kept lo hi A v w .1 n), λ n. f .1 (λ a. n (words-kept lo hi A v w .0 a)))
         go false e = flipped-words lo hi A v (own-complete e) (overlap-functional A v ranges apart) w i
 
 -- the transitions under a symbol are the ranges of the state that hold it
@@ -101,21 +136,21 @@ module _ (lo hi : ℕ) (A : Automaton) (v : WellFormed A) (within : (e : Transit
   held-are q x = carried q x (A .transitions)
 
   -- `is_nfa` is false exactly where every symbol has one transition in every state and no epsilon stands
-  pub nfa-exact : (isNfa lo hi A ≡ false) ↔ Deterministic lo hi A
+  pub deterministic-exact : (isNfa lo hi A ≡ false) ↔ Deterministic lo hi A
   unfolding holesOf hasEpsilon
-  nfa-exact = (
+  deterministic-exact = (
     λ n. record {
       ranges = λ e m.
-          let s = nfa-settled lo hi A .0 n (e .from) (v .states .froms e m) in
+          let s = settled-exact lo hi A .0 n (e .from) (v .states .froms e m) in
           let k = eqb-false (e .kind) 0 (any-none (λ e. eqb (e .kind) 0) (leaving A (e .from)) (s .no-epsilon) e (leaving-in A (e .from) e m refl)) in
           ⊎-elim (λ c. c) (λ (c : e .kind < 1). absurd (k (omega arith))) (eq-or-lt-of-le (v .sound e m .known));
       one = λ q x h l u.
-          let s = nfa-settled lo hi A .0 n q h in
+          let s = settled-exact lo hi A .0 n q h in
           let (d, c) = each q .0 (s .no-overlap, s .no-hole) x l u in
           (d, held-are q x ∙ c);
     },
     λ d.
-        nfa-settled lo hi A .1
+        settled-exact lo hi A .1
         (λ q h.
         let p = each q .1 (λ x l u. let (t, c) = d .one q x h l u in (t, sym (held-are q x) ∙ c)) in
         record { no-epsilon = silent d q; no-overlap = p .0; no-hole = p .1 }),
@@ -132,7 +167,3 @@ module _ (lo hi : ℕ) (A : Automaton) (v : WellFormed A) (within : (e : Transit
 -- the symbols of a sheet of 32-bit words are at most the last symbol
 pub read-within : (s : List ℕ) → ((i : ℕ) → getD s i 0 ≤ lastSymbol) → (e : Transition) → e ∈ read s .transitions → e .kind ≡ 1 → (0 ≤ e .first) × (e .last ≤ lastSymbol)
 read-within s h e m k = (omega arith, records-most lastSymbol (drop (recordsAt s) s) (λ i. rw (getD-drop (recordsAt s) s i 0) (h (recordsAt s + i))) e m)
-
--- of a sheet of 32-bit words
-pub sheet-exact : (s : List ℕ) → Accepted s → ((i : ℕ) → getD s i 0 ≤ lastSymbol) → (isNfa 0 lastSymbol (read s) ≡ false) ↔ Deterministic 0 lastSymbol (read s)
-sheet-exact s a h = nfa-exact 0 lastSymbol (read s) (read-well s a) (read-within s h)

@@ -11,3 +11,4 @@ pub mod Totalized
 pub mod Words
 pub mod Deterministic
 pub mod Limits
+pub mod Theorems

@@ -1,93 +1,103 @@
--- The exact conditions of 21 and 22, and that a result is an accepted sheet with an accepted list of labels.
+-- Exactly where an answer of totalizing or of the complement is each refusal, and that a result can be written.
 use Prim.Native.Nat.{ℕ, _+_, _≤_, _<_}
 use mathlib.Core.Bool.{Bool, true, false, cond}
 use mathlib.Core.List.{List, [], _∷_, _++_}
 use mathlib.Core.Logic.{⊎-elim, _↔_}
-use mathlib.Core.Path.{_≡_, refl, sym, _∙_, ap, subst}
+use mathlib.Core.Path.{_≡_, refl, sym, _∙_, ap}
 use native.Mathlib.Omega.{arith}
-use borrow.Author.Tests.{ltb-true, ltb-false, eq-eqb}
-use lib.Dec.{ltb}
 use lib.ListN.{length, length-append}
 use Rattle.lists.proofs.Tests.{test}
-use Rattle.automata.specs.WellFormed.{Fits}
+use Rattle.automata.specs.WellFormed.{Fits, mostStates, mostTransitions}
 use Rattle.labels.specs.Forms.{sinkLabel}
-use Rattle.labels.specs.Labels.{AllLabels, none, more, labelsFault, readLabels, writeLabels}
-use Rattle.labels.proofs.Labels.{labels-read, length-read, fault-write}
+use Rattle.labels.specs.Labels.{AllLabels, none, more, labelsFault, readLabels}
+use Rattle.labels.proofs.Labels.{labels-read, length-read}
 use Rattle.labels.proofs.Listing.{labels-append}
-use Rattle.output.specs.Output.{Pattern, labelsFirst}
+use Rattle.output.specs.Left.{madeNumber, Room, Leaves}
+use Rattle.output.specs.Made.{outputOf}
+use Rattle.output.specs.Output.{Pattern, outputs, roomFirst, labelsFirst, transitionsFirst}
+use Rattle.output.specs.declared.Made.{Made}
+use Rattle.output.specs.declared.Made.the-variants.{Lengths}
+use Rattle.output.proofs.Exact.{given-refused, states-given, states-number, states-21, transitions-given, transitions-number, transitions-22, inputs-given, checked-given, checked-20, checked-fault, checked-10, checked-number}
+use Rattle.output.proofs.Left.{Writable, call-leaves}
 use Rattle.refusal.specs.Answer.{refused, given}
 use Rattle.sheets.specs.Checked.{sheetFirst}
 use Rattle.sheets.specs.Fault.{fault}
-use Rattle.sheets.specs.Sheet.{stateCount, read, write}
+use Rattle.sheets.specs.Sheet.{stateCount, read}
 use Rattle.sheets.proofs.Accepted.{accepted}
-use Rattle.sheets.proofs.Meaning.{read-well, read-fits, write-accepted}
-use Rattle.totality.specs.Answers.{limited, totalPattern, complementPattern, totalizeAnswer, complementAnswer}
+use Rattle.sheets.proofs.Meaning.{read-well, read-fits}
+use Rattle.totality.specs.Answers.{limited, totalPattern, complementPattern}
 use Rattle.totality.specs.Totality.{isNfa, totalized, transitionCount, flipped, complemented}
-use Rattle.totality.proofs.Answers.{limited-states, limited-transitions, limited-given}
+use Rattle.totality.proofs.Answers.{limited-given}
 use Rattle.totality.proofs.Rows.{length-totalized}
 use Rattle.totality.proofs.Totalized.{totalized-well, complemented-well}
 
--- what the answer of a pattern within or over the limits says
+-- the pattern P within the limits, or 21 or 22
 module _ (P : Pattern) where
-  data Limit : Type 0 where
-    states : 256 < P .automaton .size → limited P ≡ refused 21 → Limit
-    transitions : P .automaton .size ≤ 256 → 2048 < length (P .automaton .transitions) → limited P ≡ refused 22 → Limit
-    within : P .automaton .size ≤ 256 → length (P .automaton .transitions) ≤ 2048 → limited P ≡ given P → Limit
+  limited-fits : (Q : Pattern) → limited P ≡ given Q → Fits (P .automaton)
+  unfolding limited
+  limited-fits Q e =
+      let (h, t) = states-given (P .automaton) (transitionsFirst (P .automaton) (given P)) Q .0 e in
+      record { few-states = h; few-transitions = transitions-given (P .automaton) (given P) Q .0 t .0 }
 
-  limit : Limit
-  limit =
-      ⊎-elim (λ t. let h = ltb-true 256 (P .automaton .size) t in states h (limited-states P h))
-      (λ t.
-      let h = ltb-false 256 (P .automaton .size) t in
-      ⊎-elim (λ u. let l = ltb-true 2048 (length (P .automaton .transitions)) u in transitions h l (limited-transitions P h l))
-      (λ u. let l = ltb-false 2048 (length (P .automaton .transitions)) u in within h l (limited-given P h l))
-      (test (ltb 2048 (length (P .automaton .transitions)))))
-      (test (ltb 256 (P .automaton .size)))
+  only-22 : (m : ℕ) → (m ≡ 22 → ⊥) → transitionsFirst (P .automaton) (given P) ≡ refused m → ⊥
+  only-22 m other e = given-refused (transitions-number (P .automaton) (given P) m other .0 e .1)
 
-  apart : {m n : ℕ} → limited P ≡ refused m → limited P ≡ refused n → m ≡ n
-  apart e f = cc
+  limited-21 : (limited P ≡ refused 21) ↔ (mostStates < P .automaton .size)
+  unfolding limited
+  limited-21 = states-21 (P .automaton) (transitionsFirst (P .automaton) (given P)) (only-22 21 (λ z. omega arith))
 
-  not-given : {m : ℕ} {Q : Pattern} → limited P ≡ refused m → limited P ≡ given Q → ⊥
-  not-given e f = let z : _≡_ {A = ℕ} 0 1 = cc in omega arith
+  limited-22 : (limited P ≡ refused 22) ↔ ((P .automaton .size ≤ mostStates) × (mostTransitions < length (P .automaton .transitions)))
+  unfolding limited
+  limited-22 =
+      let p = states-number (P .automaton) (transitionsFirst (P .automaton) (given P)) 22 (λ z. omega arith) in
+      let q = transitions-22 (P .automaton) (given P) given-refused in
+      (λ e. let (h, t) = p .0 e in (h, q .0 t), λ (h, l). p .1 (h, q .1 l))
 
-  limited-21 : (limited P ≡ refused 21) ↔ (256 < P .automaton .size)
-  limited-21 = (go limit, limited-states P)
-    where
-      go : Limit → limited P ≡ refused 21 → 256 < P .automaton .size
-      go (states h e) f = h
-      go (transitions h l e) f = absurd (omega (arith, apart e f))
-      go (within h l e) f = absurd (not-given f e)
+  limited-other : (m : ℕ) → (m ≡ 21 → ⊥) → (m ≡ 22 → ⊥) → limited P ≡ refused m → ⊥
+  unfolding limited
+  limited-other m s t e = only-22 m t (states-number (P .automaton) (transitionsFirst (P .automaton) (given P)) m s .0 e .1)
 
-  limited-22 : (limited P ≡ refused 22) ↔ ((P .automaton .size ≤ 256) × (2048 < length (P .automaton .transitions)))
-  limited-22 = (go limit, λ (h, l). limited-transitions P h l)
-    where
-      go : Limit → limited P ≡ refused 22 → (P .automaton .size ≤ 256) × (2048 < length (P .automaton .transitions))
-      go (states h e) f = absurd (omega (arith, apart e f))
-      go (transitions h l e) f = (h, l)
-      go (within h l e) f = absurd (not-given f e)
+-- the contract of a call on the sheet s with the labels b, where the result is P
+module _ (s b : List ℕ) (P : Pattern) (o l o′ l′ : List ℕ) (r : Made) (call : outputOf r o′ l′ ≡ outputs o l (roomFirst o l (sheetFirst s (labelsFirst (stateCount s) b (limited P))))) where
+  pub made-lengths : (madeNumber r ≡ 0) ↔ (Room o l × (fault s ≡ 0) × (labelsFault (stateCount s) b ≡ 0) × Fits (P .automaton))
+  made-lengths =
+      let c = checked-given s b (limited P) o l o′ l′ r call in (
+        λ h. let (k, f, g, x) = c .0 h in (k, f, g, limited-fits P (x .0) (x .1)),
+        λ (k, f, g, i). c .1 (k, f, g, (P, limited-given P (i .few-states) (i .few-transitions))),
+      )
 
-  -- a result is the pattern, and within the limits
-  limited-result : (Q : Pattern) → limited P ≡ given Q → (Q ≡ P) × Fits (P .automaton)
-  limited-result Q f = go limit
-    where
-      go : Limit → (Q ≡ P) × Fits (P .automaton)
-      go (states h e) = absurd (not-given e f)
-      go (transitions h l e) = absurd (not-given e f)
-      go (within h l e) = (let z : Q ≡ P = cc in z, record { few-states = h; few-transitions = l })
+  pub made-20 : (madeNumber r ≡ 20) ↔ (Room o l → ⊥)
+  made-20 = checked-20 s b (limited P) o l o′ l′ r call (limited-other P 20 (λ z. omega arith) (λ z. omega arith))
+
+  pub made-fault : (m : ℕ) → 1 ≤ m → m ≤ 6 → (madeNumber r ≡ m) ↔ (Room o l × (fault s ≡ m))
+  made-fault m i j = checked-fault s b (limited P) o l o′ l′ r call m i j (limited-other P m (λ z. omega arith) (λ z. omega arith))
+
+  pub made-10 : (madeNumber r ≡ 10) ↔ (Room o l × (fault s ≡ 0) × (labelsFault (stateCount s) b ≡ 10))
+  made-10 = checked-10 s b (limited P) o l o′ l′ r call (limited-other P 10 (λ z. omega arith) (λ z. omega arith))
+
+  -- 21 and 22, by a condition for them that holds of an accepted sheet
+  pub made-limit : (m : ℕ) → 20 < m → (X : Type 0) → (fault s ≡ 0 → (limited P ≡ refused m) ↔ X) → (madeNumber r ≡ m) ↔ (Room o l × (fault s ≡ 0) × (labelsFault (stateCount s) b ≡ 0) × X)
+  made-limit m over X exact =
+      let c = checked-number s b (limited P) o l o′ l′ r call m (omega arith) (λ z. omega arith) (λ z. omega arith) in
+      (λ h. let (k, f, g, e) = c .0 h in (k, f, g, exact f .0 e), λ (k, f, g, x). c .1 (k, f, g, exact f .1 x))
+
+  -- where lengths are answered, P stands in the outputs, if it can be written
+  module _ (w n : ℕ) (lengths : r ≡ Lengths w n) where
+    pub made-accepted : fault s ≡ 0
+    made-accepted = made-lengths .0 (ap madeNumber lengths) .1
+
+    pub made-leaves : (fault s ≡ 0 → labelsFault (stateCount s) b ≡ 0 → Fits (P .automaton) → Writable P) → Leaves o l o′ l′ w n (P .automaton) (P .labels)
+    made-leaves writable =
+        let (k, f, g, i) = made-lengths .0 (ap madeNumber lengths) in
+        let e = inputs-given s b (limited P) P .1 (f, g, limited-given P (i .few-states) (i .few-transitions)) in
+        call-leaves o l o′ l′ r (sheetFirst s (labelsFirst (stateCount s) b (limited P))) call w n lengths P e (writable f g i)
 
 -- `sink` behind labels is a label more
 with-sink : {ls : List (List ℕ)} → AllLabels ls → AllLabels (ls ++ sinkLabel ∷ [])
 with-sink a = labels-append a (more {l = sinkLabel} (record { some = omega arith; short = omega arith }) none)
 
-labels-accepted : (n : ℕ) (ls : List (List ℕ)) → AllLabels ls → length ls ≡ n → labelsFault n (writeLabels ls) ≡ 0
-labels-accepted n ls a e = subst (λ k. labelsFault k (writeLabels ls) ≡ 0) e (fault-write ls a)
-
--- an accepted sheet s with the labels b
-module _ (lo hi : ℕ) (s b : List ℕ) (f : fault s ≡ 0) (g : labelsFault (stateCount s) b ≡ 0) where
-  totalize-answer : totalizeAnswer lo hi s b ≡ limited (totalPattern lo hi (read s) (readLabels b))
-  unfolding totalizeAnswer sheetFirst labelsFirst
-  totalize-answer = rw (eq-eqb (fault s) 0 f, eq-eqb (labelsFault (stateCount s) b) 0 g)
-
+-- an accepted sheet s, and its labels b
+module _ (lo hi : ℕ) (s b : List ℕ) (f : fault s ≡ 0) where
   total-size : totalPattern lo hi (read s) (readLabels b) .automaton .size ≡ stateCount s + 1
   unfolding totalPattern totalized
   total-size = refl
@@ -96,34 +106,18 @@ module _ (lo hi : ℕ) (s b : List ℕ) (f : fault s ≡ 0) (g : labelsFault (st
   unfolding totalPattern transitionCount
   total-count = length-totalized lo hi (read s) (read-well s (accepted s f))
 
-  -- 21 exactly where there are 256 states
-  pub totalize-21 : (totalizeAnswer lo hi s b ≡ refused 21) ↔ (stateCount s ≡ 256)
-  totalize-21 =
-      let few = accepted s f .few-states in (
-        λ e. omega (arith, few, total-size, limited-21 (totalPattern lo hi (read s) (readLabels b)) .0 (sym totalize-answer ∙ e)),
-        λ c. totalize-answer ∙ limited-21 (totalPattern lo hi (read s) (readLabels b)) .1 (rw total-size (omega arith)),
+  -- totalizing has 21 exactly where there are 256 states, and 22 exactly where there are fewer and over 2,048 transitions
+  pub total-21 : (limited (totalPattern lo hi (read s) (readLabels b)) ≡ refused 21) ↔ (stateCount s ≡ 256)
+  total-21 =
+      let p = limited-21 (totalPattern lo hi (read s) (readLabels b)) in
+      (λ e. omega (arith, accepted s f .few-states, total-size, p .0 e), λ c. p .1 (rw total-size (omega arith)))
+
+  pub total-22 : (limited (totalPattern lo hi (read s) (readLabels b)) ≡ refused 22) ↔ ((stateCount s < 256) × (2048 < transitionCount lo hi (read s)))
+  total-22 =
+      let p = limited-22 (totalPattern lo hi (read s) (readLabels b)) in (
+        λ e. let (h, l) = p .0 e in (omega (arith, total-size, h), omega (arith, total-count, l)),
+        λ (h, l). p .1 (rw total-size (omega arith), rw total-count l),
       )
-
-  -- 22 exactly where there are fewer, and over 2,048 transitions
-  pub totalize-22 : (totalizeAnswer lo hi s b ≡ refused 22) ↔ ((stateCount s < 256) × (2048 < transitionCount lo hi (read s)))
-  totalize-22 = (
-    λ e. let p = limited-22 (totalPattern lo hi (read s) (readLabels b)) .0 (sym totalize-answer ∙ e) in (omega (arith, total-size, p .0), omega (arith, total-count, p .1)),
-    λ (h, l). totalize-answer ∙ limited-22 (totalPattern lo hi (read s) (readLabels b)) .1 (rw total-size (omega arith), rw total-count l),
-  )
-
-  -- a result is an accepted sheet, and its labels are accepted
-  pub totalize-accepted : lo ≤ hi → (P : Pattern) → totalizeAnswer lo hi s b ≡ given P → (fault (write (P .automaton)) ≡ 0) × (labelsFault (P .automaton .size) (writeLabels (P .labels)) ≡ 0)
-  unfolding totalPattern totalized
-  totalize-accepted c P e =
-      let r = limited-result (totalPattern lo hi (read s) (readLabels b)) P (sym totalize-answer ∙ e) in
-      rw (r .0) (
-        write-accepted (totalized lo hi (read s)) (totalized-well lo hi (read s) (read-well s (accepted s f)) c) (r .1),
-        labels-accepted (stateCount s + 1) (readLabels b ++ sinkLabel ∷ []) (with-sink (labels-read (stateCount s) b g)) (length-append (readLabels b) (sinkLabel ∷ []) ∙ ap (λ n. n + 1) (length-read (stateCount s) b g)),
-      )
-
-  complement-answer : complementAnswer lo hi s b ≡ limited (complementPattern lo hi (read s) (readLabels b))
-  unfolding complementAnswer sheetFirst labelsFirst
-  complement-answer = rw (eq-eqb (fault s) 0 f, eq-eqb (labelsFault (stateCount s) b) 0 g)
 
   module _ (t : Bool) (e : isNfa lo hi (read s) ≡ t) where
     complement-size : complementPattern lo hi (read s) (readLabels b) .automaton .size ≡ cond t (stateCount s + 1) (stateCount s)
@@ -143,37 +137,55 @@ module _ (lo hi : ℕ) (s b : List ℕ) (f : fault s ≡ 0) (g : labelsFault (st
         go false = refl
 
   -- the complement has 21 and 22 only where it totalizes
-  pub complement-21 : (complementAnswer lo hi s b ≡ refused 21) ↔ ((isNfa lo hi (read s) ≡ true) × (stateCount s ≡ 256))
-  complement-21 =
+  pub complemented-21 : (limited (complementPattern lo hi (read s) (readLabels b)) ≡ refused 21) ↔ ((isNfa lo hi (read s) ≡ true) × (stateCount s ≡ 256))
+  complemented-21 =
       let P = complementPattern lo hi (read s) (readLabels b) in
       let few = accepted s f .few-states in (
         λ e.
-            let p = limited-21 P .0 (sym complement-answer ∙ e) in
+            let p = limited-21 P .0 e in
             ⊎-elim (λ t. (t, omega (arith, few, p, complement-size true t))) (λ t. absurd (omega (arith, few, p, complement-size false t))) (test (isNfa lo hi (read s))),
-        λ (t, c). complement-answer ∙ limited-21 P .1 (rw (complement-size true t) (omega arith)),
+        λ (t, c). limited-21 P .1 (rw (complement-size true t) (omega arith)),
       )
 
-  pub complement-22 : (complementAnswer lo hi s b ≡ refused 22) ↔ ((isNfa lo hi (read s) ≡ true) × (stateCount s < 256) × (2048 < transitionCount lo hi (read s)))
-  complement-22 =
+  pub complemented-22 : (limited (complementPattern lo hi (read s) (readLabels b)) ≡ refused 22) ↔ ((isNfa lo hi (read s) ≡ true) × (stateCount s < 256) × (2048 < transitionCount lo hi (read s)))
+  complemented-22 =
       let P = complementPattern lo hi (read s) (readLabels b) in
       let few = read-fits s (accepted s f) .few-transitions in (
         λ e.
-            let p = limited-22 P .0 (sym complement-answer ∙ e) in
+            let p = limited-22 P .0 e in
             ⊎-elim (λ t. (t, omega (arith, p .0, complement-size true t), omega (arith, p .1, complement-count true t))) (λ t. absurd (omega (arith, few, p .1, complement-count false t))) (test (isNfa lo hi (read s))),
-        λ (t, h, l). complement-answer ∙ limited-22 P .1 (rw (complement-size true t) (omega arith), rw (complement-count true t) l),
+        λ (t, h, l). limited-22 P .1 (rw (complement-size true t) (omega arith), rw (complement-count true t) l),
       )
 
-  pub complement-accepted : lo ≤ hi → (P : Pattern) → complementAnswer lo hi s b ≡ given P → (fault (write (P .automaton)) ≡ 0) × (labelsFault (P .automaton .size) (writeLabels (P .labels)) ≡ 0)
-  unfolding complementPattern
-  complement-accepted c P e =
-      let r = limited-result (complementPattern lo hi (read s) (readLabels b)) P (sym complement-answer ∙ e) in
-      rw (r .0) (
-        write-accepted (complemented lo hi (read s)) (complemented-well lo hi (read s) c (read-well s (accepted s f))) (r .1),
-        go (isNfa lo hi (read s)) refl,
-      )
-    where
-      go : (t : Bool) → isNfa lo hi (read s) ≡ t → labelsFault (complemented lo hi (read s) .size) (writeLabels (cond t (readLabels b ++ sinkLabel ∷ []) (readLabels b))) ≡ 0
-      go true t =
-          labels-accepted _ (readLabels b ++ sinkLabel ∷ []) (with-sink (labels-read (stateCount s) b g))
-          (length-append (readLabels b) (sinkLabel ∷ []) ∙ ap (λ n. n + 1) (length-read (stateCount s) b g) ∙ sym (complement-size true t))
-      go false t = labels-accepted _ (readLabels b) (labels-read (stateCount s) b g) (length-read (stateCount s) b g ∙ sym (complement-size false t))
+  -- both can be written
+  module _ (c : lo ≤ hi) (g : labelsFault (stateCount s) b ≡ 0) where
+    sink-each : length (readLabels b ++ sinkLabel ∷ []) ≡ stateCount s + 1
+    sink-each = length-append (readLabels b) (sinkLabel ∷ []) ∙ ap (λ n. n + 1) (length-read (stateCount s) b g)
+
+    pub total-writable : Fits (totalPattern lo hi (read s) (readLabels b) .automaton) → Writable (totalPattern lo hi (read s) (readLabels b))
+    unfolding totalPattern
+    total-writable h =
+        record {
+          well = totalized-well lo hi (read s) (read-well s (accepted s f)) c;
+          fits = h;
+          labels = with-sink (labels-read (stateCount s) b g);
+          each = unfold totalized in sink-each;
+        }
+
+    pub complement-writable : Fits (complementPattern lo hi (read s) (readLabels b) .automaton) → Writable (complementPattern lo hi (read s) (readLabels b))
+    unfolding complementPattern
+    complement-writable h =
+        record {
+          well = complemented-well lo hi (read s) c (read-well s (accepted s f));
+          fits = h;
+          labels = all (isNfa lo hi (read s));
+          each = each (isNfa lo hi (read s)) refl;
+        }
+      where
+        all : (t : Bool) → AllLabels (cond t (readLabels b ++ sinkLabel ∷ []) (readLabels b))
+        all true = with-sink (labels-read (stateCount s) b g)
+        all false = labels-read (stateCount s) b g
+
+        each : (t : Bool) → isNfa lo hi (read s) ≡ t → length (cond t (readLabels b ++ sinkLabel ∷ []) (readLabels b)) ≡ complemented lo hi (read s) .size
+        each true e = sink-each ∙ sym (complement-size true e)
+        each false e = length-read (stateCount s) b g ∙ sym (complement-size false e)

@@ -20,7 +20,7 @@ use Rattle.ranges.specs.Span.{Span, OverlapFree}
 use Rattle.ranges.proofs.Functional.{Functional, overlap-functional}
 use Rattle.lists.proofs.Every.{any-none}
 use Rattle.ranges.proofs.Held.{held, holds-ends}
-use Rattle.totality.specs.Totality.{holesOf, holeTo, loopOn, totalized, otherWord, flipped}
+use Rattle.totality.specs.Totality.{holesOf, Complete, holeTo, loopOn, totalized, otherWord, flipped}
 use Rattle.totality.proofs.Rows.{state-holes}
 use Rattle.totality.proofs.Totalized.{Origin, kept, hole, loop, origin, kept-in, hole-in, loop-in, accept-same, accept-zero, other-at}
 
@@ -70,9 +70,9 @@ module _ (lo hi : ℕ) (A : Automaton) (v : WellFormed A) where
   run-back (read e m c k l u r) h = back-read e (origin lo hi A v e m) h c k l u (run-back r) (sink-stays r)
 
   -- totalizing keeps the words
-  pub totalize-words : (w : List ℕ) → Accepts (totalized lo hi A) w ↔ Accepts A w
+  pub words-kept : (w : List ℕ) → Accepts (totalized lo hi A) w ↔ Accepts A w
   unfolding totalized
-  totalize-words w = (
+  words-kept w = (
     λ (q, r, a).
         ⊎-elim
         (λ (s : Run A (A .start) w q).
@@ -82,10 +82,6 @@ module _ (lo hi : ℕ) (A : Automaton) (v : WellFormed A) where
         (run-back r (v .states .starts)),
     λ (q, r, a). (q, run-more (λ e m. kept-in lo hi A v m) r, rw (accept-same (A .accept) q (accepting (A .accept) q a)) a),
   )
-
--- every symbol from lo to hi has a transition in every state
-pub record Complete (lo hi : ℕ) (B : Automaton) : Type 0 where
-  pub next : (p x : ℕ) → p < B .size → lo ≤ x → x ≤ hi → (e : Transition) × e ∈ B .transitions × (e .from ≡ p) × (e .kind ≡ 1) × (e .first ≤ x) × (x ≤ e .last)
 
 run-unique : {B : Automaton} → Functional B → {p q q′ : ℕ} {w : List ℕ} → Run B p w q → Run B p w q′ → q ≡ q′
 run-unique f stay stay = refl

@@ -1,14 +1,15 @@
 -- `is_nfa`, `totalize` and `complement` on automata (document 01, "Product, totality, complement, emptiness"). `lo` and `hi` are the least and the
 -- greatest symbol.
-use Prim.Native.Nat.{ℕ, _+_}
-use mathlib.Core.Bool.{Bool, cond, _||_}
+use Prim.Native.Nat.{ℕ, _+_, _≤_, _<_}
+use mathlib.Core.Bool.{Bool, false, cond, _||_}
 use mathlib.Core.List.{List, [], _∷_, _++_, map, flatMap}
+use mathlib.Core.Path.{_≡_}
 use lib.Dec.{eqb, ltb}
 use lib.ListN.{length}
-use Rattle.lists.specs.Lists.{any}
-use Rattle.automata.specs.Automaton.{Transition, Automaton, states, leaving, rangesOf, hasEpsilon}
+use Rattle.lists.specs.Lists.{_∈_, any}
+use Rattle.automata.specs.Automaton.{Transition, Automaton, states, carries, leaving, rangesOf, hasEpsilon}
 use Rattle.automata.specs.Ordered.{inOrder}
-use Rattle.ranges.specs.Span.{Span, overlapping}
+use Rattle.ranges.specs.Span.{Span, overlapping, Shared}
 use Rattle.ranges.specs.Missing.{missing}
 
 -- the holes that transitions leave
@@ -29,6 +30,22 @@ isNfaIn lo hi A qs = any (λ q. isNfaAt lo hi (leaving A q)) qs
 
 unfoldable pub isNfa : ℕ → ℕ → Automaton → Bool
 isNfa lo hi A = isNfaIn lo hi A (states (A .size))
+
+-- the transitions of a state have no epsilon, no overlap and no hole
+pub record Settled (lo hi : ℕ) (es : List Transition) : Type 0 where
+  pub no-epsilon : hasEpsilon es ≡ false
+  pub no-overlap : overlapping (rangesOf es) ≡ false
+  pub no-hole : holesOf lo hi es ≡ []
+
+-- an epsilon; an overlap, two ranges of a state that hold the same symbol; or a hole, a symbol that no range of a state holds
+pub data Unsettled (lo hi : ℕ) (A : Automaton) : Type 0 where
+  epsilon : (e : Transition) → e ∈ A .transitions → e .kind ≡ 0 → Unsettled lo hi A
+  overlap : (q : ℕ) → q < A .size → Shared (rangesOf (leaving A q)) → Unsettled lo hi A
+  hole : (q x : ℕ) → q < A .size → lo ≤ x → x ≤ hi → ((e : Transition) → e ∈ A .transitions → carries q x e ≡ false) → Unsettled lo hi A
+
+-- every symbol from lo to hi has a transition in every state
+pub record Complete (lo hi : ℕ) (A : Automaton) : Type 0 where
+  pub next : (q x : ℕ) → q < A .size → lo ≤ x → x ≤ hi → (e : Transition) × e ∈ A .transitions × (e .from ≡ q) × (e .kind ≡ 1) × (e .first ≤ x) × (x ≤ e .last)
 
 -- a hole of the state q, led to the sink
 abbrev pub holeTo : ℕ → ℕ → Span → Transition

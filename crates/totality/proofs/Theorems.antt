@@ -1,0 +1,253 @@
+-- What is proved of `is_nfa`, `totalize` and `complement` (document 01, "Product, totality, complement, emptiness").
+--
+-- Of a well-formed automaton, as an accepted sheet reads; `lo` and `hi` are the least and the greatest symbol:
+--   nfa-settled            `is_nfa` is false exactly where no state has an epsilon, an overlap or a hole
+--   nfa-unsettled          and true exactly where there is one of them
+--   nfa-exact              it is false exactly where every symbol has one transition in every state and no epsilon stands
+--   sheet-exact            the same of a sheet of 32-bit words
+--   totalize-words         totalizing keeps the words
+--   totalize-total         and then every symbol has a transition in every state
+--   complement-words       where no epsilon and no overlap stood, the complement accepts the other words
+-- Of the call of `is_nfa` on the sheet s, from its contract:
+--   is-nfa-yes, is-nfa-no, is-nfa-deterministic, is-nfa-refused
+--                          where each answer is given, exactly
+-- Of the call of `totalize` on the sheet s with the labels b, from its contract:
+--   totalize-left          where lengths are answered, the totalized automaton and its labels stand in the outputs
+--   totalize-left-words    the sheet left accepts the words that s accepts
+--   totalize-left-total    in it every symbol has a transition in every state
+--   totalize-lengths       where lengths are answered, exactly
+--   totalize-20, totalize-fault, totalize-10, totalize-21, totalize-22
+--                          where each number is answered, exactly
+--   totalize-unchanged     a refusal leaves both outputs as they were
+-- Of the call of `complement` likewise:
+--   complement-left        where lengths are answered, the complement and its labels stand in the outputs
+--   complement-left-words  where s has no epsilon and no overlap, the sheet left accepts the other words
+--   complement-lengths     where lengths are answered, exactly
+--   complement-20, complement-fault, complement-10, complement-21, complement-22
+--                          where each number is answered, exactly
+--   complement-unchanged   a refusal leaves both outputs as they were
+use Prim.Native.Nat.{ℕ, _≤_, _<_}
+use mathlib.Core.Bool.{Bool, true, false, cond}
+use mathlib.Core.List.{List, [], _∷_, _++_}
+use mathlib.Core.Logic.{_↔_}
+use mathlib.Core.Path.{_≡_, sym, _∙_, ap, subst}
+use native.Mathlib.Omega.{arith}
+use lib.ListN.{getD, take}
+use Rattle.lists.specs.Lists.{_∈_}
+use Rattle.automata.specs.Automaton.{Transition, Automaton, Accepts, Word, leaving, EpsilonFree}
+use Rattle.automata.specs.Deterministic.{Deterministic}
+use Rattle.automata.specs.WellFormed.{WellFormed, Fits, lastSymbol}
+use Rattle.labels.specs.Forms.{sinkLabel}
+use Rattle.labels.specs.Labels.{labelsFault, readLabels}
+use Rattle.output.specs.declared.Made.{Made}
+use Rattle.output.specs.declared.Made.the-variants.{Lengths}
+use Rattle.output.specs.Left.{madeNumber, Room, Leaves, Unchanged}
+use Rattle.output.specs.Made.{outputOf}
+use Rattle.output.specs.Output.{Pattern, outputs, roomFirst}
+use Rattle.output.proofs.Exact.{given-refused}
+use Rattle.output.proofs.Left.{call-refused}
+use Rattle.ranges.specs.Span.{OverlapFree}
+use Rattle.refusal.specs.Answer.{refused, given}
+use Rattle.refusal.specs.Decision.{decisionOf}
+use Rattle.refusal.specs.declared.Decision.{Decision}
+use Rattle.refusal.specs.declared.Decision.the-variants.{Is, Refused}
+use Rattle.sheets.specs.Accepted.{Accepted}
+use Rattle.sheets.specs.Fault.{fault}
+use Rattle.sheets.specs.Sheet.{stateCount, read}
+use Rattle.sheets.proofs.Accepted.{accepted}
+use Rattle.sheets.proofs.Meaning.{read-well}
+use Rattle.sheets.proofs.Numbers.{sheet-given, sheet-fault}
+use Rattle.totality.specs.Answers.{totalPattern, complementPattern, isNfaAnswer, totalizeAnswer, complementAnswer}
+use Rattle.totality.specs.Totality.{isNfa, Settled, Unsettled, Complete, totalized, transitionCount, complemented}
+use Rattle.totality.proofs.Deterministic.{settled-exact, unsettled-exact, deterministic-exact, other-words, read-within}
+use Rattle.totality.proofs.Limits.{made-lengths, made-20, made-fault, made-10, made-limit, made-accepted, made-leaves, total-21, total-22, complemented-21, complemented-22, total-writable, complement-writable}
+use Rattle.totality.proofs.Words.{words-kept, total-complete}
+
+module _ (lo hi : ℕ) (A : Automaton) where
+  -- `is_nfa` is false exactly where no state has an epsilon, an overlap or a hole
+  pub nfa-settled : (isNfa lo hi A ≡ false) ↔ ((q : ℕ) → q < A .size → Settled lo hi (leaving A q))
+  nfa-settled = settled-exact lo hi A
+
+  module _ (v : WellFormed A) where
+    -- and true exactly where there is one of them
+    pub nfa-unsettled : (isNfa lo hi A ≡ true) ↔ Unsettled lo hi A
+    nfa-unsettled = unsettled-exact lo hi A v
+
+    -- it is false exactly where every symbol has one transition in every state and no epsilon stands
+    pub nfa-exact : ((e : Transition) → e ∈ A .transitions → e .kind ≡ 1 → (lo ≤ e .first) × (e .last ≤ hi)) → (isNfa lo hi A ≡ false) ↔ Deterministic lo hi A
+    nfa-exact = deterministic-exact lo hi A v
+
+    -- totalizing keeps the words
+    pub totalize-words : (w : List ℕ) → Accepts (totalized lo hi A) w ↔ Accepts A w
+    totalize-words = words-kept lo hi A v
+
+    -- and then every symbol has a transition in every state
+    pub totalize-total : Complete lo hi (totalized lo hi A)
+    totalize-total = total-complete lo hi A v
+
+    -- where no epsilon and no overlap stood, the complement accepts the other words
+    pub complement-words : lo ≤ hi → EpsilonFree A → OverlapFree A → (w : List ℕ) → Word lo hi w → Accepts (complemented lo hi A) w ↔ (Accepts A w → ⊥)
+    complement-words = other-words lo hi A v
+
+-- of a sheet of 32-bit words `is_nfa` is false exactly where every symbol has one transition in every state and no epsilon stands
+pub sheet-exact : (s : List ℕ) → Accepted s → ((i : ℕ) → getD s i 0 ≤ lastSymbol) → (isNfa 0 lastSymbol (read s) ≡ false) ↔ Deterministic 0 lastSymbol (read s)
+sheet-exact s a h = nfa-exact 0 lastSymbol (read s) (read-well s a) (read-within s h)
+
+-- the call of `is_nfa` on the sheet s: r is its answer
+module _ (s : List ℕ) (r : Decision) (call : decisionOf r ≡ isNfaAnswer 0 lastSymbol s) where
+  decided : (t : Bool) → (r ≡ Is t) ↔ ((fault s ≡ 0) × (isNfa 0 lastSymbol (read s) ≡ t))
+  unfolding isNfaAnswer
+  decided t =
+      let p = sheet-given s (given (isNfa 0 lastSymbol (read s))) t in
+      (λ e. let (f, g) = p .0 (sym call ∙ ap decisionOf e) in (f, same g), λ (f, g). is r (call ∙ p .1 (f, ap given g)))
+    where
+      same : {x y : Bool} → given x ≡ given y → x ≡ y
+      same e = cc
+
+      is : (r : Decision) → decisionOf r ≡ given t → r ≡ Is t
+      is (Is x) e = ap Is (same e)
+      is (Refused x) e = let z : _≡_ {A = ℕ} 0 1 = cc in absurd (omega arith)
+
+  -- the answer is yes exactly where the sheet has no fault, and an epsilon, an overlap or a hole
+  pub is-nfa-yes : (r ≡ Is true) ↔ ((fault s ≡ 0) × Unsettled 0 lastSymbol (read s))
+  is-nfa-yes = (
+    λ e. let (f, t) = decided true .0 e in (f, nfa-unsettled 0 lastSymbol (read s) (read-well s (accepted s f)) .0 t),
+    λ (f, u). decided true .1 (f, nfa-unsettled 0 lastSymbol (read s) (read-well s (accepted s f)) .1 u),
+  )
+
+  -- it is no exactly where the sheet has no fault, and no state has an epsilon, an overlap or a hole
+  pub is-nfa-no : (r ≡ Is false) ↔ ((fault s ≡ 0) × ((q : ℕ) → q < stateCount s → Settled 0 lastSymbol (leaving (read s) q)))
+  is-nfa-no = (
+    λ e. let (f, t) = decided false .0 e in (f, nfa-settled 0 lastSymbol (read s) .0 t),
+    λ (f, u). decided false .1 (f, nfa-settled 0 lastSymbol (read s) .1 u),
+  )
+
+  -- on a sheet of 32-bit words it is no exactly where every symbol has one transition in every state and no epsilon stands
+  pub is-nfa-deterministic : ((i : ℕ) → getD s i 0 ≤ lastSymbol) → (r ≡ Is false) ↔ ((fault s ≡ 0) × Deterministic 0 lastSymbol (read s))
+  is-nfa-deterministic h = (
+    λ e. let (f, t) = decided false .0 e in (f, sheet-exact s (accepted s f) h .0 t),
+    λ (f, d). decided false .1 (f, sheet-exact s (accepted s f) h .1 d),
+  )
+
+  -- it is refused with a number exactly where the sheet has that fault
+  pub is-nfa-refused : (m : ℕ) → 0 < m → (decisionOf r ≡ refused m) ↔ (fault s ≡ m)
+  unfolding isNfaAnswer
+  is-nfa-refused m l =
+      let p = sheet-fault s (given (isNfa 0 lastSymbol (read s))) m l given-refused in
+      (λ e. p .0 (sym call ∙ e), λ f. call ∙ p .1 f)
+
+-- the call of `totalize` on the sheet s with the labels b: r is its answer, o and l are the outputs before it, o′ and l′ after it
+module _ (s b o l o′ l′ : List ℕ) (r : Made) (call : outputOf r o′ l′ ≡ outputs o l (roomFirst o l (totalizeAnswer 0 lastSymbol s b))) where
+  abbrev total : Pattern
+  total = totalPattern 0 lastSymbol (read s) (readLabels b)
+
+  module _ (w n : ℕ) (lengths : r ≡ Lengths w n) where
+    well-read : WellFormed (read s)
+    unfolding totalizeAnswer
+    well-read = read-well s (accepted s (made-accepted s b total o l o′ l′ r call w n lengths))
+
+    -- the totalized automaton stands in the one output, and the labels of the input and `sink` in the other
+    pub totalize-left : Leaves o l o′ l′ w n (totalized 0 lastSymbol (read s)) (readLabels b ++ sinkLabel ∷ [])
+    unfolding totalizeAnswer totalPattern
+    totalize-left = made-leaves s b total o l o′ l′ r call w n lengths (λ f. total-writable 0 lastSymbol s b f (omega arith))
+
+    -- the sheet left accepts the words that the input accepts
+    pub totalize-left-words : (v : List ℕ) → Accepts (read (take w o′)) v ↔ Accepts (read s) v
+    totalize-left-words v = subst (λ (A : Automaton). Accepts A v ↔ Accepts (read s) v) (sym (totalize-left .reads)) (totalize-words 0 lastSymbol (read s) well-read v)
+
+    -- in it every symbol has a transition in every state
+    pub totalize-left-total : Complete 0 lastSymbol (read (take w o′))
+    totalize-left-total = subst (Complete 0 lastSymbol) (sym (totalize-left .reads)) (totalize-total 0 lastSymbol (read s) well-read)
+
+  -- nothing is refused exactly where there is room, nothing has a fault and the result is within the limits
+  pub totalize-lengths : (madeNumber r ≡ 0) ↔ (Room o l × (fault s ≡ 0) × (labelsFault (stateCount s) b ≡ 0) × Fits (totalized 0 lastSymbol (read s)))
+  unfolding totalizeAnswer totalPattern
+  totalize-lengths = made-lengths s b total o l o′ l′ r call
+
+  -- 20 exactly where an output is too short
+  pub totalize-20 : (madeNumber r ≡ 20) ↔ (Room o l → ⊥)
+  unfolding totalizeAnswer
+  totalize-20 = made-20 s b total o l o′ l′ r call
+
+  -- 1 to 6 exactly where there is room and the sheet has that fault
+  pub totalize-fault : (m : ℕ) → 1 ≤ m → m ≤ 6 → (madeNumber r ≡ m) ↔ (Room o l × (fault s ≡ m))
+  unfolding totalizeAnswer
+  totalize-fault = made-fault s b total o l o′ l′ r call
+
+  -- 10 exactly where there is room, the sheet has no fault and the labels have one
+  pub totalize-10 : (madeNumber r ≡ 10) ↔ (Room o l × (fault s ≡ 0) × (labelsFault (stateCount s) b ≡ 10))
+  unfolding totalizeAnswer
+  totalize-10 = made-10 s b total o l o′ l′ r call
+
+  -- 21 exactly where there is room, nothing has a fault and there are 256 states
+  pub totalize-21 : (madeNumber r ≡ 21) ↔ (Room o l × (fault s ≡ 0) × (labelsFault (stateCount s) b ≡ 0) × (stateCount s ≡ 256))
+  unfolding totalizeAnswer
+  totalize-21 = made-limit s b total o l o′ l′ r call 21 (omega arith) (stateCount s ≡ 256) (total-21 0 lastSymbol s b)
+
+  -- 22 exactly where there is room, nothing has a fault, and there are fewer than 256 states and over 2,048 transitions
+  pub totalize-22 : (madeNumber r ≡ 22) ↔ (Room o l × (fault s ≡ 0) × (labelsFault (stateCount s) b ≡ 0) × (stateCount s < 256) × (2048 < transitionCount 0 lastSymbol (read s)))
+  unfolding totalizeAnswer
+  totalize-22 =
+      let c = made-limit s b total o l o′ l′ r call 22 (omega arith) ((stateCount s < 256) × (2048 < transitionCount 0 lastSymbol (read s))) (total-22 0 lastSymbol s b) in
+      (λ h. let (k, f, g, x) = c .0 h in (k, f, g, x .0, x .1), λ (k, f, g, i, j). c .1 (k, f, g, (i, j)))
+
+  -- a refusal leaves both outputs as they were
+  pub totalize-unchanged : (madeNumber r ≡ 0 → ⊥) → Unchanged o l o′ l′
+  totalize-unchanged = call-refused o l o′ l′ r (totalizeAnswer 0 lastSymbol s b) call
+
+-- the call of `complement` likewise
+module _ (s b o l o′ l′ : List ℕ) (r : Made) (call : outputOf r o′ l′ ≡ outputs o l (roomFirst o l (complementAnswer 0 lastSymbol s b))) where
+  abbrev turned : Pattern
+  turned = complementPattern 0 lastSymbol (read s) (readLabels b)
+
+  module _ (w n : ℕ) (lengths : r ≡ Lengths w n) where
+    -- the complement stands in the one output, and the labels of the input in the other, with `sink` where it totalizes
+    pub complement-left : Leaves o l o′ l′ w n (complemented 0 lastSymbol (read s)) (cond (isNfa 0 lastSymbol (read s)) (readLabels b ++ sinkLabel ∷ []) (readLabels b))
+    unfolding complementAnswer complementPattern
+    complement-left = made-leaves s b turned o l o′ l′ r call w n lengths (λ f. complement-writable 0 lastSymbol s b f (omega arith))
+
+    -- where the input has no epsilon and no overlap, the sheet left accepts the other words
+    pub complement-left-words : EpsilonFree (read s) → OverlapFree (read s) → (v : List ℕ) → Word 0 lastSymbol v → Accepts (read (take w o′)) v ↔ (Accepts (read s) v → ⊥)
+    unfolding complementAnswer
+    complement-left-words ranges apart v i =
+        let well = read-well s (accepted s (made-accepted s b turned o l o′ l′ r call w n lengths)) in
+        subst (λ (A : Automaton). Accepts A v ↔ (Accepts (read s) v → ⊥)) (sym (complement-left .reads)) (complement-words 0 lastSymbol (read s) well (omega arith) ranges apart v i)
+
+  -- nothing is refused exactly where there is room, nothing has a fault and the result is within the limits
+  pub complement-lengths : (madeNumber r ≡ 0) ↔ (Room o l × (fault s ≡ 0) × (labelsFault (stateCount s) b ≡ 0) × Fits (complemented 0 lastSymbol (read s)))
+  unfolding complementAnswer complementPattern
+  complement-lengths = made-lengths s b turned o l o′ l′ r call
+
+  -- 20 exactly where an output is too short
+  pub complement-20 : (madeNumber r ≡ 20) ↔ (Room o l → ⊥)
+  unfolding complementAnswer
+  complement-20 = made-20 s b turned o l o′ l′ r call
+
+  -- 1 to 6 exactly where there is room and the sheet has that fault
+  pub complement-fault : (m : ℕ) → 1 ≤ m → m ≤ 6 → (madeNumber r ≡ m) ↔ (Room o l × (fault s ≡ m))
+  unfolding complementAnswer
+  complement-fault = made-fault s b turned o l o′ l′ r call
+
+  -- 10 exactly where there is room, the sheet has no fault and the labels have one
+  pub complement-10 : (madeNumber r ≡ 10) ↔ (Room o l × (fault s ≡ 0) × (labelsFault (stateCount s) b ≡ 10))
+  unfolding complementAnswer
+  complement-10 = made-10 s b turned o l o′ l′ r call
+
+  -- 21 exactly where there is room, nothing has a fault, `is_nfa` is true and there are 256 states
+  pub complement-21 : (madeNumber r ≡ 21) ↔ (Room o l × (fault s ≡ 0) × (labelsFault (stateCount s) b ≡ 0) × (isNfa 0 lastSymbol (read s) ≡ true) × (stateCount s ≡ 256))
+  unfolding complementAnswer
+  complement-21 =
+      let c = made-limit s b turned o l o′ l′ r call 21 (omega arith) ((isNfa 0 lastSymbol (read s) ≡ true) × (stateCount s ≡ 256)) (complemented-21 0 lastSymbol s b) in
+      (λ h. let (k, f, g, x) = c .0 h in (k, f, g, x .0, x .1), λ (k, f, g, i, j). c .1 (k, f, g, (i, j)))
+
+  -- 22 exactly where there is room, nothing has a fault, `is_nfa` is true, and there are fewer than 256 states and over 2,048 transitions
+  pub complement-22 : (madeNumber r ≡ 22)
+      ↔ (Room o l × (fault s ≡ 0) × (labelsFault (stateCount s) b ≡ 0) × (isNfa 0 lastSymbol (read s) ≡ true) × (stateCount s < 256) × (2048 < transitionCount 0 lastSymbol (read s)))
+  unfolding complementAnswer
+  complement-22 =
+      let c = made-limit s b turned o l o′ l′ r call 22 (omega arith) ((isNfa 0 lastSymbol (read s) ≡ true) × (stateCount s < 256) × (2048 < transitionCount 0 lastSymbol (read s))) (complemented-22 0 lastSymbol s b) in
+      (λ h. let (k, f, g, x) = c .0 h in (k, f, g, x .0, x .1, x .2), λ (k, f, g, i, j, m). c .1 (k, f, g, (i, j, m)))
+
+  -- a refusal leaves both outputs as they were
+  pub complement-unchanged : (madeNumber r ≡ 0 → ⊥) → Unchanged o l o′ l′
+  complement-unchanged = call-refused o l o′ l′ r (complementAnswer 0 lastSymbol s b) call
