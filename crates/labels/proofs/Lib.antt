@@ -7,3 +7,4 @@ pub mod Finding
 pub mod Putting
 pub mod Listing
 pub mod Whole
+pub mod Theorems

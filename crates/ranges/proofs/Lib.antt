@@ -11,3 +11,4 @@ pub mod Functional
 pub mod Runs
 pub mod SortedCuts
 pub mod Writing
+pub mod Theorems

@@ -1,4 +1,5 @@
--- A sheet has no fault exactly when it is what document 01 calls an accepted automaton: its sections fit their counts and its records pass.
+-- A sheet without a fault is what document 01 calls an accepted automaton: its sections fit their counts and its records pass. Theorems has the other
+-- direction too (`accepted-exact`).
 use Prim.Native.Nat.{ℕ, suc, _+_, _*_, _≤_, _<_}
 use mathlib.Core.Path.{_≡_, sym, ap, _∙_, subst}
 use mathlib.Core.Bool.{true, _||_}

@@ -7,3 +7,5 @@ pub mod Below
 pub mod Runs
 pub mod Named
 pub mod Words
+pub mod Decisions
+pub mod Theorems

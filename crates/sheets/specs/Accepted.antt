@@ -9,7 +9,7 @@ use Rattle.automata.specs.WellFormed.{mostStates, mostTransitions}
 use Rattle.sheets.specs.Sheet.{stateCount, recordCount, recordsAt}
 use Rattle.sheets.specs.Fault.{acceptWords, recordsFault}
 
--- a sheet without a fault: an accepted automaton of document 01
+-- a sheet without a fault, and only such a sheet (the theorem `accepted-exact`): an accepted automaton of document 01
 pub record Accepted (s : List ℕ) : Type 0 where
   pub one-start : getD s 0 0 ≡ 1
   pub some-state : 0 < stateCount s

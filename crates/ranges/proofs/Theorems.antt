@@ -1,0 +1,33 @@
+-- What is proved of ranges:
+--   intersect-exact: a symbol lies in two ranges exactly when it lies in what they share
+--   overlap-shared: sorted ranges overlap exactly when two different ones hold the same symbol
+--   missing-holes: the spans that `missing` gives are the maximal runs of symbols that no range holds, ascending
+--   holes-unique: there is only one list of such runs
+use Prim.Native.Nat.{ℕ, _≤_}
+use mathlib.Core.Bool.{true}
+use mathlib.Core.List.{List}
+use mathlib.Core.Logic.{_↔_}
+use mathlib.Core.Path.{_≡_}
+use Rattle.lists.specs.Lists.{_∈_}
+use Rattle.automata.specs.Automaton.{Transition}
+use Rattle.ranges.specs.Span.{Span, Inside, InsideAny, intersectRanges, overlapping, Shared}
+use Rattle.ranges.specs.Missing.{missing, Holes, Sorted}
+use Rattle.ranges.proofs.Missing
+use Rattle.ranges.proofs.Overlap
+use Rattle.ranges.proofs.Separate
+
+-- a symbol lies in two ranges exactly when it lies in what they share
+pub intersect-exact : (s t : Span) (x : ℕ) → (Inside x s × Inside x t) ↔ InsideAny x (intersectRanges s t)
+intersect-exact = Overlap.intersect-exact
+
+-- sorted ranges overlap exactly when two different ones hold the same symbol
+pub overlap-shared : (es : List Transition) → Sorted es → (overlapping es ≡ true) ↔ Shared es
+overlap-shared = Overlap.overlap-shared
+
+-- the spans that `missing` gives are the maximal runs of symbols from lo to hi that no range holds, ascending
+pub missing-holes : (lo hi : ℕ) (es : List Transition) → ((e : Transition) → e ∈ es → e .first ≤ e .last) → Holes lo hi es (missing lo hi es)
+missing-holes = Missing.missing-holes
+
+-- two lists of these runs are the same
+pub holes-unique : (lo hi : ℕ) (es : List Transition) (hs ks : List Span) → Holes lo hi es hs → Holes lo hi es ks → hs ≡ ks
+holes-unique = Separate.holes-unique
