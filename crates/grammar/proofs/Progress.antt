@@ -12,7 +12,6 @@ use Rattle.lists.proofs.Tests.{and-parts}
 use Rattle.grammar.specs.Bytes.{isLetter, isDigit, isNameByte}
 use Rattle.grammar.specs.Grammar.{Found, nothing, found, follow, mark, run, space, neededSpace, begins, token, name, number, ends, range, target, transition, initial, nextName, transitions, nextNames, accepting, heading, ending, wholeText}
 use Rattle.grammar.specs.Places.{Spelt, Drawn}
-use Rattle.grammar.specs.declared.pieces.Arrow.{Arrow}
 use Rattle.grammar.specs.declared.tokens.Span.{Span}
 use Rattle.grammar.proofs.Letters.{letter-named}
 use Rattle.grammar.proofs.Runs.{run-short, run-more, run-within}
@@ -184,15 +183,15 @@ module _ (t : List ℕ) where
   always nothing = none
   always (found x at) = some 0
 
-  -- P holds of what the transitions from any place tell
-  pub text-holds : (P : List Arrow → Type 0) → ((at : ℕ) → P (transitions t at .items)) → Holds (λ g b. Spelt t (g .start) × FirstSpelt (g .accepts) × P (g .arrows)) (wholeText t)
+  -- the names that a layout holds stand in the text
+  pub text-holds : Holds (λ g b. Spelt t (g .start) × FirstSpelt (g .accepts)) (wholeText t)
   unfolding wholeText
-  text-holds P h =
+  text-holds =
       holds-follow (λ _ _. ℕ) (always (heading t 0)) λ _ a p.
       holds-follow _ (initial-holds (space t a)) λ s b q.
       holds-follow _ (accepting-holds (space t (transitions t b .behind))) λ names c u.
       holds-follow (λ _ _. ℕ) (always (ending t c)) λ _ d v.
-      some (q, u, h b)
+      some (q, u)
 
   ending-holds : (at : ℕ) → Holds (λ _ b. b ≤ length t) (ending t at)
   unfolding ending
