@@ -1,12 +1,11 @@
 -- Laws of pieces that are read as long as a whole one can be read, free of the bound on their number.
 use Prim.Native.Nat.{ℕ, zero, suc, _+_, _-_, _≤_, _<_}
-use mathlib.Core.List.{List, [], _∷_, List·Memᴰ·head, List·Memᴰ·tail}
-use mathlib.Core.Path.{_≡_, refl, sym, _∙_, ap, subst}
+use mathlib.Core.List.{List, [], _∷_}
+use mathlib.Core.Path.{_≡_, refl, sym, _∙_, ap}
 use native.Mathlib.Omega.{arith}
 use borrow.Author.Needs.{needs}
 use lib.ListN.{length}
-use Rattle.lists.specs.Lists.{_∈_}
-use Rattle.grammar.specs.Grammar.{Found, nothing, found, space, transition, nextName, Items, oneMore, many, transitions, nextNames, wholeText}
+use Rattle.grammar.specs.Grammar.{Found, nothing, found, space, transition, nextName, Items, oneMore, many, transitions, nextNames}
 use Rattle.grammar.specs.Pieces.{nameOf, arrowOf}
 use Rattle.grammar.specs.Places.{Spelt, Drawn}
 use Rattle.grammar.specs.declared.tokens.Cursor.{Cursor}
@@ -16,7 +15,7 @@ use Rattle.grammar.specs.declared.tokens.NamePiece.{NamePiece}
 use Rattle.grammar.specs.declared.tokens.NamePiece.the-variants.{Read as NameRead, Nothing as NoName}
 use Rattle.grammar.specs.declared.pieces.ArrowPiece.{ArrowPiece}
 use Rattle.grammar.specs.declared.pieces.ArrowPiece.the-variants.{Read as ArrowRead, Nothing as NoArrow}
-use Rattle.grammar.proofs.Progress.{Holds, holds-found, holds-weaker, Past, next-holds, spaced-holds, text-holds}
+use Rattle.grammar.proofs.Progress.{holds-found, Past, next-holds, spaced-holds}
 
 -- each piece ends behind its start, and at n at the latest
 abbrev Advances : {X : Type 0} → (ℕ → Found X) → ℕ → Type 0
@@ -47,31 +46,12 @@ module _ {X : Type 0} (p : ℕ → Found X) (n : ℕ) (a : Advances p n) where
   unfolding many
   many-nothing at e = enough n (suc n) at (omega arith) (omega arith) ∙ rw e
 
--- what holds of each piece holds of the members
-many-all : {X : Type 0} (p : ℕ → Found X) (P : X → Type 0) → ((at : ℕ) (x : X) (b : ℕ) → p at ≡ found x b → P x) → (k at : ℕ) (x : X) → x ∈ many p k at .items → P x
-unfolding many
-many-all p P h zero at x m = elim m [ ]
-many-all {X = X} p P h (suc k) at x m = go (p at) refl m (many-all p P h k)
-  where
-    go : (r : Found X) → p at ≡ r → x ∈ oneMore at r (many p k) .items → ((at : ℕ) (x : X) → x ∈ many p k at .items → P x) → P x
-    go nothing e m ih = elim m [ ]
-    go (found y b) e (List·Memᴰ·head q) ih = subst P (sym q) (h at y b e)
-    go (found y b) e (List·Memᴰ·tail m) ih = ih b x m
-
 module _ (t : List ℕ) where
   arrows-advance : Advances (λ at. transition t (space t at)) (length t)
   arrows-advance at e b h = let g = holds-found _ (spaced-holds t at) h in (g .1 .forward, g .1 .inside)
 
   names-advance : Advances (nextName t) (length t)
   names-advance at s b h = let g = holds-found _ (next-holds t at) h in (g .1 .forward, g .1 .inside)
-
-  pub arrows-drawn : (at : ℕ) (e : Arrow) → e ∈ transitions t at .items → Drawn t e
-  unfolding transitions
-  arrows-drawn at = many-all (λ at. transition t (space t at)) (Drawn t) (λ at e b h. holds-found _ (spaced-holds t at) h .0) (length t) at
-
-  -- the transitions of a whole text
-  pub text-drawn : Holds (λ g b. Spelt t (g .start) × ((e : Arrow) → e ∈ g .arrows → Drawn t e)) (wholeText t)
-  text-drawn = holds-weaker (text-holds t (λ es. (e : Arrow) → e ∈ es → Drawn t e) arrows-drawn) (λ g b h. (h .0, h .2))
 
   -- the answer p of `spaced_transition` at a place
   module _ (at : ℕ) (p : ArrowPiece) (told : arrowOf p ≡ transition t (space t at)) where

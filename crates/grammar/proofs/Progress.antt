@@ -12,7 +12,6 @@ use Rattle.lists.proofs.Tests.{and-parts}
 use Rattle.grammar.specs.Bytes.{isLetter, isDigit, isNameByte}
 use Rattle.grammar.specs.Grammar.{Found, nothing, found, follow, mark, run, space, neededSpace, begins, token, name, number, ends, range, target, transition, initial, nextName, transitions, nextNames, accepting, heading, ending, wholeText}
 use Rattle.grammar.specs.Places.{Spelt, Drawn}
-use Rattle.grammar.specs.declared.pieces.Arrow.{Arrow}
 use Rattle.grammar.specs.declared.tokens.Span.{Span}
 use Rattle.grammar.proofs.Letters.{letter-named}
 use Rattle.grammar.proofs.Runs.{run-short, run-more, run-within}
@@ -118,7 +117,7 @@ module _ (t : List ℕ) where
   unfolding ends
   holds-ends at =
       holds-follow _ (number-holds t (space t at)) λ v a p.
-      holds-follow _ (spaced-token 44 [] a) λ _ b q.
+      holds-follow _ (spaced-token _ _ a) λ _ b q.
       holds-follow _ (number-holds t (space t b)) λ w c r.
       holds-cond _ (leb v w) (record { first = v; last = w }) c
       (λ e. let g = space-forward t at in let h = space-forward t b in (leb-true v w e, record { forward = omega (arith, p .forward, q .forward, r .forward); inside = r .inside }))
@@ -126,10 +125,10 @@ module _ (t : List ℕ) where
   range-holds : (at : ℕ) → Holds (λ r b. (r .first ≤ r .last) × Past t at b) (range t at)
   unfolding range
   range-holds at =
-      holds-follow _ (spaced-token 91 [] at) λ _ a p.
+      holds-follow _ (spaced-token _ _ at) λ _ a p.
       holds-follow _ (holds-ends a) λ r b q.
-      holds-follow _ (token-holds t b 93 []) λ _ c u.
-      holds-follow _ (token-holds t c 59 []) λ _ d v.
+      holds-follow _ (token-holds t b _ _) λ _ c u.
+      holds-follow _ (token-holds t c _ _) λ _ d v.
       some (q .0, record { forward = omega (arith, p .forward, q .1 .forward, u .forward, v .forward); inside = v .inside })
 
   -- a word and a name behind it
@@ -141,11 +140,11 @@ module _ (t : List ℕ) where
 
   target-holds : (at : ℕ) → Holds (λ s b. Spelt t s × Past t at b) (target t at)
   unfolding target
-  target-holds at = named 45 (62 ∷ []) at
+  target-holds at = named _ _ at
 
   pub next-holds : (at : ℕ) → Holds (λ s b. Spelt t s × Past t at b) (nextName t at)
   unfolding nextName
-  next-holds at = named 44 [] at
+  next-holds at = named _ _ at
 
   pub transition-holds : (at : ℕ) → Holds (λ e b. Drawn t e × Past t at b) (transition t at)
   unfolding transition
@@ -161,10 +160,10 @@ module _ (t : List ℕ) where
   pub initial-holds : (at : ℕ) → Holds (λ s b. Spelt t s) (initial t at)
   unfolding initial
   initial-holds at =
-      holds-follow _ (token-holds t at 105 (110 ∷ 105 ∷ 116 ∷ [])) λ _ a p.
+      holds-follow _ (token-holds t at _ _) λ _ a p.
       holds-follow _ (needed-holds t a) λ _ b q.
       holds-follow _ (name-holds t b) λ s c u.
-      holds-follow _ (token-holds t c 59 []) λ _ d v.
+      holds-follow _ (token-holds t c _ _) λ _ d v.
       some (u .0)
 
   -- the first of some names stands in the text
@@ -174,29 +173,29 @@ module _ (t : List ℕ) where
   accepting-holds : (at : ℕ) → Holds (λ names b. FirstSpelt names) (accepting t at)
   unfolding accepting
   accepting-holds at =
-      holds-follow _ (token-holds t at 97 (99 ∷ 99 ∷ 101 ∷ 112 ∷ 116 ∷ 105 ∷ 110 ∷ 103 ∷ [])) λ _ a p.
+      holds-follow _ (token-holds t at _ _) λ _ a p.
       holds-follow _ (needed-holds t a) λ _ b q.
       holds-follow _ (name-holds t b) λ s c u.
-      holds-follow _ (token-holds t (nextNames t c .behind) 59 []) λ _ d v.
+      holds-follow _ (token-holds t (nextNames t c .behind) _ _) λ _ d v.
       some (leads (u .0))
 
   always : {X : Type 0} (r : Found X) → Holds (λ _ _. ℕ) r
   always nothing = none
   always (found x at) = some 0
 
-  -- P holds of what the transitions from any place tell
-  pub text-holds : (P : List Arrow → Type 0) → ((at : ℕ) → P (transitions t at .items)) → Holds (λ g b. Spelt t (g .start) × FirstSpelt (g .accepts) × P (g .arrows)) (wholeText t)
+  -- the names that a layout holds stand in the text
+  pub text-holds : Holds (λ g b. Spelt t (g .start) × FirstSpelt (g .accepts)) (wholeText t)
   unfolding wholeText
-  text-holds P h =
+  text-holds =
       holds-follow (λ _ _. ℕ) (always (heading t 0)) λ _ a p.
       holds-follow _ (initial-holds (space t a)) λ s b q.
       holds-follow _ (accepting-holds (space t (transitions t b .behind))) λ names c u.
       holds-follow (λ _ _. ℕ) (always (ending t c)) λ _ d v.
-      some (q, u, h b)
+      some (q, u)
 
   ending-holds : (at : ℕ) → Holds (λ _ b. b ≤ length t) (ending t at)
   unfolding ending
-  ending-holds at = holds-follow _ (token-holds t (space t at) 125 []) λ _ a p. holds-weaker (token-holds t a 59 []) (λ _ b h. h .inside)
+  ending-holds at = holds-follow _ (token-holds t (space t at) _ _) λ _ a p. holds-weaker (token-holds t a _ _) (λ _ b h. h .inside)
 
   -- a whole text ends within the bytes
   pub text-inside : Holds (λ g b. b ≤ length t) (wholeText t)

@@ -7,6 +7,7 @@ use lib.Dec.{leb, ltb, eqb}
 use lib.ListN.{length, getD, take, drop}
 use Rattle.decimal.specs.Decimal.{value}
 use Rattle.grammar.specs.Bytes.{isSpace, isLetter, isDigit, isNameByte}
+use Rattle.grammar.specs.Words.{automatonWord, initWord, acceptingWord, arrowSign, leftBrace, rightBrace, leftBracket, rightBracket, comma, semicolon}
 use Rattle.grammar.specs.declared.tokens.Span.{Span}
 use Rattle.grammar.specs.declared.pieces.Arrow.{Arrow}
 
@@ -68,22 +69,22 @@ pub record Ends : Type 0 where
 unfoldable pub ends : List ℕ → ℕ → Found Ends
 ends t at =
     follow (number t (space t at)) λ first a.
-    follow (token (44 ∷ []) t (space t a)) λ _ b.
+    follow (token comma t (space t a)) λ _ b.
     follow (number t (space t b)) λ last c.
     cond (leb first last) (found (record { first = first; last = last }) c) nothing
 
 -- [first, last];
 unfoldable pub range : List ℕ → ℕ → Found Ends
 range t at =
-    follow (token (91 ∷ []) t (space t at)) λ _ a.
+    follow (token leftBracket t (space t at)) λ _ a.
     follow (ends t a) λ r b.
-    follow (token (93 ∷ []) t b) λ _ c.
-    follow (token (59 ∷ []) t c) λ _ d.
+    follow (token rightBracket t b) λ _ c.
+    follow (token semicolon t c) λ _ d.
     found r d
 
 -- -> b
 unfoldable pub target : List ℕ → ℕ → Found Span
-target t at = follow (token (45 ∷ 62 ∷ []) t (space t at)) λ _ a. name t (space t a)
+target t at = follow (token arrowSign t (space t at)) λ _ a. name t (space t a)
 
 -- a -> b [first, last];
 unfoldable pub transition : List ℕ → ℕ → Found Arrow
@@ -96,15 +97,15 @@ transition t at =
 -- init a;
 unfoldable pub initial : List ℕ → ℕ → Found Span
 initial t at =
-    follow (token (105 ∷ 110 ∷ 105 ∷ 116 ∷ []) t at) λ _ a.
+    follow (token initWord t at) λ _ a.
     follow (neededSpace t a) λ _ b.
     follow (name t b) λ s c.
-    follow (token (59 ∷ []) t c) λ _ d.
+    follow (token semicolon t c) λ _ d.
     found s d
 
 -- a comma and a name
 unfoldable pub nextName : List ℕ → ℕ → Found Span
-nextName t at = follow (token (44 ∷ []) t (space t at)) λ _ a. name t (space t a)
+nextName t at = follow (token comma t (space t at)) λ _ a. name t (space t a)
 
 -- values, one behind the other, and the place behind the last
 pub record Items (X : Type 0) : Type 0 where
@@ -131,23 +132,23 @@ nextNames t = many (nextName t) (length t)
 -- accepting a, b;
 unfoldable pub accepting : List ℕ → ℕ → Found (List Span)
 accepting t at =
-    follow (token (97 ∷ 99 ∷ 99 ∷ 101 ∷ 112 ∷ 116 ∷ 105 ∷ 110 ∷ 103 ∷ []) t at) λ _ a.
+    follow (token acceptingWord t at) λ _ a.
     follow (neededSpace t a) λ _ b.
     follow (name t b) λ s c.
-    follow (token (59 ∷ []) t (nextNames t c .behind)) λ _ d.
+    follow (token semicolon t (nextNames t c .behind)) λ _ d.
     found (s ∷ nextNames t c .items) d
 
 -- automaton A {
 unfoldable pub heading : List ℕ → ℕ → Found Mark
 heading t at =
-    follow (token (97 ∷ 117 ∷ 116 ∷ 111 ∷ 109 ∷ 97 ∷ 116 ∷ 111 ∷ 110 ∷ []) t at) λ _ a.
+    follow (token automatonWord t at) λ _ a.
     follow (neededSpace t a) λ _ b.
     follow (name t b) λ _ c.
-    token (123 ∷ []) t (space t c)
+    token leftBrace t (space t c)
 
 -- };
 unfoldable pub ending : List ℕ → ℕ → Found Mark
-ending t at = follow (token (125 ∷ []) t (space t at)) λ _ a. token (59 ∷ []) t a
+ending t at = follow (token rightBrace t (space t at)) λ _ a. token semicolon t a
 
 -- what a text tells
 pub record Told : Type 0 where

@@ -1,8 +1,8 @@
 // The initial state, the transitions and what accepts.
-ghost use mathlib.Core.List.{[], _∷_};
 ghost use mathlib.Core.Path.{_≡_};
 ghost use Rattle.grammar.specs.Grammar.{space, token, target, transition, initial, nextName, transitions, nextNames, accepting};
 ghost use Rattle.grammar.specs.Pieces.{pieceOf, nameOf, arrowOf, acceptingOf};
+ghost use Rattle.grammar.specs.Words.{semicolon};
 use crate::ranges::RangePiece;
 use crate::tokens::Cursor;
 use crate::tokens::NamePiece;
@@ -133,7 +133,7 @@ fn next_names(text: &[u8], c: Cursor) -> Cursor
 
 // The names behind the first, and `;`
 fn other_names(text: &[u8], c: Cursor) -> Piece
-    ensures { λ r. ⌜ pieceOf r ≡ token (59 ∷ []) (now (text .entry)) (nextNames (now (text .entry)) (c .at) .behind) ⌝ }
+    ensures { λ r. ⌜ pieceOf r ≡ token semicolon (now (text .entry)) (nextNames (now (text .entry)) (c .at) .behind) ⌝ }
 {
     crate::tokens::token(text, next_names(text, c), b";")
 }

@@ -7,4 +7,5 @@ pub mod Collecting
 pub mod Recording
 pub mod Marking
 pub mod Reading
-pub mod Output
+pub mod Said
+pub mod Outcomes

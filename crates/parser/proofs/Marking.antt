@@ -88,13 +88,13 @@ module _ (t : List ℕ) (ls : List (List ℕ)) (d : Distinct ls) where
   marks-length ws [] = refl
   marks-length ws (x ∷ xs) = marks-length (markOne t ls ws x) xs ∙ mark-length ws x
 
-  all-marks : (ws : List ℕ) (xs : List Span) (j : ℕ) → length ls ≤ length ws → j < length ls → getD (markAll t ls ws xs) j 0 ≡ cond (any (λ s. sameLabel (getD ls j []) (spelled t s)) xs) 1 (getD ws j 0)
+  all-marks : (ws : List ℕ) (xs : List Span) (j : ℕ) → length ls ≤ length ws → j < length ls → getD (markAll t ls ws xs) j 0 ≡ cond (any (sameLabel (getD ls j [])) (map (spelled t) xs)) 1 (getD ws j 0)
   unfolding markAll any
   all-marks ws [] j g h = refl
   all-marks ws (x ∷ xs) j g h =
       all-marks (markOne t ls ws x) xs j (rw (mark-length ws x) g) h
-      ∙ ap (cond (any (λ s. sameLabel (getD ls j []) (spelled t s)) xs) 1) (one-mark ws x j g h)
-      ∙ either (any (λ s. sameLabel (getD ls j []) (spelled t s)) xs) (sameLabel (getD ls j []) (spelled t x)) (getD ws j 0)
+      ∙ ap (cond (any (sameLabel (getD ls j [])) (map (spelled t) xs)) 1) (one-mark ws x j g h)
+      ∙ either (any (sameLabel (getD ls j [])) (map (spelled t) xs)) (sameLabel (getD ls j []) (spelled t x)) (getD ws j 0)
     where
       either : (p q : Bool) (w : ℕ) → cond p 1 (cond q 1 w) ≡ cond (q || p) 1 w
       either true true w = refl
@@ -103,12 +103,12 @@ module _ (t : List ℕ) (ls : List (List ℕ)) (d : Distinct ls) where
       either false false w = refl
 
   -- the words are those of the states
-  pub marks-words : (ws : List ℕ) (xs : List Span) → Zeros 256 ws → length ls ≤ 256 → take (length ls) (markAll t ls ws xs) ≡ map (acceptWord t xs) ls
+  pub marks-words : (ws : List ℕ) (xs : List Span) → Zeros 256 ws → length ls ≤ 256 → take (length ls) (markAll t ls ws xs) ≡ map (acceptWord (map (spelled t) xs)) ls
   unfolding acceptWord
   marks-words ws xs z g =
       let l : length (markAll t ls ws xs) ≡ 256 = marks-length ws xs ∙ z .long in
       let m : length (take (length ls) (markAll t ls ws xs)) ≡ length ls = length-take-le (length ls) (markAll t ls ws xs) (omega arith) in
-      ext-getD 0 _ _ (m ∙ sym (length-map ls (acceptWord t xs))) λ j h.
+      ext-getD 0 _ _ (m ∙ sym (length-map ls (acceptWord (map (spelled t) xs)))) λ j h.
       let k : j < length ls = omega arith in
       getD-take (length ls) (markAll t ls ws xs) j 0 k ∙ all-marks ws xs j (omega (arith, z .long)) k
-      ∙ ap (cond (any (λ s. sameLabel (getD ls j []) (spelled t s)) xs) 1) (z .zero j) ∙ sym (map-at (acceptWord t xs) ls j [] 0 k)
+      ∙ ap (cond (any (sameLabel (getD ls j [])) (map (spelled t) xs)) 1) (z .zero j) ∙ sym (map-at (acceptWord (map (spelled t) xs)) ls j [] 0 k)

@@ -13,7 +13,8 @@ use Rattle.lists.specs.Lists.{any}
 use Rattle.refusal.specs.Answer.{Answer, refused, given}
 use Rattle.search.specs.Search.{index, add, meet}
 use Rattle.sheets.specs.Sheet.{write}
-use Rattle.parser.specs.Pattern.{namesOf, statesOf, acceptWord, automatonOf, Reading, fewTransitions, fewStates, parse}
+use Rattle.parser.specs.Pattern.{namesOf, statesOf, acceptWord, automatonOf, patternOf, Reading, fewTransitions, meant, parse}
+use Rattle.syntax.specs.Spelled.{spell}
 use Rattle.output.specs.Output.{statesFirst, transitionsFirst}
 
 -- a refusal's number; or the bytes read, the sheet and the labels
@@ -31,13 +32,13 @@ read-examples :
     × (outcome (parse loose) ≡ output 124 (1 ∷ 0 ∷ 2 ∷ 0 ∷ 1 ∷ 3 ∷ 0 ∷ 1 ∷ 0 ∷ 9 ∷ 0 ∷ 0 ∷ 1 ∷ 7 ∷ 4294967295 ∷ 1 ∷ 1 ∷ 1 ∷ 1 ∷ 1 ∷ 1 ∷ []) ((97 ∷ 99 ∷ 99 ∷ 101 ∷ 112 ∷ 116 ∷ 105 ∷ 110 ∷ 103 ∷ []) ∷ (116 ∷ []) ∷ []))
     × (outcome (parse (begin ++ init-p ++ accepting-long 64 ++ end)) ≡ output 100 (1 ∷ 0 ∷ 1 ∷ 0 ∷ 0 ∷ []) ((112 ∷ []) ∷ []))
 unfolding follow isSpace isLetter isDigit isNameByte run space neededSpace begins token name valueAfter number ends range target transition initial
-    nextName many transitions nextNames accepting heading ending wholeText sameLabel index add meet flatMap namesOf statesOf any acceptWord automatonOf
-    fewTransitions fewStates statesFirst transitionsFirst parse insert inOrder writeRecords
+    nextName many transitions nextNames accepting heading ending wholeText spell sameLabel index add meet flatMap namesOf statesOf any acceptWord automatonOf
+    patternOf fewTransitions meant statesFirst transitionsFirst parse insert inOrder writeRecords
 read-examples = (refl, refl, refl)
 
 -- a text outside the grammar
 outside-example : outcome (parse (begin ++ init-p ++ arrow ++ accepting-q ++ end-space)) ≡ refusal 8
 unfolding follow isSpace isLetter isDigit isNameByte run space neededSpace begins token name valueAfter number ends range target transition initial
-    nextName many transitions nextNames accepting heading ending wholeText sameLabel index add meet flatMap namesOf statesOf any acceptWord automatonOf
-    fewTransitions fewStates statesFirst transitionsFirst parse insert inOrder writeRecords
+    nextName many transitions nextNames accepting heading ending wholeText spell sameLabel index add meet flatMap namesOf statesOf any acceptWord automatonOf
+    patternOf fewTransitions meant statesFirst transitionsFirst parse insert inOrder writeRecords
 outside-example = refl

@@ -4,6 +4,6 @@ pub mod Memory
 pub mod Names
 pub mod Records
 pub mod Accepts
-pub mod Layout
 pub mod Parsed
 pub mod Examples
+pub mod inner

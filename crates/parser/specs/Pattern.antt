@@ -1,55 +1,52 @@
--- What a text means (document 01, "Beside the equality"): states number by appearance, the initial one first; a repeated transition counts once;
--- accepting names that no state has are dropped; the automaton's name is not kept.
+-- What a text means, by what it says (document 01, "Beside the equality"): states number by appearance, the initial one first; a repeated transition
+-- counts once; accepting names that no state has are dropped. The automaton's own name is not kept.
 use Prim.Native.Nat.{ℕ}
 use mathlib.Core.Bool.{cond}
 use mathlib.Core.List.{List, [], _∷_, map, flatMap}
 use lib.ListN.{length}
 use Rattle.automata.specs.Automaton.{Transition, Automaton}
 use Rattle.automata.specs.Ordered.{inOrder}
-use Rattle.grammar.specs.Places.{spelled}
 use Rattle.grammar.specs.Grammar.{Found, nothing, found, Told, wholeText}
-use Rattle.grammar.specs.declared.tokens.Span.{Span}
-use Rattle.grammar.specs.declared.pieces.Arrow.{Arrow}
 use Rattle.labels.specs.Labels.{sameLabel}
 use Rattle.lists.specs.Lists.{any}
 use Rattle.output.specs.Output.{Pattern, statesFirst, transitionsFirst}
 use Rattle.refusal.specs.Answer.{Answer, refused, given}
 use Rattle.search.specs.Search.{index, meet}
+use Rattle.syntax.specs.Syntax.{Move, Said}
+use Rattle.syntax.specs.Spelled.{spell}
 
 -- the names of the two states of a transition
-abbrev pub bothNames : List ℕ → Arrow → List (List ℕ)
-bothNames t e = spelled t (e .from) ∷ spelled t (e .to) ∷ []
+abbrev pub bothNames : Move → List (List ℕ)
+bothNames m = m .from ∷ m .to ∷ []
 
 -- the names that stand in transitions, in order of appearance
-unfoldable pub namesOf : List ℕ → List Arrow → List (List ℕ)
-namesOf t es = flatMap (bothNames t) es
+unfoldable pub namesOf : List Move → List (List ℕ)
+namesOf ms = flatMap bothNames ms
 
 -- the names of the states, each once and in order of appearance, that of the initial one first
-unfoldable pub statesOf : List ℕ → Told → List (List ℕ)
-statesOf t g = meet sameLabel (namesOf t (g .arrows)) (spelled t (g .start) ∷ [])
+unfoldable pub statesOf : Said → List (List ℕ)
+statesOf s = meet sameLabel (namesOf (s .moves)) (s .start ∷ [])
 
 -- a transition between the numbers of its states
-abbrev pub transitionOf : List ℕ → List (List ℕ) → Arrow → Transition
-transitionOf t ls e = record {
-  from = index sameLabel (spelled t (e .from)) ls;
-  kind = 1;
-  first = e .first;
-  last = e .last;
-  to = index sameLabel (spelled t (e .to)) ls;
-}
+abbrev pub transitionOf : List (List ℕ) → Move → Transition
+transitionOf ls m = record { from = index sameLabel (m .from) ls; kind = 1; first = m .first; last = m .last; to = index sameLabel (m .to) ls }
 
--- 1 where one of the accepting names is l
-unfoldable pub acceptWord : List ℕ → List Span → List ℕ → ℕ
-acceptWord t accepts l = cond (any (λ s. sameLabel l (spelled t s)) accepts) 1 0
+-- 1 where l is one of the accepting names
+unfoldable pub acceptWord : List (List ℕ) → List ℕ → ℕ
+acceptWord accepts l = cond (any (sameLabel l) accepts) 1 0
 
 -- the automaton with these names for its states
-unfoldable pub automatonOf : List ℕ → Told → List (List ℕ) → Automaton
-automatonOf t g ls = record {
+unfoldable pub automatonOf : Said → List (List ℕ) → Automaton
+automatonOf s ls = record {
   size = length ls;
   start = 0;
-  accept = map (acceptWord t (g .accepts)) ls;
-  transitions = inOrder (map (transitionOf t ls) (g .arrows));
+  accept = map (acceptWord (s .accepts)) ls;
+  transitions = inOrder (map (transitionOf ls) (s .moves));
 }
+
+-- the automaton that a text means, with the names of its states for labels
+unfoldable pub patternOf : Said → Pattern
+patternOf s = record { automaton = automatonOf s (statesOf s); labels = statesOf s }
 
 -- a pattern, and how many bytes of the text were read
 pub record Reading : Type 0 where
@@ -60,14 +57,14 @@ pub record Reading : Type 0 where
 unfoldable pub fewTransitions : Pattern → ℕ → Answer Reading
 fewTransitions P n = transitionsFirst (P .automaton) (given (record { pattern = P; read = n }))
 
--- 21 where there are over 256 states
-unfoldable pub fewStates : List ℕ → Told → ℕ → List (List ℕ) → Answer Reading
-fewStates t g n ls = statesFirst (automatonOf t g ls) (fewTransitions (record { automaton = automatonOf t g ls; labels = ls }) n)
+-- what a text of n bytes means that says s: 21 where there are over 256 states, then 22, or else the pattern
+unfoldable pub meant : Said → ℕ → Answer Reading
+meant s n = statesFirst (patternOf s .automaton) (fewTransitions (patternOf s) n)
 
--- 8 where the text is outside the grammar
+-- 8 where no text is found in t
 abbrev pub meaning : List ℕ → Found Told → Answer Reading
 meaning t nothing = refused 8
-meaning t (found g n) = fewStates t g n (statesOf t g)
+meaning t (found g n) = meant (spell t g) n
 
 -- the pattern at the front of a text
 unfoldable pub parse : List ℕ → Answer Reading

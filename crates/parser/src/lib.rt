@@ -3,17 +3,17 @@ ghost use mathlib.Core.List.{_∷_, _++_};
 ghost use mathlib.Core.Path.{_≡_};
 ghost use Prim.Native.Nat.{_+_, _/_, _≤_, _<_};
 ghost use lib.ListN.{length};
-ghost use Rattle.grammar.specs.Places.{spelled, Spelt, toldAt, Laid};
+ghost use Rattle.grammar.specs.Places.{spelled, Spelt, Laid};
 ghost use Rattle.labels.specs.Labels.{entry, writeLabels};
 ghost use Rattle.lists.specs.Written.{Written};
 ghost use Rattle.output.specs.Output.{roomFirst};
 ghost use Rattle.refusal.specs.Answer.{given};
-ghost use Rattle.parser.specs.Layout.{arrowsOf, patternAt};
 ghost use Rattle.parser.specs.Memory.{Zeros};
 ghost use Rattle.parser.specs.Names.{spanAt, namesIn, Table, Addition};
 ghost use Rattle.parser.specs.Records.{Recorded};
 ghost use Rattle.parser.specs.Parsed.{parsedOf, parsed};
-ghost use Rattle.parser.specs.Pattern.{statesOf, fewTransitions, fewStates, parse};
+ghost use Rattle.parser.specs.Pattern.{statesOf, fewTransitions, meant, parse};
+ghost use Rattle.parser.specs.inner.Places.{saidAt, transitionsAt, patternAt};
 use grammar::Cursor;
 use grammar::Layout;
 use grammar::TextPiece;
@@ -70,7 +70,7 @@ fn write_labels(names: &mut [u8], text: &[u8], t: &[usize], n: usize) -> usize
 // The names of the states, the initial one first.
 fn states(text: &[u8], l: Layout, t: &mut [usize]) -> Added
     requires { ⌜ Laid (now text) l × Zeros 1024 (now t) ⌝ }
-    ensures { λ r. ⌜ Addition (now (text .entry)) (statesOf (now (text .entry)) (toldAt (now (text .entry)) l)) (now (t .exit)) r ⌝ }
+    ensures { λ r. ⌜ Addition (now (text .entry)) (statesOf (saidAt (now (text .entry)) l)) (now (t .exit)) r ⌝ }
 {
     let Added::Kept(n) = names::add_name(text, t, 0, l.initial) else {
         return Added::Full;
@@ -91,7 +91,7 @@ fn write_pattern(
     names: &mut [u8],
 ) -> Parsed
     requires { ⌜ Table (now text) (now t) n × Laid (now text) l ⌝ }
-    requires { ⌜ Recorded (now records) (arrowsOf (now text) l (namesIn (now text) (now t) n)) × Zeros 256 (now words) ⌝ }
+    requires { ⌜ Recorded (now records) (transitionsAt (now text) l (namesIn (now text) (now t) n)) × Zeros 256 (now words) ⌝ }
     requires { ⌜ (10500 ≤ length (now out)) × (16642 ≤ length (now names)) ⌝ }
     ensures { λ r. ⌜ parsedOf r (now (out .exit)) (now (names .exit)) ≡ parsed (now (out .entry)) (now (names .entry)) (given (record { pattern = patternAt (now (text .entry)) l (namesIn (now (text .entry)) (now (t .entry)) n); read = c .at })) ⌝ }
 {
@@ -138,7 +138,7 @@ fn with_tables(
 ) -> Parsed
     requires { ⌜ Laid (now text) l × Zeros 1024 (now t) × (length (now buf) ≡ 20480) × Zeros 256 (now words) ⌝ }
     requires { ⌜ (10500 ≤ length (now out)) × (16642 ≤ length (now names)) ⌝ }
-    ensures { λ r. ⌜ parsedOf r (now (out .exit)) (now (names .exit)) ≡ parsed (now (out .entry)) (now (names .entry)) (fewStates (now (text .entry)) (toldAt (now (text .entry)) l) (c .at) (statesOf (now (text .entry)) (toldAt (now (text .entry)) l))) ⌝ }
+    ensures { λ r. ⌜ parsedOf r (now (out .exit)) (now (names .exit)) ≡ parsed (now (out .entry)) (now (names .entry)) (meant (saidAt (now (text .entry)) l) (c .at)) ⌝ }
 {
     let Added::Kept(n) = states(text, l, t) else {
         return Parsed::Refused(Refusal::State(StateRefusal::States));
@@ -150,7 +150,7 @@ fn with_tables(
 fn with_layout(text: &[u8], l: Layout, c: Cursor, out: &mut [u32], names: &mut [u8]) -> Parsed
     requires { ⌜ Laid (now text) l ⌝ }
     requires { ⌜ (10500 ≤ length (now out)) × (16642 ≤ length (now names)) ⌝ }
-    ensures { λ r. ⌜ parsedOf r (now (out .exit)) (now (names .exit)) ≡ parsed (now (out .entry)) (now (names .entry)) (fewStates (now (text .entry)) (toldAt (now (text .entry)) l) (c .at) (statesOf (now (text .entry)) (toldAt (now (text .entry)) l))) ⌝ }
+    ensures { λ r. ⌜ parsedOf r (now (out .exit)) (now (names .exit)) ≡ parsed (now (out .entry)) (now (names .entry)) (meant (saidAt (now (text .entry)) l) (c .at)) ⌝ }
 {
     let mut t = [0usize; 1024];
     let mut buf = [0u32; 20480];

@@ -3,11 +3,12 @@
 ghost use mathlib.Core.Path.{_≡_};
 ghost use Prim.Native.Nat.{_+_, _*_, _%_, _<_};
 ghost use lib.ListN.{length};
-ghost use Rattle.grammar.specs.Grammar.{transitions};
 ghost use Rattle.grammar.specs.Places.{spelled, Spelt, Drawn};
 ghost use Rattle.labels.specs.Labels.{sameLabel};
 ghost use Rattle.search.specs.Search.{index, add, meet};
+ghost use Rattle.syntax.specs.Spelled.{spellMove};
 ghost use Rattle.parser.specs.Pattern.{bothNames, namesOf};
+ghost use Rattle.parser.specs.inner.Places.{movesAt};
 ghost use Rattle.parser.specs.Names.{hashOf, spanAt, namesIn, isName, stored, Table, Addition};
 use grammar::Arrow;
 use grammar::ArrowPiece;
@@ -109,7 +110,7 @@ pub fn add_name(text: &[u8], t: &mut [usize], n: usize, x: Span) -> Added
 // The two names of a transition.
 fn add_arrow(text: &[u8], t: &mut [usize], n: usize, e: Arrow) -> Added
     requires { ⌜ Table (now text) (now t) n × Drawn (now text) e ⌝ }
-    ensures { λ r. ⌜ Addition (now (text .entry)) (meet sameLabel (bothNames (now (text .entry)) e) (namesIn (now (text .entry)) (now (t .entry)) n)) (now (t .exit)) r ⌝ }
+    ensures { λ r. ⌜ Addition (now (text .entry)) (meet sameLabel (bothNames (spellMove (now (text .entry)) e)) (namesIn (now (text .entry)) (now (t .entry)) n)) (now (t .exit)) r ⌝ }
 {
     let Added::Kept(m) = add_name(text, t, n, e.from) else {
         return Added::Full;
@@ -120,7 +121,7 @@ fn add_arrow(text: &[u8], t: &mut [usize], n: usize, e: Arrow) -> Added
 // The names of the transitions from a cursor on.
 pub fn add_arrows(text: &[u8], c: Cursor, t: &mut [usize], n: usize) -> Added
     requires { ⌜ Table (now text) (now t) n ⌝ }
-    ensures { λ r. ⌜ Addition (now (text .entry)) (meet sameLabel (namesOf (now (text .entry)) (transitions (now (text .entry)) (c .at) .items)) (namesIn (now (text .entry)) (now (t .entry)) n)) (now (t .exit)) r ⌝ }
+    ensures { λ r. ⌜ Addition (now (text .entry)) (meet sameLabel (namesOf (movesAt (now (text .entry)) (c .at))) (namesIn (now (text .entry)) (now (t .entry)) n)) (now (t .exit)) r ⌝ }
 {
     let mut at = c.at;
     let mut count = n;

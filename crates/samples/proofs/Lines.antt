@@ -17,7 +17,9 @@ use Rattle.equality.proofs.Theorems.{classes-number, same-words, one-word, not-
 use Rattle.labels.specs.Labels.{sameLabel}
 use Rattle.grammar.specs.Bytes.{isSpace, isLetter, isDigit, isNameByte}
 use Rattle.grammar.specs.Grammar.{follow, run, space, neededSpace, begins, token, name, number, ends, range, target, transition, initial, nextName, many, transitions, nextNames, accepting, heading, ending, wholeText}
-use Rattle.parser.specs.Pattern.{namesOf, statesOf, acceptWord, automatonOf, fewTransitions, fewStates, parse}
+use Rattle.parser.specs.Pattern.{namesOf, statesOf, acceptWord, automatonOf, patternOf, fewTransitions, meant, parse}
+use Rattle.syntax.specs.Examples.{text-a, text-b, text-c}
+use Rattle.syntax.specs.Spelled.{spell}
 use Rattle.refusal.specs.Answer.{Answer, given}
 use Rattle.search.specs.Search.{index, add, meet}
 use Rattle.sheets.specs.Sheet.{read}
@@ -30,35 +32,16 @@ use Rattle.samples.proofs.Three.{both, three, well-a, well-b}
 use Rattle.samples.proofs.Verdicts.{same-ab, differ-ac, only-nine}
 use Rattle.output.specs.Output.{statesFirst, transitionsFirst}
 
--- `automaton A { init p; p -> q [0, 9]; accepting q; };`
-abbrev pub text-a : List ℕ
-text-a =
-    97 ∷ 117 ∷ 116 ∷ 111 ∷ 109 ∷ 97 ∷ 116 ∷ 111 ∷ 110 ∷ 32 ∷ 65 ∷ 32 ∷ 123 ∷ 32 ∷ 105 ∷ 110 ∷ 105 ∷ 116 ∷ 32 ∷ 112 ∷ 59 ∷ 32 ∷ 112 ∷ 32 ∷ 45 ∷ 62 ∷ 32 ∷
-    113 ∷ 32 ∷ 91 ∷ 48 ∷ 44 ∷ 32 ∷ 57 ∷ 93 ∷ 59 ∷ 32 ∷ 97 ∷ 99 ∷ 99 ∷ 101 ∷ 112 ∷ 116 ∷ 105 ∷ 110 ∷ 103 ∷ 32 ∷ 113 ∷ 59 ∷ 32 ∷ 125 ∷ 59 ∷ []
-
--- ` automaton B { init s; s -> t [0, 4]; s -> u [5, 9]; accepting t, u; };`
-abbrev pub text-b : List ℕ
-text-b =
-    32 ∷ 97 ∷ 117 ∷ 116 ∷ 111 ∷ 109 ∷ 97 ∷ 116 ∷ 111 ∷ 110 ∷ 32 ∷ 66 ∷ 32 ∷ 123 ∷ 32 ∷ 105 ∷ 110 ∷ 105 ∷ 116 ∷ 32 ∷ 115 ∷ 59 ∷ 32 ∷ 115 ∷ 32 ∷ 45 ∷ 62 ∷
-    32 ∷ 116 ∷ 32 ∷ 91 ∷ 48 ∷ 44 ∷ 32 ∷ 52 ∷ 93 ∷ 59 ∷ 32 ∷ 115 ∷ 32 ∷ 45 ∷ 62 ∷ 32 ∷ 117 ∷ 32 ∷ 91 ∷ 53 ∷ 44 ∷ 32 ∷ 57 ∷ 93 ∷ 59 ∷ 32 ∷ 97 ∷ 99 ∷ 99 ∷
-    101 ∷ 112 ∷ 116 ∷ 105 ∷ 110 ∷ 103 ∷ 32 ∷ 116 ∷ 44 ∷ 32 ∷ 117 ∷ 59 ∷ 32 ∷ 125 ∷ 59 ∷ []
-
--- ` automaton C { init p; p -> q [0, 8]; accepting q; };`
-abbrev pub text-c : List ℕ
-text-c =
-    32 ∷ 97 ∷ 117 ∷ 116 ∷ 111 ∷ 109 ∷ 97 ∷ 116 ∷ 111 ∷ 110 ∷ 32 ∷ 67 ∷ 32 ∷ 123 ∷ 32 ∷ 105 ∷ 110 ∷ 105 ∷ 116 ∷ 32 ∷ 112 ∷ 59 ∷ 32 ∷ 112 ∷ 32 ∷ 45 ∷ 62 ∷
-    32 ∷ 113 ∷ 32 ∷ 91 ∷ 48 ∷ 44 ∷ 32 ∷ 56 ∷ 93 ∷ 59 ∷ 32 ∷ 97 ∷ 99 ∷ 99 ∷ 101 ∷ 112 ∷ 116 ∷ 105 ∷ 110 ∷ 103 ∷ 32 ∷ 113 ∷ 59 ∷ 32 ∷ 125 ∷ 59 ∷ []
-
 abbrev apart : Two
 apart = record { one = DA; two = DC; low = 0; high = lastSymbol }
 
 -- the texts are read as A, B and C
 are-compared :
-    (comparedTexts 0 lastSymbol (text-a ++ text-b) ≡ given both)
-    × (comparedTexts 0 lastSymbol (text-a ++ text-c) ≡ given apart)
+    (comparedTexts 0 lastSymbol (text-a ++ 32 ∷ text-b) ≡ given both)
+    × (comparedTexts 0 lastSymbol (text-a ++ 32 ∷ text-c) ≡ given apart)
 unfolding follow isSpace isLetter isDigit isNameByte run space neededSpace begins token name valueAfter number ends range target transition initial
-    nextName many transitions nextNames accepting heading ending wholeText sameLabel index add meet flatMap namesOf statesOf any acceptWord automatonOf
-    fewTransitions fewStates statesFirst transitionsFirst parse insert inOrder readRecords withSecond withFirst both-determinized twoTexts withSecondText withFirstText
+    nextName many transitions nextNames accepting heading ending wholeText spell sameLabel index add meet flatMap namesOf statesOf any acceptWord automatonOf
+    patternOf fewTransitions meant statesFirst transitionsFirst parse insert inOrder readRecords withSecond withFirst both-determinized twoTexts withSecondText withFirstText
     comparedTexts
 are-compared = (
   ap (λ (x : Answer Automaton). withFirst 0 lastSymbol x (determinize 0 lastSymbol (read B))) (determinized .0) ∙ ap (withSecond 0 lastSymbol DA) (determinized .1),
@@ -94,8 +77,8 @@ by-apart x bytes e (differs t w h) =
     let q = subst (λ (u : Two). Apart u w) z h in
     ap differLine (only-nine w (one-word 0 lastSymbol (read A) (read C) well-a well-c DA DC (determinized .0) (determinized .2) w (q .word) (q .differ)))
 
-pub prints-same-4 : (bytes : List ℕ) → Line (comparedTexts 0 lastSymbol (text-a ++ text-b)) bytes → bytes ≡ sameLine 4
+pub prints-same-4 : (bytes : List ℕ) → Line (comparedTexts 0 lastSymbol (text-a ++ 32 ∷ text-b)) bytes → bytes ≡ sameLine 4
 prints-same-4 bytes = by-both _ bytes (are-compared .0)
 
-pub prints-differ-9 : (bytes : List ℕ) → Line (comparedTexts 0 lastSymbol (text-a ++ text-c)) bytes → bytes ≡ differLine (9 ∷ [])
+pub prints-differ-9 : (bytes : List ℕ) → Line (comparedTexts 0 lastSymbol (text-a ++ 32 ∷ text-c)) bytes → bytes ≡ differLine (9 ∷ [])
 prints-differ-9 bytes = by-apart _ bytes (are-compared .1)

@@ -29,7 +29,8 @@ use Rattle.words.specs.Simulation.{isEpsilon, epsilonRow, closures, closure, ou
 use Rattle.samples.proofs.Patterns.{range, A, B, C, O, DA, determinized}
 use Rattle.samples.proofs.Overlap.{overlap-5}
 use Rattle.samples.proofs.Verdicts.{same-4, differ-9}
-use Rattle.samples.proofs.Lines.{text-a, text-b, text-c, prints-same-4, prints-differ-9}
+use Rattle.syntax.specs.Examples.{text-a, text-b, text-c}
+use Rattle.samples.proofs.Lines.{prints-same-4, prints-differ-9}
 use Rattle.verdict_line.specs.Line.{Line, sameLine, differLine}
 use Rattle.verdict_line.specs.Texts.{comparedTexts}
 
@@ -63,8 +64,8 @@ pub starred :
     -- A and B are the same with 4 joins, whatever buffer is lent; A and C differ, and the word is 9
     × ((o o′ : List ℕ) (r : Verdict) → 510 ≤ length o → Judged (compared 0 lastSymbol A B o) o o′ r → r ≡ Same 4)
     × ((o o′ : List ℕ) (r : Verdict) → 510 ≤ length o → Judged (compared 0 lastSymbol A C o) o o′ r → (r ≡ Different 1) × (take 1 o′ ≡ 9 ∷ []))
-    -- the program `verdict` prints `same 4` for the texts of A and B, and `differ 9` for those of A and C
-    × ((bytes : List ℕ) → Line (comparedTexts 0 lastSymbol (text-a ++ text-b)) bytes → bytes ≡ sameLine 4)
-    × ((bytes : List ℕ) → Line (comparedTexts 0 lastSymbol (text-a ++ text-c)) bytes → bytes ≡ differLine (9 ∷ []))
+    -- the program `verdict` prints `same 4` for the texts of A and B with a blank between, and `differ 9` for those of A and C
+    × ((bytes : List ℕ) → Line (comparedTexts 0 lastSymbol (text-a ++ 32 ∷ text-b)) bytes → bytes ≡ sameLine 4)
+    × ((bytes : List ℕ) → Line (comparedTexts 0 lastSymbol (text-a ++ 32 ∷ text-c)) bytes → bytes ≡ differLine (9 ∷ []))
 unfolding any keep tabulate holds readRecords has pickFrom through closed isEpsilon epsilonRow closures closure outgoing step startSet simulate least kindOf kind nearer nextCut spans cutAll covered missing intersectRanges startsBelow overlapping partOf partition isBad recordFault recordsFault transitionsFault statesFault fault sheetFirst acceptsWords
 starred = (refl, refl, refl, refl, refl, refl, refl, refl, refl, determinized .0, refl, refl, overlap-5 .0, overlap-5 .1, same-4, differ-9, prints-same-4, prints-differ-9)

@@ -7,6 +7,7 @@ use Rattle.labels.specs.Labels.{sameLabel}
 use Rattle.search.specs.Search.{meet}
 use Rattle.parser.specs.Names.{Table, namesIn}
 use Rattle.parser.specs.Pattern.{namesOf}
+use Rattle.parser.specs.inner.Places.{movesAt}
 use Rattle.parser.proofs.Collecting.{collectLaws, collect-next, collect-full}
 use Rattle.parser.proofs.names.add_arrows.Statement.{statement}
 use Rattle.parser.proofs.names.add_arrows.Tie as tie
@@ -14,7 +15,7 @@ use Rattle.parser.proofs.names.add_arrows.Tie as tie
 abbrev Inv-loop : tie.InvT-loop
 Inv-loop text t₀ n at₀ count₀ t at count =
     (length t ≡ length t₀) × Table text t count
-    × (meet sameLabel (namesOf text (transitions text at .items)) (namesIn text t count) ≡ meet sameLabel (namesOf text (transitions text at₀ .items)) (namesIn text t₀ n))
+    × (meet sameLabel (namesOf (movesAt text at)) (namesIn text t count) ≡ meet sameLabel (namesOf (movesAt text at₀)) (namesIn text t₀ n))
 
 abbrev μ-loop : tie.MeasureT-loop
 μ-loop text t₀ n at₀ count₀ t at count = length text - at

@@ -7,12 +7,13 @@ use Rattle.grammar.specs.Grammar.{transitions}
 use Rattle.output.specs.Gathering.{Rest}
 use Rattle.parser.specs.Names.{namesIn}
 use Rattle.parser.specs.Pattern.{transitionOf}
+use Rattle.parser.specs.inner.Places.{movesAt}
 use Rattle.parser.proofs.Recording.{recordLaws}
 use Rattle.parser.proofs.records.add_records.Statement.{statement}
 use Rattle.parser.proofs.records.add_records.Tie as tie
 
 abbrev Inv-loop : tie.InvT-loop
-Inv-loop text t n buf₀ at₀ end₀ buf at end = (length buf ≡ 20480) × Rest buf end (map (transitionOf text (namesIn text t n)) (transitions text at .items)) (map (transitionOf text (namesIn text t n)) (transitions text at₀ .items))
+Inv-loop text t n buf₀ at₀ end₀ buf at end = (length buf ≡ 20480) × Rest buf end (map (transitionOf (namesIn text t n)) (movesAt text at)) (map (transitionOf (namesIn text t n)) (movesAt text at₀))
 
 abbrev μ-loop : tie.MeasureT-loop
 μ-loop text t n buf₀ at₀ end₀ buf at end = length text - at
