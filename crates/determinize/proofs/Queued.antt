@@ -24,7 +24,7 @@ use Rattle.lists.proofs.Members.{at-in}
 use Rattle.determinize.specs.declared.Progress.{Progress}
 use Rattle.determinize.specs.declared.Progress.the-variants.{Sets, Over}
 use Rattle.determinize.specs.Determinize.{targets, table, states}
-use Rattle.determinize.specs.Notes.{notesOf, notesFrom, sinkNotes, Canonical, SpansVisited, Parted, Explored}
+use Rattle.determinize.specs.Notes.{notesOf, notesFrom, sinkNotes, Canonical, SpansVisited, SetVisited, Explored}
 use Rattle.determinize.proofs.Tables.{meet-extends}
 use Rattle.determinize.proofs.Laws.{queue-begins, queue-next, queue-ended, queue-full, queue}
 use Rattle.lists.proofs.Left.{Left, left-start, left-done, left-next}
@@ -42,11 +42,11 @@ module _ (set t : List ℕ) (i : ℕ) (e : set ≡ putAt (replicate 4 0) 0 t (4 
     pub row-canon : (m : ℕ) → Canonical m (entries t n) → Canon m (setAt set 0)
     row-canon m c = subst (Canon m) (sym row-set) (c .each _ (at-in (entries t n) i [] (omega (arith, length-entries t n))))
 
-    pub row-parted : (lo hi : ℕ) (A : Automaton) (j : ℕ) (before : List ℕ) (k : ℕ) (t′ after : List ℕ) (x : Progress) → Parted lo hi A (setAt set 0) (entries t n) j before k t′ after x
-        → Parted lo hi A (getD (entries t n) i []) (entries t n) j before k t′ after x
-    row-parted lo hi A j before k t′ after x p = subst (λ S. Parted lo hi A S (entries t n) j before k t′ after x) row-set p
+    pub row-visited : (lo hi : ℕ) (A : Automaton) (j : ℕ) (before : List ℕ) (k : ℕ) (t′ after : List ℕ) (x : Progress) → SetVisited lo hi A (setAt set 0) (entries t n) j before k t′ after x
+        → SetVisited lo hi A (getD (entries t n) i []) (entries t n) j before k t′ after x
+    row-visited lo hi A j before k t′ after x p = subst (λ S. SetVisited lo hi A S (entries t n) j before k t′ after x) row-set p
 
-pub ruleset rowLaws = (row-canon, row-parted, needs)
+pub ruleset rowLaws = (row-canon, row-visited, needs)
 
 -- i entries of the table are taken: t has n sets, r has k notes
 pub record Exploring (lo hi : ℕ) (A : Automaton) (before t r : List ℕ) (n k i : ℕ) : Type 0 where
@@ -64,18 +64,18 @@ module _ (lo hi : ℕ) (A : Automaton) (before : List ℕ) where
       }
 
   module _ (t r : List ℕ) (n k i : ℕ) (q : Exploring lo hi A before t r n k i) (b : i < 256) where
-    module _ (h : i < n) (t′ r′ : List ℕ) (x : Progress) (p : Parted lo hi A (getD (entries t n) i []) (entries t n) i r k t′ r′ x) where
+    module _ (h : i < n) (t′ r′ : List ℕ) (x : Progress) (p : SetVisited lo hi A (getD (entries t n) i []) (entries t n) i r k t′ r′ x) where
       in-table : i < length (entries t n)
       in-table = omega (arith, length-entries t n)
 
       pub explore-over : x ≡ Over → Explored lo hi A before t′ r′ Over
-      unfolding Parted Explored
-      explore-over e = queue-full lo hi A i (entries t n) b (q .queued) in-table (subst (Parted lo hi A (getD (entries t n) i []) (entries t n) i r k t′ r′) e p)
+      unfolding SetVisited Explored
+      explore-over e = queue-full lo hi A i (entries t n) b (q .queued) in-table (subst (SetVisited lo hi A (getD (entries t n) i []) (entries t n) i r k t′ r′) e p)
 
       module _ (m c : ℕ) (e : x ≡ Sets m c) where
         visited : SpansVisited lo hi A (getD (entries t n) i []) (entries t n) i r k t′ r′ m c
-        unfolding Parted
-        visited = subst (Parted lo hi A (getD (entries t n) i []) (entries t n) i r k t′ r′) e p
+        unfolding SetVisited
+        visited = subst (SetVisited lo hi A (getD (entries t n) i []) (entries t n) i r k t′ r′) e p
 
         pub explore-few : m < 256
         explore-few = visited .few
@@ -123,11 +123,11 @@ module _ (lo hi : ℕ) (A : Automaton) (before : List ℕ) where
           noted = subst (λ ws. Written before 0 ws r′ (5 * m)) s (written-append before r r′ _ _ 0 (5 * k) (5 * m) v w);
         }
 
-pub explore-canonical : (lo hi : ℕ) (s : List ℕ) (S : Set) (T : List Set) (i : ℕ) (r : List ℕ) (k : ℕ) (t r′ : List ℕ) (x : Progress) (m c : ℕ) → Parted lo hi (read s) S T i r k t r′ x → x ≡ Sets m c
+pub explore-canonical : (lo hi : ℕ) (s : List ℕ) (S : Set) (T : List Set) (i : ℕ) (r : List ℕ) (k : ℕ) (t r′ : List ℕ) (x : Progress) (m c : ℕ) → SetVisited lo hi (read s) S T i r k t r′ x → x ≡ Sets m c
     → Canonical (stateCount s) (entries t m)
-unfolding Parted
+unfolding SetVisited
 explore-canonical lo hi s S T i r k t r′ x m c p e =
-    let v : SpansVisited lo hi (read s) S T i r k t r′ m c = subst (Parted lo hi (read s) S T i r k t r′) e p in
+    let v : SpansVisited lo hi (read s) S T i r k t r′ m c = subst (SetVisited lo hi (read s) S T i r k t r′) e p in
     v .canonical
 
 pub start-canonical : (s starts c t : List ℕ) → Tables s starts c → setAt t 0 ≡ startSet (read s) → Canonical (stateCount s) (entries t 1)

@@ -95,19 +95,20 @@ module _ (lo hi : ℕ) (s : List ℕ) (a : Accepted s) (t r : List ℕ) (x : Pro
     pub accepted-canonical : Canonical (stateCount s) (entries t n)
     accepted-canonical = finished .canonical
 
-    -- the notes stand at the front
-    pub accepted-part : m ≤ 2048 → 5 * m ≡ length (take (5 * m) r)
-    accepted-part h = sym (length-take-le (5 * m) r (omega (arith, notes-fresh, written-length (replicate 10240 0) r _ 0 (5 * m) (finished .noted))))
+    -- the notes stand at the front: i is the number that the code compares with
+    pub accepted-part : (i : ℕ) → m ≤ i → i ≤ 2048 → 5 * m ≡ length (take (5 * m) r)
+    accepted-part i g h = sym (length-take-le (5 * m) r (omega (arith, notes-fresh, written-length (replicate 10240 0) r _ 0 (5 * m) (finished .noted))))
 
     pub accepted-room : m ≤ 2048 → length (take (5 * m) r) ≤ 10240
-    accepted-room h = omega (arith, accepted-part h)
+    accepted-room h = omega (arith, accepted-part m (omega arith) h)
 
-    pub accepted-many : (o : List ℕ) → 2048 < m → determinizedOf (Refused Transitions) o ≡ sheetOutput o (determinize lo hi (read s))
+    pub accepted-many : (o : List ℕ) (i : ℕ) → i < m → 2048 ≤ i → determinizedOf (Refused Transitions) o ≡ sheetOutput o (determinize lo hi (read s))
     unfolding sheetOutput
-    accepted-many o h =
+    accepted-many o i g h =
+        let k : 2048 < m = omega arith in
         sym
         (ap (sheetOutput o)
-        (answer-many lo hi (read s) (entries t n) (finished .whole) (subst (λ k. 2048 < k) (finished-count lo hi (read s) ok (replicate 10240 0) t r n m finished) h)))
+        (answer-many lo hi (read s) (entries t n) (finished .whole) (subst (λ k. 2048 < k) (finished-count lo hi (read s) ok (replicate 10240 0) t r n m finished) k)))
 
     pub accepted-given : m ≤ 2048 → (o o′ : List ℕ) (w : ℕ) → Written o 0 (write (automatonOf (read s) (entries t n) (readRecords (take (5 * m) r)))) o′ w
         → determinizedOf (Sheet w (n + 1)) o′ ≡ sheetOutput o (determinize lo hi (read s))

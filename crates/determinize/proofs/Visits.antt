@@ -20,7 +20,7 @@ use Rattle.words.proofs.Stepping.{step-canon}
 use Rattle.ranges.specs.Cuts.{nextCut}
 use Rattle.determinize.specs.declared.Progress.the-variants.{Sets, Over}
 use Rattle.determinize.specs.Determinize.{targets, states}
-use Rattle.determinize.specs.Notes.{number, notesOf, Canonical, Placed, Visited, Parted, add, meet}
+use Rattle.determinize.specs.Notes.{number, notesOf, Canonical, Placed, Visited, SetVisited, add, meet}
 use Rattle.determinize.proofs.Tables.{add-extends, add-in, meet-out}
 use Rattle.determinize.proofs.Targets.{spanTargets}
 use Rattle.determinize.proofs.Laws.{meet-begins, meet-next, meet-ended, meet-full}
@@ -85,12 +85,12 @@ module _ (lo hi : ℕ) (A : Automaton) (S : Set) (j : ℕ) (before : List ℕ) (
       visit-next = record { met = met-next; noted = noted-next }
 
       -- a table with 256 sets is too many
-      pub visit-over : n′ ≡ 256 → Parted lo hi A S T j before count t′ r′ Over
-      unfolding Parted
+      pub visit-over : n′ ≡ 256 → SetVisited lo hi A S T j before count t′ r′ Over
+      unfolding SetVisited
       visit-over g = meet-full lo hi A S T c (entries t′ n′) met-next (omega (arith, length-entries t′ n′))
 
-    pub visit-ended : hi + 1 ≤ a → n < 256 → Canonical (A .size) (entries t n) → k + lo ≤ count + a → a ≤ 4294967296 → Parted lo hi A S T j before count t r (Sets n k)
-    unfolding Parted writeRecords
+    pub visit-ended : hi + 1 ≤ a → n < 256 → Canonical (A .size) (entries t n) → k + lo ≤ count + a → a ≤ 4294967296 → SetVisited lo hi A S T j before count t r (Sets n k)
+    unfolding SetVisited writeRecords
     visit-ended h f c b d =
         record {
           met = meet-ended lo hi A S T a (entries t n) (i .met) h;

@@ -81,9 +81,9 @@ pub record SpansVisited (lo hi : ℕ) (A : Automaton) (S : Set) (T : List Set) (
   pub bounded : m ≤ k + 4294967296
 
 -- what the answer of the code says of the spans of a state: they are visited, or they lead to more sets than the table may have
-unfoldable pub Parted : ℕ → ℕ → Automaton → Set → List Set → ℕ → List ℕ → ℕ → List ℕ → List ℕ → Progress → Type 0
-Parted lo hi A S T j before k t after Over = mostStates ≤ length (meet (targets lo hi A S) T)
-Parted lo hi A S T j before k t after (Sets n m) = SpansVisited lo hi A S T j before k t after n m
+unfoldable pub SetVisited : ℕ → ℕ → Automaton → Set → List Set → ℕ → List ℕ → ℕ → List ℕ → List ℕ → Progress → Type 0
+SetVisited lo hi A S T j before k t after Over = mostStates ≤ length (meet (targets lo hi A S) T)
+SetVisited lo hi A S T j before k t after (Sets n m) = SpansVisited lo hi A S T j before k t after n m
 
 -- the table is finished with n sets, and the notes of all states, m of them, stand at the front of `after`
 pub record TableFinished (lo hi : ℕ) (A : Automaton) (before t after : List ℕ) (n m : ℕ) : Type 0 where

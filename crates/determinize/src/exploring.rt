@@ -13,7 +13,7 @@ ghost use Rattle.sheets.specs.Sheet.{stateCount, read};
 ghost use Rattle.words.specs.Simulation.{outgoing, step, startSet};
 ghost use Rattle.words.specs.Gather.{Tables};
 ghost use Rattle.ranges.specs.Cuts.{nextCut};
-ghost use Rattle.determinize.specs.Notes.{sinkNotes, Canonical, Placed, Visited, Parted, Explored};
+ghost use Rattle.determinize.specs.Notes.{sinkNotes, Canonical, Placed, Visited, SetVisited, Explored};
 use crate::Progress;
 
 // Where a set stands in the table, and how many sets the table has.
@@ -95,7 +95,7 @@ fn visit(
 
 // Visits the spans between the cuts of the ranges that leave a set, ascending: those that a range holds are the parts, the others the holes.
 // Each of 256 sets has at most 2^32 of them, so that the number of notes stays far below what a usize holds.
-pub fn partition_ranges(
+pub fn visit_spans(
     s: &[u32],
     starts: &[u32],
     closures: &[u64],
@@ -110,7 +110,7 @@ pub fn partition_ranges(
 ) -> Progress
     requires { ⌜ Tables (now s) (now starts) (now closures) × Canon (stateCount (now s)) (setAt (now set) 0) × (4 ≤ length (now set)) ⌝ }
     requires { ⌜ (sets < 256) × (length (now table) ≡ 1024) × Canonical (stateCount (now s)) (entries (now table) sets) × (length (now notes) ≡ 10240) × (noted ≤ 1099511627776) ⌝ }
-    ensures { λ r. ⌜ Parted lower upper (read (now (s .entry))) (setAt (now (set .entry)) 0) (entries (now (table .entry)) sets) from (now (notes .entry)) noted (now (table .exit)) (now (notes .exit)) r ⌝ }
+    ensures { λ r. ⌜ SetVisited lower upper (read (now (s .entry))) (setAt (now (set .entry)) 0) (entries (now (table .entry)) sets) from (now (notes .entry)) noted (now (table .exit)) (now (notes .exit)) r ⌝ }
 {
     let top = upper as u64 + 1;
     let mut a = lower as u64;
@@ -154,11 +154,11 @@ fn visit_set(
     count: usize,
 ) -> Progress
     requires { ⌜ Tables (now s) (now starts) (now closures) × (i < n) × (n < 256) × (length (now table) ≡ 1024) × Canonical (stateCount (now s)) (entries (now table) n) × (length (now notes) ≡ 10240) × (count ≤ 1099511627776) ⌝ }
-    ensures { λ r. ⌜ Parted lower upper (read (now (s .entry))) (getD (entries (now (table .entry)) n) i []) (entries (now (table .entry)) n) i (now (notes .entry)) count (now (table .exit)) (now (notes .exit)) r ⌝ }
+    ensures { λ r. ⌜ SetVisited lower upper (read (now (s .entry))) (getD (entries (now (table .entry)) n) i []) (entries (now (table .entry)) n) i (now (notes .entry)) count (now (table .exit)) (now (notes .exit)) r ⌝ }
 {
     let mut set = [0u64; 4];
     sets::copy_row(&mut set, table, i);
-    partition_ranges(
+    visit_spans(
         s,
         starts,
         closures,

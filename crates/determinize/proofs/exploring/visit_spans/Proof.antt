@@ -1,4 +1,4 @@
--- `partition_ranges` meets its contract: the spans below `a` are visited.
+-- `visit_spans` meets its contract: the spans below `a` are visited.
 use Prim.Native.Nat.{_+_, _-_, _≤_, _<_}
 use mathlib.Core.Path.{_≡_}
 use borrow.Author.Needs.{needs}
@@ -8,8 +8,8 @@ use Rattle.sheets.specs.Sheet.{stateCount, read}
 use Rattle.determinize.specs.Notes.{Canonical}
 use Rattle.determinize.proofs.Placing.{cut-less, cut-counts, cut-most}
 use Rattle.determinize.proofs.Visits.{Visiting, visit-begins, visit-next, visit-over, visit-ended, canonical-next}
-use Rattle.determinize.proofs.exploring.partition_ranges.Statement.{statement}
-use Rattle.determinize.proofs.exploring.partition_ranges.Tie as tie
+use Rattle.determinize.proofs.exploring.visit_spans.Statement.{statement}
+use Rattle.determinize.proofs.exploring.visit_spans.Tie as tie
 
 abbrev Inv-loop : tie.InvT-loop
 Inv-loop s starts closures lower upper set from table₀ sets notes₀ noted top a₀ n₀ count₀ table notes a n count =
@@ -20,8 +20,8 @@ Inv-loop s starts closures lower upper set from table₀ sets notes₀ noted top
 abbrev μ-loop : tie.MeasureT-loop
 μ-loop s starts closures lower upper set from table₀ sets notes₀ noted top a₀ n₀ count₀ table notes a n count = top - a
 
-pub partition-ranges-spec : {M : Type 1} → statement M
-partition-ranges-spec =
+pub visit-spans-spec : {M : Type 1} → statement M
+visit-spans-spec =
     tie.close
     (tie.spec Inv-loop μ-loop (λ c. search needs) (λ c. search (visit-begins, needs)) (λ c. search needs) (λ c κs. search needs) (λ c. search needs)
     (λ c. search needs) (λ c. search (visit-over, needs)) (λ c. search needs) (λ c. search (cut-less, needs))
