@@ -14,5 +14,6 @@ pub mod Runs
 pub mod Written
 pub mod Refusals
 pub mod Answers
+pub mod Given
 pub mod Theorems
 pub mod Samples

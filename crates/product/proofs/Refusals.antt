@@ -41,10 +41,10 @@ member-some {es = []} m = elim m [ ]
 member-some {es = d ∷ es} m = refl
 
 module _ (A B : Automaton) (T : List Pair) (e : table (pairs A B) mostStates ≡ found T) where
-  reached-in : {p q : ℕ} → Reached A B p q → record { left = p; right = q } ∈ T
+  pub reached-in : {p q : ℕ} → Reached A B p q → record { left = p; right = q } ∈ T
   reached-in r = table-all (pairs A B) (pairs-decides A B) mostStates T e .whole _ (reached-graph A B r)
 
-  in-reached : (p : Pair) → p ∈ T → Reached A B (p .left) (p .right)
+  pub in-reached : (p : Pair) → p ∈ T → Reached A B (p .left) (p .right)
   in-reached p m = graph-reached A B (table-all (pairs A B) (pairs-decides A B) mostStates T e .good .reached p m)
 
   block : (p : Pair) (d c : Transition) → p ∈ T → d ∈ leaving A (p .left) → c ∈ leaving B (p .right) → (d .kind ≡ 0) ⊎ (c .kind ≡ 0) → Blocked A B

@@ -77,7 +77,7 @@ module _ (a b words : List ℕ) (n : ℕ) (l : n ≤ length words) (out m : List
           (written-append out m t _ _ 0 states end p (written-append m o t _ _ states counts end q (written-append o s t _ _ counts first end v u)))
 
 -- the labels of i pairs
-labels-all : (T : List Pair) → Within 256 256 T → AllLabels (map labelOf T)
+pub labels-all : (T : List Pair) → Within 256 256 T → AllLabels (map labelOf T)
 labels-all [] w = none
 labels-all (p ∷ T) w =
     let h = w .states p (List·Memᴰ·head refl) in
