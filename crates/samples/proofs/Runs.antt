@@ -5,7 +5,7 @@ use mathlib.Core.Path.{_≡_, refl}
 use native.Mathlib.Omega.{arith}
 use lib.Dec.{lit≤}
 use Rattle.lists.specs.Lists.{any, keep, tabulate}
-use Rattle.automata.specs.Automaton.{Run, stay, Accepts, holds, leaving, rangesOf, states, hasEpsilon}
+use Rattle.automata.specs.Automaton.{stay, Accepts, holds, leaving, rangesOf, states, hasEpsilon}
 use Rattle.automata.specs.Automaton as runs
 use Rattle.automata.specs.Ordered.{inOrder, insert}
 use Rattle.automata.specs.Records.{readRecords}
