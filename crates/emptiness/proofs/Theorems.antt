@@ -1,5 +1,11 @@
--- What is proved of emptiness: the reachable states are those that paths lead to, and an automaton whose ranges are not
--- empty accepts no word exactly when no reachable state accepts.
+-- What is proved of emptiness:
+--   reachable-call: true is answered exactly when a path from the start leads to a state that accepts
+--   empty-call: false is answered exactly when no word is accepted
+--   empty-call-symbols: the same of words of u32 symbols, for a sheet of u32 words
+--   refused-call: a refusal is answered exactly when it is the sheet's fault
+--   reachable-paths, accepting-paths: the reachable states are those that paths lead to
+--   empty-exact, empty-symbols, empty-sheet: an automaton whose ranges are not empty accepts no word exactly when no reachable state accepts
+--   reachable-refused: the answer of the definition is the sheet's fault, where it has one
 use Prim.Native.Nat.{ℕ, zero, suc, _+_, _≤_, _<_}
 use mathlib.Core.Bool.{Bool, true, false, cond, true≢false}
 use mathlib.Core.List.{List, [], _∷_}
@@ -19,12 +25,19 @@ use Rattle.automata.specs.Automaton as runs
 use Rattle.automata.specs.WellFormed.{WellFormed, lastSymbol}
 use Rattle.automata.proofs.Records.{records-most}
 use Rattle.refusal.specs.Answer.{refused, given}
+use Rattle.refusal.specs.Decision.{decisionOf}
+use Rattle.refusal.specs.Number.{inputNumber}
+use Rattle.refusal.specs.declared.Decision.{Decision}
+use Rattle.refusal.specs.declared.Decision.the-variants.{Is, Refused}
+use Rattle.refusal.specs.declared.InputRefusal.{InputRefusal}
 use Rattle.sets.proofs.Sets.{mem-has, has-mem}
 use Rattle.sheets.specs.Checked.{sheetFirst}
 use Rattle.sheets.specs.Fault.{fault}
 use Rattle.sheets.specs.Sheet.{recordsAt, read}
 use Rattle.sheets.proofs.Accepted.{accepted}
+use Rattle.sheets.proofs.Decisions.{number-some, call-is, call-refused, given-not}
 use Rattle.sheets.proofs.Meaning.{read-well}
+use Rattle.sheets.proofs.Numbers.{sheet-given, sheet-fault}
 use Rattle.emptiness.specs.Reachable.{Path, stay, follow, reachable, hasReachableAccepting, reachableAnswer}
 use Rattle.emptiness.proofs.Paths.{reachable-path}
 
@@ -107,3 +120,44 @@ reachable-refused s n = (λ e. there (eqb (fault s) 0) refl e, λ h. rw (ne-eqb 
     there : (b : Bool) → eqb (fault s) 0 ≡ b → cond b (given (hasReachableAccepting (read s))) (refused (fault s)) ≡ refused n → (n ≡ fault s) × (fault s ≡ 0 → ⊥)
     there true t e = let z : _≡_ {A = ℕ} 0 1 = cc in absurd (omega arith)
     there false t e = (cc, eqb-false _ _ t)
+
+-- the contract of the call: r is its answer for the sheet s
+module _ (s : List ℕ) (r : Decision) (call : decisionOf r ≡ reachableAnswer s) where
+  answered : (x : Bool) → (r ≡ Is x) ↔ ((fault s ≡ 0) × (hasReachableAccepting (read s) ≡ x))
+  unfolding reachableAnswer
+  answered x =
+      let k = call-is r (reachableAnswer s) call x in
+      let g = sheet-given s (given (hasReachableAccepting (read s))) x in
+      (λ e. let (f, h) = g .0 (k .0 e) in (f, cc), λ (f, e). k .1 (g .1 (f, ap given e)))
+
+  -- true exactly when the sheet has no fault and a path from the start leads to a state that accepts
+  pub reachable-call : (r ≡ Is true) ↔ ((fault s ≡ 0) × ((q : ℕ) × Path (read s) (read s .start) q × (0 < getD (read s .accept) q 0)))
+  reachable-call =
+      let a = answered true in
+      (λ e. let (f, h) = a .0 e in (f, paths f .0 h), λ (f, h). a .1 (f, paths f .1 h))
+    where
+      paths : fault s ≡ 0 → (hasReachableAccepting (read s) ≡ true) ↔ ((q : ℕ) × Path (read s) (read s .start) q × (0 < getD (read s .accept) q 0))
+      paths f = accepting-paths (read s) (read-well s (accepted s f) .states)
+
+  -- false exactly when the sheet has no fault and no word is accepted
+  pub empty-call : (r ≡ Is false) ↔ ((fault s ≡ 0) × ((v : List ℕ) → Accepts (read s) v → ⊥))
+  empty-call =
+      let a = answered false in
+      (λ e. let (f, h) = a .0 e in (f, empty f .0 h), λ (f, h). a .1 (f, empty f .1 h))
+    where
+      empty : fault s ≡ 0 → (hasReachableAccepting (read s) ≡ false) ↔ ((v : List ℕ) → Accepts (read s) v → ⊥)
+      empty f = empty-exact (read s) (read-well s (accepted s f))
+
+  -- the same of words of u32 symbols, for a sheet of u32 words
+  pub empty-call-symbols : ((i : ℕ) → getD s i 0 ≤ lastSymbol) → (r ≡ Is false) ↔ ((fault s ≡ 0) × ((v : List ℕ) → Word 0 lastSymbol v → Accepts (read s) v → ⊥))
+  empty-call-symbols b =
+      let k = call-is r (reachableAnswer s) call false in
+      (λ e. let f = answered false .0 e .0 in (f, empty-sheet s f b .0 (k .0 e)), λ (f, h). k .1 (empty-sheet s f b .1 h))
+
+  -- a refusal exactly when it is the sheet's fault
+  pub refused-call : (i : InputRefusal) → (r ≡ Refused i) ↔ (fault s ≡ inputNumber i)
+  unfolding reachableAnswer
+  refused-call i =
+      let k = call-refused r (reachableAnswer s) call i in
+      let g = sheet-fault s (given (hasReachableAccepting (read s))) (inputNumber i) (number-some i) (given-not _ _) in
+      (λ e. g .0 (k .0 e), λ e. k .1 (g .1 e))

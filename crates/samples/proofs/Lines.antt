@@ -1,4 +1,4 @@
--- The program `verdict` on the texts of A, B and C: every line that its contract allows is the one of document 01.
+-- The program `verdict` on the texts of A, B and C: its contract allows the line of document 01 and no other.
 use Prim.Native.Nat.{ℕ}
 use mathlib.Core.List.{List, [], _∷_, _++_, flatMap}
 use mathlib.Core.Path.{_≡_, _∙_, ap, subst}
@@ -27,6 +27,7 @@ use Rattle.sheets.proofs.Accepted.{accepted}
 use Rattle.sheets.proofs.Meaning.{read-well}
 use Rattle.verdict_line.specs.Texts.{twoTexts, withSecondText, withFirstText, comparedTexts}
 use Rattle.verdict_line.specs.Line.{Line, refuses, same, differs, sameLine, differLine}
+use Rattle.samples.proofs.Allowed.{allowed-same-4, allowed-differ-9}
 use Rattle.samples.proofs.Patterns.{A, B, C, DA, DB, DC, determinized, no-fault}
 use Rattle.samples.proofs.Three.{both, three, well-a, well-b}
 use Rattle.samples.proofs.Verdicts.{same-ab, differ-ac, only-nine}
@@ -50,6 +51,15 @@ are-compared = (
 
 well-c : WellFormed (read C)
 well-c = read-well C (accepted C (no-fault .2))
+
+-- document 01's lines are allowed
+pub may-print-same-4 : Line (comparedTexts 0 lastSymbol (text-a ++ text-b)) (sameLine 4)
+may-print-same-4 = allowed-same-4 _ (are-compared .0)
+
+pub may-print-differ-9 : Line (comparedTexts 0 lastSymbol (text-a ++ text-c)) (differLine (9 ∷ []))
+may-print-differ-9 = allowed-differ-9 _ (are-compared .1)
+
+-- and no others
 
 by-both : (x : Answer Two) (bytes : List ℕ) → x ≡ given both → Line x bytes → bytes ≡ sameLine 4
 by-both x bytes e (refuses n) = absurd (let z : _≡_ {A = ℕ} 0 1 = cc in omega arith)

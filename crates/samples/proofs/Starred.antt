@@ -6,7 +6,7 @@ use mathlib.Core.Option.{some}
 use mathlib.Core.Path.{_≡_, refl}
 use lib.ListN.{length, take}
 use Rattle.lists.specs.Lists.{any, keep, tabulate}
-use Rattle.automata.specs.Automaton.{holds}
+use Rattle.automata.specs.Automaton.{Accepts, holds}
 use Rattle.automata.specs.Records.{readRecords}
 use Rattle.automata.specs.WellFormed.{lastSymbol}
 use Rattle.determinize.specs.Partition.{Part, partOf, partition}
@@ -14,7 +14,9 @@ use Rattle.determinize.specs.Determinize.{determinize}
 use Rattle.ranges.specs.Span.{Span, intersectRanges, startsBelow, overlapping}
 use Rattle.ranges.specs.Cuts.{nearer, nextCut, spans, cutAll}
 use Rattle.ranges.specs.Missing.{covered, missing}
+use Rattle.dsu.specs.Classes.{Classes}
 use Rattle.equality.specs.Equality.{compared, Judged}
+use Rattle.equality.specs.Forced.{Forced, states}
 use Rattle.equality.specs.declared.Verdict.{Verdict}
 use Rattle.equality.specs.declared.Verdict.the-variants.{Same, Different}
 use Rattle.refusal.specs.Answer.{given}
@@ -26,8 +28,11 @@ use Rattle.sheets.specs.Sheet.{read, write}
 use Rattle.totality.specs.Totality.{complemented}
 use Rattle.words.specs.Acceptance.{acceptsWords}
 use Rattle.words.specs.Simulation.{isEpsilon, epsilonRow, closures, closure, outgoing, step, startSet, simulate, least, kindOf, kind}
-use Rattle.samples.proofs.Patterns.{range, A, B, C, O, DA, determinized}
+use Rattle.samples.proofs.Patterns.{range, A, B, C, O, DA, DB, determinized}
+use Rattle.samples.proofs.Lines.{may-print-same-4, may-print-differ-9}
 use Rattle.samples.proofs.Overlap.{overlap-5}
+use Rattle.samples.proofs.Runs.{accepts-9, rejects-10, rejects-empty, overlap-accepts-5, complement-accepts-5}
+use Rattle.samples.proofs.Three.{both, three}
 use Rattle.samples.proofs.Verdicts.{same-4, differ-9}
 use Rattle.syntax.specs.Examples.{text-a, text-b, text-c}
 use Rattle.samples.proofs.Lines.{prints-same-4, prints-differ-9}
@@ -54,6 +59,10 @@ pub starred :
     × (acceptsWords A (9 ∷ []) ≡ given 1)
     × (acceptsWords A (10 ∷ []) ≡ given 0)
     × (acceptsWords A [] ≡ given 0)
+    -- and the same by runs
+    × Accepts (read A) (9 ∷ [])
+    × (Accepts (read A) (10 ∷ []) → ⊥)
+    × (Accepts (read A) [] → ⊥)
     -- A determinized: 3 states, 4 transitions
     × (determinize 0 lastSymbol (read A) ≡ given DA)
     × (DA .size ≡ 3)
@@ -61,6 +70,16 @@ pub starred :
     -- an automaton with an overlap and its complement both accept 5
     × (acceptsWords O (5 ∷ []) ≡ given 1)
     × (acceptsWords (write (complemented 0 lastSymbol (read O))) (5 ∷ []) ≡ given 1)
+    -- and the same by runs
+    × Accepts (read O) (5 ∷ [])
+    × Accepts (complemented 0 lastSymbol (read O)) (5 ∷ [])
+    -- B determinized: 4 states; with the 3 of A determinized they are in 3 classes
+    × (determinize 0 lastSymbol (read B) ≡ given DB)
+    × (DB .size ≡ 4)
+    × Classes (Forced both) (states both) 3
+    -- the program `verdict` may print `same 4` for the texts of A and B, and `differ 9` for those of A and C
+    × Line (comparedTexts 0 lastSymbol (text-a ++ text-b)) (sameLine 4)
+    × Line (comparedTexts 0 lastSymbol (text-a ++ text-c)) (differLine (9 ∷ []))
     -- A and B are the same with 4 joins, whatever buffer is lent; A and C differ, and the word is 9
     × ((o o′ : List ℕ) (r : Verdict) → 510 ≤ length o → Judged (compared 0 lastSymbol A B o) o o′ r → r ≡ Same 4)
     × ((o o′ : List ℕ) (r : Verdict) → 510 ≤ length o → Judged (compared 0 lastSymbol A C o) o o′ r → (r ≡ Different 1) × (take 1 o′ ≡ 9 ∷ []))
@@ -68,4 +87,33 @@ pub starred :
     × ((bytes : List ℕ) → Line (comparedTexts 0 lastSymbol (text-a ++ 32 ∷ text-b)) bytes → bytes ≡ sameLine 4)
     × ((bytes : List ℕ) → Line (comparedTexts 0 lastSymbol (text-a ++ 32 ∷ text-c)) bytes → bytes ≡ differLine (9 ∷ []))
 unfolding any keep tabulate holds readRecords has pickFrom through closed isEpsilon epsilonRow closures closure outgoing step startSet simulate least kindOf kind nearer nextCut spans cutAll covered missing intersectRanges startsBelow overlapping partOf partition isBad recordFault recordsFault transitionsFault statesFault fault sheetFirst acceptsWords
-starred = (refl, refl, refl, refl, refl, refl, refl, refl, refl, determinized .0, refl, refl, overlap-5 .0, overlap-5 .1, same-4, differ-9, prints-same-4, prints-differ-9)
+starred = (
+  refl,
+  refl,
+  refl,
+  refl,
+  refl,
+  refl,
+  refl,
+  refl,
+  refl,
+  accepts-9,
+  rejects-10,
+  rejects-empty,
+  determinized .0,
+  refl,
+  refl,
+  overlap-5 .0,
+  overlap-5 .1,
+  overlap-accepts-5,
+  complement-accepts-5,
+  determinized .1,
+  refl,
+  three,
+  may-print-same-4,
+  may-print-differ-9,
+  same-4,
+  differ-9,
+  prints-same-4,
+  prints-differ-9,
+)

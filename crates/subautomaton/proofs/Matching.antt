@@ -1,12 +1,12 @@
 -- The tests of one state and of one record, and the records of a run.
-use Prim.Native.Nat.{ℕ, _-_, _≤_, _<_}
+use Prim.Native.Nat.{ℕ, _<_}
 use mathlib.Core.Bool.{Bool, true, false}
 use mathlib.Core.List.{List}
 use mathlib.Core.Path.{_≡_, sym, _∙_, ap}
 use native.Mathlib.Omega.{arith}
 use borrow.Author.Needs.{needs}
-use borrow.Author.Tests.{eq-eqb, ne-eqb, le-leb, lt-leb}
-use lib.Dec.{ltb, leb}
+use borrow.Author.Tests.{eq-eqb, ne-eqb}
+use lib.Dec.{ltb}
 use lib.ListN.{getD}
 use Rattle.lists.specs.Lists.{any}
 use Rattle.automata.specs.Automaton.{Transition, leaving, states}
@@ -46,28 +46,6 @@ unfolding isHeldIn
 held-in a b ca cb p x r d e = e ∙ ap (λ (y : ℕ). any (isHeld (read b) cb (getD ca p 0) y) (states (stateCount b))) d
 
 pub ruleset statesLaws = (each-begin, each-ended, each-failed, each-next, held-in, state-small, needs)
-
--- two records
-module _ (d e cb : List ℕ) (to : ℕ) where
-  pub fits-other : (getD cb (getD e 4 0) 0 ≡ to → ⊥) → false ≡ fits cb to (recordAt d 0) (recordAt e 0)
-  unfolding fits
-  fits-other h = sym (rw (ne-eqb _ _ h))
-
-  module _ (h : getD cb (getD e 4 0) 0 ≡ to) where
-    pub fits-kind : (getD e 1 0 ≡ getD d 1 0 → ⊥) → false ≡ fits cb to (recordAt d 0) (recordAt e 0)
-    unfolding fits
-    fits-kind k = sym (rw (eq-eqb _ _ h, ne-eqb _ _ k))
-
-    module _ (k : getD e 1 0 ≡ getD d 1 0) where
-      pub fits-first : getD d 2 0 < getD e 2 0 → false ≡ fits cb to (recordAt d 0) (recordAt e 0)
-      unfolding fits
-      fits-first f = sym (rw (eq-eqb _ _ h, eq-eqb _ _ k, lt-leb _ _ f))
-
-      pub fits-last : getD e 2 0 ≤ getD d 2 0 → leb (getD d 3 0) (getD e 3 0) ≡ fits cb to (recordAt d 0) (recordAt e 0)
-      unfolding fits
-      fits-last f = sym (rw (eq-eqb _ _ h, eq-eqb _ _ k, le-leb _ _ f))
-
-pub ruleset fitsLaws = (fits-other, fits-kind, fits-first, fits-last, needs)
 
 pub ruleset runLaws = (record-ended, record-found, record-next, named-to, named-next, needs)
 
