@@ -9,3 +9,6 @@ pub mod Marking
 pub mod Reading
 pub mod Said
 pub mod Outcomes
+pub mod Appearance
+pub mod Call
+pub mod Theorems

@@ -1,6 +1,7 @@
--- What `parse` answers, by cases: what the text at the front means, or 8 where there is none.
-use Prim.Native.Nat.{ℕ, _≤_}
+-- What `parse` answers, by cases, and the exact condition of each answer.
+use Prim.Native.Nat.{ℕ, _≤_, _<_}
 use mathlib.Core.List.{List}
+use mathlib.Core.Logic.{_↔_}
 use mathlib.Core.Path.{_≡_, refl, sym, _∙_, ap, subst}
 use native.Mathlib.Omega.{arith}
 use lib.ListN.{length, take}
@@ -9,34 +10,121 @@ use Rattle.output.proofs.Left.{Writable}
 use Rattle.refusal.specs.Answer.{refused, given}
 use Rattle.syntax.specs.Syntax.{Said, Text, BeginsWith}
 use Rattle.syntax.specs.Spelled.{spell}
-use Rattle.syntax.proofs.Theorems.{sound, untaken}
-use Rattle.parser.specs.Pattern.{Reading, meaning, meant, parse, patternOf}
+use Rattle.syntax.proofs.Theorems.{sound, untaken, unambiguous, front}
+use Rattle.parser.specs.Pattern.{statesOf, automatonOf, patternOf, Reading, meant, meaning, parse}
 use Rattle.parser.proofs.Said.{text-sayable, said-writable, Limits, many-states, many-transitions, few, limits}
 
-pub data Outcome (t : List ℕ) : Type 0 where
-  outside : ((u : List ℕ) (s : Said) → BeginsWith t u s → ⊥) → parse t ≡ refused 8 → Outcome t
-  reads : (n : ℕ) (s : Said) → n ≤ length t → Text (take n t) s → parse t ≡ meant s n → Outcome t
+module _ (t : List ℕ) where
+  -- no text stands at the front; or the first n bytes are one that says s, and it is too large or read
+  pub data Outcome : Type 0 where
+    no-text : ((u : List ℕ) (s : Said) → BeginsWith t u s → ⊥) → parse t ≡ refused 8 → Outcome
+    over-states : (n : ℕ) (s : Said) → Text (take n t) s → 256 < length (statesOf s) → parse t ≡ refused 21 → Outcome
+    over-transitions : (n : ℕ) (s : Said) → Text (take n t) s → length (statesOf s) ≤ 256 → 2048 < length (automatonOf s (statesOf s) .transitions)
+        → parse t ≡ refused 22 → Outcome
+    reads : (n : ℕ) (s : Said) → n ≤ length t → Text (take n t) s → length (statesOf s) ≤ 256 → length (automatonOf s (statesOf s) .transitions) ≤ 2048
+        → parse t ≡ given (record { pattern = patternOf s; read = n }) → Outcome
 
-pub outcome : (t : List ℕ) → Outcome t
-unfolding parse
-outcome t = go (wholeText t) refl
-  where
-    go : (f : Found Told) → wholeText t ≡ f → Outcome t
-    go nothing e = outside (untaken t .0 e) (ap (meaning t) e)
-    go (found g n) e = let x = sound t g n e in reads n (spell t g) (x .0) (x .1) (ap (meaning t) e)
+  pub outcome : Outcome
+  unfolding parse
+  outcome = by-text (wholeText t) refl
+    where
+      by-size : (n : ℕ) (s : Said) → n ≤ length t → Text (take n t) s → parse t ≡ meant s n → Limits s n → Outcome
+      by-size n s i x e (many-states a q) = over-states n s x a (e ∙ q)
+      by-size n s i x e (many-transitions a b q) = over-transitions n s x a b (e ∙ q)
+      by-size n s i x e (few a b q) = reads n s i x a b (e ∙ q)
 
--- what is given can be written: a well-formed automaton within the limits, with a label for each state
-pub parse-writable : (t : List ℕ) (R : Reading) → parse t ≡ given R → Writable (R .pattern)
-parse-writable t R h = by-outcome (outcome t)
-  where
-    by-limits : (n : ℕ) (s : Said) → Text (take n t) s → parse t ≡ meant s n → Limits s n → Writable (R .pattern)
-    by-limits n s x e (many-states a q) = let z : _≡_ {A = ℕ} 0 1 = cc in absurd (omega arith)
-    by-limits n s x e (many-transitions a b q) = let z : _≡_ {A = ℕ} 0 1 = cc in absurd (omega arith)
-    by-limits n s x e (few a b q) =
-        let g : given R ≡ given (record { pattern = patternOf s; read = n }) = sym h ∙ e ∙ q in
-        let i : R ≡ record { pattern = patternOf s; read = n } = cc in
-        subst (λ (S : Reading). Writable (S .pattern)) (sym i) (said-writable s (text-sayable x) a b)
+      by-text : (f : Found Told) → wholeText t ≡ f → Outcome
+      by-text nothing e = no-text (untaken t .0 e) (ap (meaning t) e)
+      by-text (found g n) e = let x = sound t g n e in by-size n (spell t g) (x .0) (x .1) (ap (meaning t) e) (limits (spell t g) n)
 
-    by-outcome : Outcome t → Writable (R .pattern)
-    by-outcome (outside n e) = let z : _≡_ {A = ℕ} 0 1 = cc in absurd (omega arith)
-    by-outcome (reads n s k x e) = by-limits n s x e (limits s n)
+  -- a text at the front is the one that is there
+  same-said : {u : List ℕ} {s : Said} (n : ℕ) (r : Said) → BeginsWith t u s → Text (take n t) r → s ≡ r
+  same-said n r b x = unambiguous b (front t n x) .1
+
+  pub answers-8 : (parse t ≡ refused 8) ↔ ((u : List ℕ) (s : Said) → BeginsWith t u s → ⊥)
+  answers-8 = (out outcome, into outcome)
+    where
+      out : Outcome → parse t ≡ refused 8 → (u : List ℕ) (s : Said) → BeginsWith t u s → ⊥
+      out (no-text n e) z = n
+      out (over-states n s x a e) z = let y : _≡_ {A = ℕ} 8 21 = cc in absurd (omega arith)
+      out (over-transitions n s x a b e) z = let y : _≡_ {A = ℕ} 8 22 = cc in absurd (omega arith)
+      out (reads n s i x a b e) z = let y : _≡_ {A = ℕ} 0 1 = cc in absurd (omega arith)
+
+      into : Outcome → ((u : List ℕ) (s : Said) → BeginsWith t u s → ⊥) → parse t ≡ refused 8
+      into (no-text n e) z = e
+      into (over-states n s x a e) z = absurd (z _ s (front t n x))
+      into (over-transitions n s x a b e) z = absurd (z _ s (front t n x))
+      into (reads n s i x a b e) z = absurd (z _ s (front t n x))
+
+  pub answers-21 : (parse t ≡ refused 21) ↔ ((u : List ℕ) × (s : Said) × BeginsWith t u s × (256 < length (statesOf s)))
+  answers-21 = (out outcome, into outcome)
+    where
+      out : Outcome → parse t ≡ refused 21 → (u : List ℕ) × (s : Said) × BeginsWith t u s × (256 < length (statesOf s))
+      out (no-text n e) z = let y : _≡_ {A = ℕ} 8 21 = cc in absurd (omega arith)
+      out (over-states n s x a e) z = (take n t, s, front t n x, a)
+      out (over-transitions n s x a b e) z = let y : _≡_ {A = ℕ} 21 22 = cc in absurd (omega arith)
+      out (reads n s i x a b e) z = let y : _≡_ {A = ℕ} 0 1 = cc in absurd (omega arith)
+
+      into : Outcome → ((u : List ℕ) × (s : Said) × BeginsWith t u s × (256 < length (statesOf s))) → parse t ≡ refused 21
+      into (no-text n e) (u, r, b, m) = absurd (n u r b)
+      into (over-states n s x a e) (u, r, b, m) = e
+      into (over-transitions n s x a c e) (u, r, b, m) = absurd (omega (arith, ap (λ (k : Said). length (statesOf k)) (same-said n s b x)))
+      into (reads n s i x a c e) (u, r, b, m) = absurd (omega (arith, ap (λ (k : Said). length (statesOf k)) (same-said n s b x)))
+
+  pub answers-22 : (parse t ≡ refused 22) ↔ ((u : List ℕ) × (s : Said) × BeginsWith t u s × (length (statesOf s) ≤ 256) × (2048 < length (automatonOf s (statesOf s) .transitions)))
+  answers-22 = (out outcome, into outcome)
+    where
+      out : Outcome → parse t ≡ refused 22 → (u : List ℕ) × (s : Said) × BeginsWith t u s × (length (statesOf s) ≤ 256) × (2048 < length (automatonOf s (statesOf s) .transitions))
+      out (no-text n e) z = let y : _≡_ {A = ℕ} 8 22 = cc in absurd (omega arith)
+      out (over-states n s x a e) z = let y : _≡_ {A = ℕ} 21 22 = cc in absurd (omega arith)
+      out (over-transitions n s x a b e) z = (take n t, s, front t n x, a, b)
+      out (reads n s i x a b e) z = let y : _≡_ {A = ℕ} 0 1 = cc in absurd (omega arith)
+
+      into : Outcome → ((u : List ℕ) × (s : Said) × BeginsWith t u s × (length (statesOf s) ≤ 256) × (2048 < length (automatonOf s (statesOf s) .transitions))) → parse t ≡ refused 22
+      into (no-text n e) (u, r, b, m, k) = absurd (n u r b)
+      into (over-states n s x a e) (u, r, b, m, k) = absurd (omega (arith, ap (λ (k : Said). length (statesOf k)) (same-said n s b x)))
+      into (over-transitions n s x a c e) (u, r, b, m, k) = e
+      into (reads n s i x a c e) (u, r, b, m, k) = absurd (omega (arith, ap (λ (k : Said). length (automatonOf k (statesOf k) .transitions)) (same-said n s b x)))
+
+  -- 20 is none of the answers
+  pub answers-20 : parse t ≡ refused 20 → ⊥
+  answers-20 z = go outcome
+    where
+      go : Outcome → ⊥
+      go (no-text n e) = let y : _≡_ {A = ℕ} 8 20 = cc in omega arith
+      go (over-states n s x a e) = let y : _≡_ {A = ℕ} 21 20 = cc in omega arith
+      go (over-transitions n s x a b e) = let y : _≡_ {A = ℕ} 22 20 = cc in omega arith
+      go (reads n s i x a b e) = let y : _≡_ {A = ℕ} 0 1 = cc in omega arith
+
+  -- what is given is what a text at the front means, and can be written
+  pub record Given (R : Reading) : Type 0 where
+    pub said : Said
+    pub inside : R .read ≤ length t
+    pub text : Text (take (R .read) t) said
+    pub few-states : length (statesOf said) ≤ 256
+    pub few-transitions : length (automatonOf said (statesOf said) .transitions) ≤ 2048
+    pub is : R .pattern ≡ patternOf said
+    pub writable : Writable (R .pattern)
+
+  pub answers-given : (R : Reading) → parse t ≡ given R → Given R
+  answers-given R z = go outcome
+    where
+      go : Outcome → Given R
+      go (no-text n e) = let y : _≡_ {A = ℕ} 0 1 = cc in absurd (omega arith)
+      go (over-states n s x a e) = let y : _≡_ {A = ℕ} 0 1 = cc in absurd (omega arith)
+      go (over-transitions n s x a b e) = let y : _≡_ {A = ℕ} 0 1 = cc in absurd (omega arith)
+      go (reads n s i x a b e) =
+          let g : given R ≡ given (record { pattern = patternOf s; read = n }) = sym z ∙ e in
+          let h : R ≡ record { pattern = patternOf s; read = n } = cc in
+          subst Given (sym h) (record { said = s; inside = i; text = x; few-states = a; few-transitions = b; is = refl; writable = said-writable s (text-sayable x) a b })
+
+  -- and something is given where a text at the front is within the limits
+  pub answers-some : {u : List ℕ} {s : Said} → BeginsWith t u s → length (statesOf s) ≤ 256 → length (automatonOf s (statesOf s) .transitions) ≤ 2048
+      → (R : Reading) × (parse t ≡ given R)
+  answers-some {u} {s = r} b m k = go outcome
+    where
+      go : Outcome → (R : Reading) × (parse t ≡ given R)
+      go (no-text n e) = absurd (n u r b)
+      go (over-states n s x a e) = absurd (omega (arith, ap (λ (k : Said). length (statesOf k)) (same-said n s b x)))
+      go (over-transitions n s x a c e) = absurd (omega (arith, ap (λ (k : Said). length (automatonOf k (statesOf k) .transitions)) (same-said n s b x)))
+      go (reads n s i x a c e) = (_, e)

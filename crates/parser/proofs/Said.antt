@@ -11,7 +11,7 @@ use lib.ListN.{length, getD, length-map}
 use Rattle.lists.specs.Lists.{_∈_, any, Distinct}
 use Rattle.lists.specs.Lists as lists
 use Rattle.lists.proofs.Every.{flat-in, flat-out}
-use Rattle.lists.proofs.Index.{index-lt, same-decides}
+use Rattle.lists.proofs.Index.{index-lt, index-at, index-place, same-decides}
 use Rattle.lists.proofs.Members.{map-out}
 use Rattle.automata.specs.Automaton.{Transition}
 use Rattle.automata.specs.WellFormed.{Sound, WellFormed}
@@ -25,6 +25,7 @@ use Rattle.search.specs.Reached as search
 use Rattle.search.proofs.Tables.{extends-in, extends-length, meet-extends, meet-in, meet-out, meet-good}
 use Rattle.syntax.specs.Syntax as syntax
 use Rattle.syntax.specs.Syntax.{Name, named, Move, Said, Text, says}
+use Rattle.parser.specs.Moves.{IsMove}
 use Rattle.parser.specs.Pattern.{bothNames, namesOf, statesOf, transitionOf, acceptWord, automatonOf, patternOf, fewTransitions, meant}
 
 -- a name is a label
@@ -39,7 +40,8 @@ pub record IsDrawn (m : Move) : Type 0 where
 
 all-drawn : {u : List ℕ} {ms : List Move} → syntax.Transitions u ms → (m : Move) → m ∈ ms → IsDrawn m
 all-drawn syntax.Transitions.none m i = elim i [ ]
-all-drawn (syntax.Transitions.more g (syntax.moves a g₁ g₂ b g₃ g₄ v g₅ g₆ w h) r) m (List·Memᴰ·head q) = subst IsDrawn (sym q) (record { from-label = name-label a; to-label = name-label b; full = h })
+all-drawn (syntax.Transitions.more g (syntax.moves a g₁ g₂ b g₃ g₄ v g₅ g₆ w h) r) m (List·Memᴰ·head q) =
+    subst IsDrawn (sym q) (record { from-label = name-label a; to-label = name-label b; full = h })
 all-drawn (syntax.Transitions.more g e r) m (List·Memᴰ·tail i) = all-drawn r m i
 
 -- what a text says: its names are labels, and its ranges are not empty
@@ -82,7 +84,34 @@ module _ (s : Said) where
       G = record { same = sameLabel; next = λ _. namesOf (s .moves); start = s .start }
 
       good : search.Good G (s .start ∷ [])
-      good = record { distinct = lists.Distinct.more {x = s .start} {l = []} (λ i. elim i [ ]) lists.Distinct.none; reached = λ x i. subst (search.Reached G) (sym (List·Memᴰ·eq-of-singleton i)) search.start }
+      good = record {
+        distinct = lists.Distinct.more {x = s .start} {l = []} (λ i. elim i [ ]) lists.Distinct.none;
+        reached = λ x i. subst (search.Reached G) (sym (List·Memᴰ·eq-of-singleton i)) search.start;
+      }
+
+  -- the text's transitions as those of the automaton, and back: a label's place is found by the label
+  pub is-move : (m : Move) → m ∈ s .moves → IsMove (statesOf s) (transitionOf (statesOf s) m) m
+  is-move m i =
+      let from-in = names-in m i (m .from) (List·Memᴰ·head refl) in
+      let to-in = names-in m i (m .to) (List·Memᴰ·tail (List·Memᴰ·head refl)) in
+      record {
+        from-state = index-lt sameLabel same-decides (m .from) from-in;
+        from-name = index-at sameLabel same-decides [] (m .from) (statesOf s) from-in;
+        to-state = index-lt sameLabel same-decides (m .to) to-in;
+        to-name = index-at sameLabel same-decides [] (m .to) (statesOf s) to-in;
+        kind = refl;
+        first = refl;
+        last = refl;
+      }
+
+  pub move-is : (e : Transition) (m : Move) → IsMove (statesOf s) e m → transitionOf (statesOf s) m ≡ e
+  move-is e m k =
+      let f : index sameLabel (m .from) (statesOf s) ≡ e .from = rw (← k .from-name) (index-place sameLabel same-decides [] states-distinct (e .from) (k .from-state)) in
+      let g : index sameLabel (m .to) (statesOf s) ≡ e .to = rw (← k .to-name) (index-place sameLabel same-decides [] states-distinct (e .to) (k .to-state)) in
+      let a = k .kind in
+      let b = k .first in
+      let c = k .last in
+      sym (rw (← f, ← g, a, b, c))
 
   -- a transition comes from one that the text says
   pub origin : (e : Transition) → e ∈ automatonOf s (statesOf s) .transitions → (m : Move) × m ∈ s .moves × (e ≡ transitionOf (statesOf s) m)

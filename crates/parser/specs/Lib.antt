@@ -5,5 +5,6 @@ pub mod Names
 pub mod Records
 pub mod Accepts
 pub mod Parsed
+pub mod Moves
 pub mod Examples
 pub mod inner

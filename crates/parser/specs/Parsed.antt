@@ -37,3 +37,8 @@ parsed o l (given r) =
 abbrev pub parsedOf : Parsed → List ℕ → List ℕ → Output
 parsedOf (Read n w b) o l = record { answer = given (record { read = n; words = w; bytes = b }); sheet = o; labels = l }
 parsedOf (Refused r) o l = record { answer = refused (numberOf r); sheet = o; labels = l }
+
+-- document 01's number of an answer: 0 where nothing is refused
+abbrev pub parsedNumber : Parsed → ℕ
+parsedNumber (Read n w b) = 0
+parsedNumber (Refused r) = numberOf r

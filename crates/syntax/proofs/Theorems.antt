@@ -38,7 +38,7 @@ complete {t} {u} b =
     (f .what, f .reads ∙ ap (found (f .what)) e, f .saying)
 
 -- the front of t, where it is a text
-front : (t : List ℕ) (n : ℕ) {s : Said} → Text (take n t) s → BeginsWith t (take n t) s
+pub front : (t : List ℕ) (n : ℕ) {s : Said} → Text (take n t) s → BeginsWith t (take n t) s
 front t n x = record { text = x; rest = drop n t; whole = sym (take-append-drop n t) }
 
 -- n bytes that say s are taken exactly where the first n bytes of t are a text that says s

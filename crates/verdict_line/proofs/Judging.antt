@@ -27,7 +27,7 @@ use Rattle.determinize.proofs.Theorems.{determinize-fits}
 use Rattle.parser.specs.Pattern.{Reading, parse}
 use Rattle.parser.specs.declared.Parsed.{Parsed}
 use Rattle.parser.specs.declared.Parsed.the-variants.{Read}
-use Rattle.parser.proofs.Outcomes.{parse-writable}
+use Rattle.parser.proofs.Outcomes.{answers-given}
 use Rattle.equality.specs.Forced.{Two, states}
 use Rattle.equality.specs.Verdict.{Decided}
 use Rattle.equality.specs.Equality.{withSecond, withFirst, determinized, compared, Judged}
@@ -120,8 +120,8 @@ module _ (low high : ℕ) where
       by-answers (given R) (refused n) p q h = absurd (let z : _≡_ {A = ℕ} 0 1 = cc in omega arith)
       by-answers (given R) (given S) p q h =
           two-few (determinize low high (R .pattern .automaton)) (determinize low high (S .pattern .automaton)) w
-          (λ D d. determinize-fits low high _ (parse-writable t R p .well .states) D d .few-states)
-          (λ E d. determinize-fits low high _ (parse-writable s S q .well .states) E d .few-states) h
+          (λ D d. determinize-fits low high _ (answers-given t R p .writable .well .states) D d .few-states)
+          (λ E d. determinize-fits low high _ (answers-given s S q .writable .well .states) E d .few-states) h
 
   compared-few : (t : List ℕ) (w : Two) → comparedTexts low high t ≡ given w → states w ≤ 512
   unfolding comparedTexts

@@ -33,7 +33,7 @@ use Rattle.parser.specs.Parsed.{Lengths, Output, parsed, parsedOf}
 use Rattle.parser.specs.Pattern.{Reading, parse}
 use Rattle.parser.specs.declared.Parsed.{Parsed}
 use Rattle.parser.specs.declared.Parsed.the-variants.{Read, Refused}
-use Rattle.parser.proofs.Outcomes.{parse-writable}
+use Rattle.parser.proofs.Outcomes.{answers-given}
 use Rattle.verdict_line.specs.Texts.{twoTexts}
 use Rattle.verdict_line.specs.Code.{SheetRead, refuses, reads}
 
@@ -139,7 +139,7 @@ module _ (t o n o′ n′ : List ℕ) (p : Parsed) (e : parsedOf p o′ n′ ≡
           let v : _≡_ {A = Lengths} (record { read = m; words = w; bytes = b }) (record { read = R .read; words = length (write A); bytes = length (writeLabels (R .pattern .labels)) }) = cc in
           let is-w : w ≡ length (write A) = ap (λ (x : Lengths). x .words) v in
           let is-o : o′ ≡ sets o 0 (write A) = ap (λ (x : Output). x .sheet) z in
-          let right = parse-writable t R h in
+          let right = answers-given t R h .writable in
           let l = write-room A (right .well .accepts) (right .fits) in
           reads {o = o′} R m w b (omega (arith, ap length is-o, length-sets o 0 (write A)))
           (ap (take w) (is-o ∙ sets-eq (write A) o 0 (omega arith)) ∙ ap (λ (k : ℕ). take k (write A ++ drop (0 + length (write A)) o)) is-w ∙ take-append-seam (write A) _)
@@ -170,7 +170,7 @@ module _ (t o : List ℕ) (p : Parsed) where
         by-case a q f (refuses x) h = absurd (let z : _≡_ {A = ℕ} 0 1 = cc in omega arith)
         by-case a q f (reads R k w c i g) h =
             let z : w ≡ n - 0 = let y : w ≡ n = cc in omega arith in
-            let right = parse-writable t R f in
+            let right = answers-given t R f .writable in
             let d : take (n - 0) o ≡ write (R .pattern .automaton) = ap (λ (k : ℕ). take k o) (sym z) ∙ g in
             record {
               reading = R;

@@ -12,7 +12,7 @@ use Rattle.grammar.specs.Grammar.{found, mark}
 use Rattle.refusal.specs.Answer.{Answer, given}
 use Rattle.determinize.specs.Determinize.{determinize}
 use Rattle.parser.specs.Pattern.{Reading, parse}
-use Rattle.parser.proofs.Outcomes.{parse-writable}
+use Rattle.parser.proofs.Outcomes.{answers-given}
 use Rattle.equality.specs.Forced.{Two, states}
 use Rattle.equality.specs.Verdict.{Equal, Apart}
 use Rattle.equality.specs.Equality.{withFirst, withSecond, determinized, SameWords, ExactlyOne}
@@ -57,4 +57,4 @@ module _ (low high : ℕ) (t : List ℕ) (at : ℕ) (few : length t ≤ 65536) (
 
   pub verdict-says : (bytes : List ℕ) → Line (comparedTexts low high t) bytes → Says low high (R .pattern .automaton) (S .pattern .automaton) (D .size + E .size) bytes
   verdict-says bytes l =
-      line-says low high (R .pattern .automaton) (S .pattern .automaton) (parse-writable t R first .well) (parse-writable (drop at t) S second .well) D E is-d is-e _ bytes is-two l
+      line-says low high (R .pattern .automaton) (S .pattern .automaton) (answers-given t R first .writable .well) (answers-given (drop at t) S second .writable .well) D E is-d is-e _ bytes is-two l
