@@ -1,4 +1,7 @@
 -- Demand 3 whole.
-pub mod Calls
+pub mod Fronts
+pub mod Sides
 pub mod Products
-pub mod Demand
+pub mod Reports
+pub mod Theorems
+pub mod Contracts

@@ -1,2 +1,3 @@
--- The calls that the products of demand 3 are made by.
-pub mod Crossed
+-- Demand 3 at the C functions: the calls by their contracts, and what is asked of them.
+pub mod Calls
+pub mod Demand

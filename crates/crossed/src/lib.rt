@@ -1,1 +1,1 @@
-// Demand 3 whole: exact equality beside the products of each determinization with the other's complement. It has no code.
+// Demand 3 whole, at the C functions of `ringmatch`: exact equality, and the products of each determinization with the other's complement. It has no code.

@@ -7,9 +7,11 @@ use mathlib.Core.List.{List, [], _∷_}
 use native.Mathlib.Omega.{arith}
 use lib.Dec.{ltb}
 use borrow.Author.Tests.{lt-ltb, le-ltb, ltb-true, ltb-false}
-use Rattle.automata.specs.Automaton.{Automaton, Word, none, more}
+use Rattle.automata.specs.Automaton.{Automaton, Word, none, more, InBounds}
+use Rattle.automata.specs.Deterministic.{Deterministic}
 use Rattle.equality.specs.Successors.{successor, stateAfter, acceptOf, acceptAfter}
 use Rattle.equality.specs.Forced.{Two, Symbol, states, left, right, successorIn, acceptIn, Such, Forced, starts, follow, same, turn, chain}
+use Rattle.equality.proofs.Successors.{next-inside}
 
 -- the start is a state and so is every successor of a state
 pub record TotalOne (t : Two) (D : Automaton) : Type 0 where
@@ -19,6 +21,13 @@ pub record TotalOne (t : Two) (D : Automaton) : Type 0 where
 pub record Total (t : Two) : Type 0 where
   pub first : TotalOne t (t .one)
   pub second : TotalOne t (t .two)
+
+-- it is so where every symbol has one transition in every state
+pub total-of : (t : Two) → Deterministic (t .low) (t .high) (t .one) → InBounds (t .one) → Deterministic (t .low) (t .high) (t .two) → InBounds (t .two) → Total t
+total-of t d i e j = record {
+  first = record { start-in = i .starts; next-in = next-inside (t .low) (t .high) (t .one) d i };
+  second = record { start-in = j .starts; next-in = next-inside (t .low) (t .high) (t .two) e j };
+}
 
 -- the two sides
 module _ (t : Two) where

@@ -11,4 +11,6 @@ pub mod Onward
 pub mod Turning
 pub mod Going
 pub mod Comparing
+pub mod Exact
+pub mod Refusals
 pub mod Theorems

@@ -10,15 +10,11 @@ use Rattle.equality.specs.Successors.{successor, acceptOf}
 use Rattle.equality.specs.Forced.{states}
 use Rattle.equality.specs.Walking.{Queue}
 use Rattle.equality.specs.Code.{twoOf, Pairs, classes, queue, Sheets, Offered, had, put, Good}
-use Rattle.equality.proofs.Forced.{Total}
+use Rattle.equality.proofs.Forced.{Total, total-of}
 use Rattle.equality.proofs.Queue.{renamed, pushed}
-use Rattle.equality.proofs.Successors.{next-inside}
 
 pub total : (a b : List ℕ) (low high : ℕ) → Sheets a b low high → Total (twoOf a b low high)
-total a b low high s = record {
-  first = record { start-in = s .first .start; next-in = next-inside low high (read a) (s .one) (read-well a (s .first) .states) };
-  second = record { start-in = s .second .start; next-in = next-inside low high (read b) (s .two) (read-well b (s .second) .states) };
-}
+total a b low high s = total-of (twoOf a b low high) (s .one) (read-well a (s .first) .states) (s .two) (read-well b (s .second) .states)
 
 -- r is w with some classes joined, and perhaps a pair more
 pub record Onward (a b : List ℕ) (low high : ℕ) (w r : Pairs) : Type 0 where

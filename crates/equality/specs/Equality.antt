@@ -10,8 +10,10 @@ use Rattle.automata.specs.Automaton.{Automaton, Accepts, Word}
 use Rattle.refusal.specs.Answer.{Answer, refused, given}
 use Rattle.refusal.specs.Number.{numberOf}
 use Rattle.sheets.specs.Checked.{sheetFirst}
+use Rattle.sheets.specs.Fault.{fault}
 use Rattle.sheets.specs.Sheet.{read}
 use Rattle.determinize.specs.Determinize.{determinize}
+use Rattle.determinize.specs.Reached.{MoreThan, MoreTransitions}
 use Rattle.dsu.specs.Classes.{Classes}
 use Rattle.equality.specs.declared.Verdict.{Verdict}
 use Rattle.equality.specs.declared.Verdict.the-variants.{Same, Different, Refused}
@@ -44,6 +46,26 @@ Judged (refused n) o o′ (Same joins) = ⊥
 Judged (refused n) o o′ (Different m) = ⊥
 Judged (refused n) o o′ (Refused r) = (numberOf r ≡ n) × (o′ ≡ o)
 Judged (given t) o o′ r = Decided t o o′ r
+
+-- nothing is refused before the determinizations: 510 words are lent, and both sheets are accepted
+pub record Clear (a b o : List ℕ) : Type 0 where
+  pub room : wordSize ≤ length o
+  pub first : fault a ≡ 0
+  pub second : fault b ≡ 0
+
+-- document 01's number of a verdict: 0 where nothing is refused
+abbrev pub verdictNumber : Verdict → ℕ
+verdictNumber (Same joins) = 0
+verdictNumber (Different n) = 0
+verdictNumber (Refused r) = numberOf r
+
+-- 22 of a determinization: it fits 256 states and has over 2,048 transitions
+abbrev pub Overfull : ℕ → ℕ → Automaton → Type 0
+Overfull low high A = (MoreThan 255 low high A → ⊥) × MoreTransitions 2048 low high A
+
+-- a determinization fits 256 states and 2,048 transitions; the states are the nonempty sets that words reach, and the sink
+abbrev pub Limits : ℕ → ℕ → Automaton → Type 0
+Limits low high A = (MoreThan 255 low high A → ⊥) × (MoreTransitions 2048 low high A → ⊥)
 
 -- every word of symbols from low to high is accepted by both or by neither
 abbrev pub SameWords : ℕ → ℕ → Automaton → Automaton → Type 0

@@ -45,7 +45,12 @@ pub record Such (t : Two) (R : ℕ → ℕ → Type 0) : Type 0 where
   pub starts : R (left t (t .one .start)) (right t (t .two .start))
   pub follow : (p q x : ℕ) → p < states t → q < states t → Symbol t x → R p q → R (successorIn t p x) (successorIn t q x)
 
--- the smallest of them: it is one, and every other joins all that this one joins (the theorems `forced-such` and `forced-least`)
+-- the smallest of them: it is one, and every other joins all that this one joins
+pub record Smallest (t : Two) (R : ℕ → ℕ → Type 0) : Type 1 where
+  pub such : Such t R
+  pub least : (S : ℕ → ℕ → Type 0) → Such t S → (p q : ℕ) → R p q → S p q
+
+-- what follows from the starts; of two determinizations this is the smallest (the theorem `forced-smallest`)
 pub data Forced (t : Two) : ℕ → ℕ → Type 0 where
   starts : Forced t (left t (t .one .start)) (right t (t .two .start))
   follow : {p q : ℕ} (x : ℕ) → Symbol t x → Forced t p q → Forced t (successorIn t p x) (successorIn t q x)

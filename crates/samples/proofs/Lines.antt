@@ -13,7 +13,8 @@ use Rattle.determinize.specs.Determinize.{determinize}
 use Rattle.equality.specs.Equality.{withSecond, withFirst, determinized as both-determinized}
 use Rattle.equality.specs.Forced.{Two}
 use Rattle.equality.specs.Verdict.{Equal, Apart}
-use Rattle.equality.proofs.Theorems.{classes-number, same-words, one-word, not-same}
+use Rattle.equality.proofs.Exact.{same-words, one-word, not-same}
+use Rattle.equality.proofs.Theorems.{classes-number}
 use Rattle.labels.specs.Labels.{sameLabel}
 use Rattle.grammar.specs.Bytes.{isSpace, isLetter, isDigit, isNameByte}
 use Rattle.grammar.specs.Grammar.{follow, run, space, neededSpace, begins, token, name, number, ends, range, target, transition, initial, nextName, many, transitions, nextNames, accepting, heading, ending, wholeText}

@@ -13,12 +13,13 @@ use Rattle.lists.proofs.Tests.{test}
 use Rattle.automata.specs.Automaton.{Transition, holds, carries}
 use Rattle.automata.specs.WellFormed.{WellFormed, lastSymbol}
 use Rattle.automata.specs.Deterministic.{Deterministic}
-use Rattle.determinize.proofs.Theorems.{determinize-deterministic, determinize-wellformed}
+use Rattle.determinize.proofs.Theorems.{determinize-deterministic}
 use Rattle.dsu.specs.Classes.{Classes, none, old, new}
 use Rattle.equality.specs.Forced.{Two, Such, Forced, starts, follow, successorIn}
 use Rattle.equality.specs.Successors.{successor}
-use Rattle.equality.proofs.Forced.{Total, successor-left, successor-right, by-side, forced-least}
-use Rattle.equality.proofs.Successors.{successor-is, next-inside}
+use Rattle.equality.proofs.Exact.{smallest-two}
+use Rattle.equality.proofs.Forced.{successor-left, successor-right, by-side}
+use Rattle.equality.proofs.Successors.{successor-is}
 use Rattle.sheets.specs.Sheet.{read}
 use Rattle.sheets.proofs.Accepted.{accepted}
 use Rattle.sheets.proofs.Meaning.{read-well}
@@ -38,13 +39,6 @@ det-a = determinize-deterministic 0 lastSymbol (read A) (well-a .states) DA (det
 
 det-b : Deterministic 0 lastSymbol DB
 det-b = determinize-deterministic 0 lastSymbol (read B) (well-b .states) DB (determinized .1)
-
-total : Total both
-total =
-    record {
-      first = record { start-in = lit≤ tt; next-in = next-inside 0 lastSymbol DA det-a (determinize-wellformed 0 lastSymbol (read A) (well-a .states) DA (determinized .0) well-a .states) };
-      second = record { start-in = lit≤ tt; next-in = next-inside 0 lastSymbol DB det-b (determinize-wellformed 0 lastSymbol (read B) (well-b .states) DB (determinized .1) well-b .states) };
-    }
 
 -- the class of a state, and of its successors
 abbrev class : ℕ → ℕ
@@ -102,7 +96,7 @@ such =
     }
 
 apart : {p q : ℕ} → Forced both p q → class p ≡ class q
-apart f = forced-least both total (λ p q. class p ≡ class q) such f
+apart {p} {q} f = smallest-two 0 lastSymbol (read A) (read B) well-a well-b DA DB (determinized .0) (determinized .1) .least (λ p q. class p ≡ class q) such p q f
 
 -- the starts are joined, and with them their successors under 0, 5 and 10
 joined : Forced both 0 3 × Forced both 1 4 × Forced both 1 5 × Forced both 2 6

@@ -23,7 +23,7 @@ same-ab w v = (λ h. b-single w .1 (a-single w .0 h), λ h. a-single w .1 (b-sin
 -- 7 states in 3 classes: 4 joins
 pub same-4 : (o o′ : List ℕ) (r : Verdict) → 510 ≤ length o → Judged (compared 0 lastSymbol A B o) o o′ r → r ≡ Same 4
 same-4 o o′ r room judged =
-    let x = equality-exact 0 lastSymbol A B o o′ r (no-fault .0) (no-fault .1) room judged DA DB (determinized .0) (determinized .1) in
+    let x = equality-exact 0 lastSymbol A B (no-fault .0) (no-fault .1) o o′ r room judged DA DB (determinized .0) (determinized .1) in
     let (j, is) = x .same .1 same-ab in
     let (k, counted, sum, kept) = x .joins j is in
     let number : k ≡ 3 = classes-number both k 3 counted three in
@@ -49,7 +49,7 @@ differ-ac s =
 
 pub differ-9 : (o o′ : List ℕ) (r : Verdict) → 510 ≤ length o → Judged (compared 0 lastSymbol A C o) o o′ r → (r ≡ Different 1) × (take 1 o′ ≡ 9 ∷ [])
 differ-9 o o′ r room judged =
-    let x = equality-exact 0 lastSymbol A C o o′ r (no-fault .0) (no-fault .2) room judged DA DC (determinized .0) (determinized .2) in
+    let x = equality-exact 0 lastSymbol A C (no-fault .0) (no-fault .2) o o′ r room judged DA DC (determinized .0) (determinized .2) in
     let (n, is, d) = x .different differ-ac in
     let word : take n o′ ≡ 9 ∷ [] = only-nine (take n o′) (d .one) in
     let one : n ≡ 1 = sym (d .long) ∙ ap length word in

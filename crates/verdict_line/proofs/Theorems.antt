@@ -16,7 +16,7 @@ use Rattle.parser.proofs.Outcomes.{answers-given}
 use Rattle.equality.specs.Forced.{Two, states}
 use Rattle.equality.specs.Verdict.{Equal, Apart}
 use Rattle.equality.specs.Equality.{withFirst, withSecond, determinized, SameWords, ExactlyOne}
-use Rattle.equality.proofs.Theorems.{same-words, one-word, not-same}
+use Rattle.equality.proofs.Exact.{same-words, one-word, not-same}
 use Rattle.verdict_line.specs.Texts.{twoTexts, withFirstText, withSecondText, onTexts, comparedTexts}
 use Rattle.verdict_line.specs.Line.{Line, refuses, same, differs, sameLine, differLine}
 
