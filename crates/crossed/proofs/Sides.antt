@@ -25,7 +25,7 @@ use Rattle.sheets.proofs.Meaning.{read-well, read-write-sheet, write-accepted}
 use Rattle.totality.specs.Answers.{complementPattern, complementAnswer}
 use Rattle.totality.specs.Totality.{isNfa, flipped, complemented}
 use Rattle.totality.proofs.Answers.{limited-given}
-use Rattle.totality.proofs.Deterministic.{nfa-settled, nfa-exact, complement-words}
+use Rattle.totality.proofs.Theorems.{nfa-settled, nfa-exact, complement-words}
 use Rattle.totality.proofs.Totalized.{flipped-well}
 use Rattle.crossed.specs.Calls.{sheetOf, labelsOf}
 use Rattle.crossed.specs.Demand.{Side, SideAnswers}

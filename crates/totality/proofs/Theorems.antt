@@ -4,7 +4,7 @@
 --   nfa-settled            `is_nfa` is false exactly where no state has an epsilon, an overlap or a hole
 --   nfa-unsettled          and true exactly where there is one of them
 --   nfa-exact              it is false exactly where every symbol has one transition in every state and no epsilon stands
---   sheet-exact            the same of a sheet of 32-bit words
+--   nfa-sheet              the same of a sheet of 32-bit words
 --   totalize-words         totalizing keeps the words
 --   totalize-total         and then every symbol has a transition in every state
 --   complement-words       where no epsilon and no overlap stood, the complement accepts the other words
@@ -51,7 +51,6 @@ use Rattle.refusal.specs.Answer.{refused, given}
 use Rattle.refusal.specs.Decision.{decisionOf}
 use Rattle.refusal.specs.declared.Decision.{Decision}
 use Rattle.refusal.specs.declared.Decision.the-variants.{Is, Refused}
-use Rattle.sheets.specs.Accepted.{Accepted}
 use Rattle.sheets.specs.Fault.{fault}
 use Rattle.sheets.specs.Sheet.{stateCount, read}
 use Rattle.sheets.proofs.Accepted.{accepted}
@@ -90,8 +89,8 @@ module _ (lo hi : ℕ) (A : Automaton) where
     complement-words = other-words lo hi A v
 
 -- of a sheet of 32-bit words `is_nfa` is false exactly where every symbol has one transition in every state and no epsilon stands
-pub sheet-exact : (s : List ℕ) → Accepted s → ((i : ℕ) → getD s i 0 ≤ lastSymbol) → (isNfa 0 lastSymbol (read s) ≡ false) ↔ Deterministic 0 lastSymbol (read s)
-sheet-exact s a h = nfa-exact 0 lastSymbol (read s) (read-well s a) (read-within s h)
+pub nfa-sheet : (s : List ℕ) → fault s ≡ 0 → ((i : ℕ) → getD s i 0 ≤ lastSymbol) → (isNfa 0 lastSymbol (read s) ≡ false) ↔ Deterministic 0 lastSymbol (read s)
+nfa-sheet s f h = nfa-exact 0 lastSymbol (read s) (read-well s (accepted s f)) (read-within s h)
 
 -- the call of `is_nfa` on the sheet s: r is its answer
 module _ (s : List ℕ) (r : Decision) (call : decisionOf r ≡ isNfaAnswer 0 lastSymbol s) where
@@ -125,8 +124,8 @@ module _ (s : List ℕ) (r : Decision) (call : decisionOf r ≡ isNfaAnswer 0 la
   -- on a sheet of 32-bit words it is no exactly where every symbol has one transition in every state and no epsilon stands
   pub is-nfa-deterministic : ((i : ℕ) → getD s i 0 ≤ lastSymbol) → (r ≡ Is false) ↔ ((fault s ≡ 0) × Deterministic 0 lastSymbol (read s))
   is-nfa-deterministic h = (
-    λ e. let (f, t) = decided false .0 e in (f, sheet-exact s (accepted s f) h .0 t),
-    λ (f, d). decided false .1 (f, sheet-exact s (accepted s f) h .1 d),
+    λ e. let (f, t) = decided false .0 e in (f, nfa-sheet s f h .0 t),
+    λ (f, d). decided false .1 (f, nfa-sheet s f h .1 d),
   )
 
   -- it is refused with a number exactly where the sheet has that fault

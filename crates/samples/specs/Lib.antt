@@ -1,0 +1,1 @@
+-- The samples of document 01.
