@@ -8,7 +8,8 @@ use lib.ListN.{length, getD, take, drop, length-drop}
 use lib.Seq.{drop-drop, getD-drop, getD-take}
 use Rattle.lists.specs.Lists.{_∈_}
 use Rattle.automata.specs.Automaton.{Transition}
-use Rattle.automata.specs.Records.{wordsOf, readRecords, writeRecords, recordAt}
+use Rattle.automata.specs.Records.{wordsOf, readRecords, writeRecords}
+use Rattle.automata.specs.inner.Records.{recordAt}
 
 pub read-write : (es : List Transition) → readRecords (writeRecords es) ≡ es
 unfolding readRecords writeRecords

@@ -5,3 +5,4 @@ pub mod Pairs
 pub mod WellFormed
 pub mod Records
 pub mod Ordered
+pub mod inner

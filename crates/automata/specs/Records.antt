@@ -1,7 +1,6 @@
 -- Transitions as records of five words: from, kind, first, last, to.
-use Prim.Native.Nat.{ℕ, _+_}
+use Prim.Native.Nat.{ℕ}
 use mathlib.Core.List.{List, [], _∷_, _++_}
-use lib.ListN.{getD}
 use Rattle.automata.specs.Automaton.{Transition}
 
 abbrev pub wordsOf : Transition → List ℕ
@@ -19,7 +18,3 @@ readRecords (a ∷ b ∷ c ∷ d ∷ e ∷ rest) = record { from = a; kind = b; 
 unfoldable pub writeRecords : List Transition → List ℕ
 writeRecords [] = []
 writeRecords (e ∷ es) = wordsOf e ++ writeRecords es
-
--- the record whose first word stands at `at`
-abbrev pub recordAt : List ℕ → ℕ → Transition
-recordAt s at = record { from = getD s at 0; kind = getD s (at + 1) 0; first = getD s (at + 2) 0; last = getD s (at + 3) 0; to = getD s (at + 4) 0 }

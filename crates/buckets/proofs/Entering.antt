@@ -11,7 +11,7 @@ use lib.Dec.{eqb}
 use lib.ListN.{length, getD, set, length-set, length-append, List·getD-append}
 use lib.Seq.{getD-set-same, getD-set-other, getD-at}
 use Rattle.lists.proofs.Tests.{test}
-use Rattle.buckets.specs.Buckets.{latest, inBucket, Entered, entered}
+use Rattle.buckets.specs.inner.Buckets.{latest, inBucket, Entered, entered}
 use Rattle.buckets.proofs.Latest.{latest-same}
 
 -- no number is entered

@@ -7,7 +7,7 @@ use native.Mathlib.Omega.{arith}
 use borrow.Author.Tests.{eqb-true, eqb-false}
 use lib.Dec.{eqb}
 use Rattle.lists.proofs.Tests.{test, cond-no}
-use Rattle.buckets.specs.Buckets.{latest}
+use Rattle.buckets.specs.inner.Buckets.{latest}
 
 pub latest-most : (p : ℕ → Bool) (n : ℕ) → latest p n ≤ n
 unfolding latest

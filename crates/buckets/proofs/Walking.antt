@@ -6,7 +6,7 @@ use mathlib.Core.Path.{_≡_, _∙_, ap}
 use native.Mathlib.Omega.{arith}
 use borrow.Author.Tests.{eqb-true}
 use lib.ListN.{length, getD}
-use Rattle.buckets.specs.Buckets.{latest, inBucket, Entered}
+use Rattle.buckets.specs.inner.Buckets.{latest, inBucket, Entered}
 use Rattle.buckets.proofs.Latest.{latest-most, latest-through, latest-fixed, latest-none, latest-before, latest-passes}
 
 -- a walk through the bucket h is at i, which is 0 or the number after one of the bucket; no number from i on passes the test p

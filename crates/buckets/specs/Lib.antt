@@ -1,2 +1,2 @@
 -- The table of buckets.
-pub mod Buckets
+pub mod inner

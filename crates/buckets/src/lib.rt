@@ -3,7 +3,7 @@
 ghost use mathlib.Core.Path.{_≡_};
 ghost use Prim.Native.Nat.{_+_, _≤_, _<_};
 ghost use lib.ListN.{length, getD};
-ghost use Rattle.buckets.specs.Buckets.{entered};
+ghost use Rattle.buckets.specs.inner.Buckets.{entered};
 
 // The number n, the next one, enters the bucket h.
 pub fn enter(t: &mut [usize], n: usize, h: usize)

@@ -1,3 +1,2 @@
 -- The definition of decimal digits.
 pub mod Decimal
-pub mod Examples

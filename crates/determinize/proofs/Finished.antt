@@ -15,7 +15,7 @@ use Rattle.lists.proofs.Tests.{test}
 use Rattle.automata.specs.Automaton.{Automaton, stay, Word, none, more, InBounds}
 use Rattle.automata.specs.WellFormed.{mostStates}
 use Rattle.search.specs.Search.{Graph, over, found}
-use Rattle.search.specs.Reached as graph
+use Rattle.search.proofs.Reached as graph
 use Rattle.search.proofs.Queue
 use Rattle.sets.specs.Sets.{Set, isEmpty}
 use Rattle.sets.proofs.Sets.{has-nil, empty-yes, empty-no}

@@ -17,7 +17,7 @@ use Rattle.sets.specs.Sets.{Set}
 use Rattle.words.specs.Simulation.{outgoing, step, startSet}
 use Rattle.ranges.specs.Cuts.{nextCut}
 use Rattle.determinize.specs.Determinize.{targets, someOf, subsets, table}
-use Rattle.determinize.specs.Notes.{add, meet}
+use Rattle.determinize.specs.inner.Notes.{add, meet}
 use Rattle.determinize.proofs.Tables.{meet-extends}
 use Rattle.determinize.proofs.Targets.{spanTargets, meet-start, meet-step, meet-end}
 

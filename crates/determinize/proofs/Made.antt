@@ -32,7 +32,8 @@ use Rattle.sheets.proofs.Meaning.{read-well}
 use Rattle.determinize.specs.declared.Determinized.{Determinized}
 use Rattle.determinize.specs.declared.Determinized.the-variants.{Sheet, Refused}
 use Rattle.determinize.specs.Determinize.{determinize}
-use Rattle.determinize.specs.Sheets.{SheetSize, sheetOutput, determinizedOf, labelled, determinizeSheet}
+use Rattle.determinize.specs.Sheets.{labelled, determinizeSheet}
+use Rattle.determinize.specs.inner.Sheets.{SheetSize, sheetOutput, determinizedOf}
 use Rattle.determinize.proofs.Theorems.{determinize-fits}
 
 module _ (s o l : List ℕ) (b : Bool) (f : b ≡ (ltb (length o) 10500 || ltb (length l) 16642)) where

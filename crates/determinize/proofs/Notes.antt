@@ -26,7 +26,7 @@ use Rattle.search.specs.Search.{found}
 use Rattle.ranges.proofs.Spans.{cut-stretch}
 use Rattle.words.proofs.Outgoing.{outgoing-nil, step-nil}
 use Rattle.determinize.specs.Determinize.{table, states, transitionOf, transitionsOf, transitionsFrom}
-use Rattle.determinize.specs.Notes.{number, noteOf, notesOf, notesFrom, sinkNotes, settle}
+use Rattle.determinize.specs.inner.Notes.{number, noteOf, notesOf, notesFrom, sinkNotes, settle}
 use Rattle.determinize.proofs.Finished.{table-few, table-closed}
 use Rattle.determinize.proofs.Runs.{sink-index}
 use Rattle.determinize.proofs.Sink.{cut-nothing}

@@ -16,14 +16,14 @@ use Rattle.automata.specs.Automaton.{Transition}
 use Rattle.automata.specs.Records.{writeRecords}
 use Rattle.lists.specs.Index.{index, same}
 use Rattle.sets.specs.Sets.{Set, isEmpty}
-use Rattle.sets.specs.BitSet.{setAt, entries}
-use Rattle.sets.specs.Words.{putAt}
+use Rattle.sets.specs.inner.BitSet.{setAt, entries}
+use Rattle.sets.specs.inner.Words.{putAt}
 use Rattle.sets.proofs.Sets.{empty-yes, empty-no}
 use Rattle.sets.proofs.BitSet.{length-entries}
 use Rattle.sets.proofs.Stores.{entries-put}
 use Rattle.ranges.specs.Cuts.{nextCut}
 use Rattle.ranges.proofs.Cuts.{next-le, next-gt}
-use Rattle.determinize.specs.Notes.{number, sinkNotes, Placed, add}
+use Rattle.determinize.specs.inner.Notes.{number, sinkNotes, Placed, add}
 use Rattle.determinize.proofs.Tables.{add-empty, add-known, add-new}
 use Rattle.determinize.proofs.Notes.{index-end}
 

@@ -11,20 +11,21 @@ use Rattle.lists.proofs.Written.{written-append}
 use Rattle.automata.specs.Automaton.{Automaton}
 use Rattle.automata.specs.Records.{writeRecords}
 use Rattle.automata.proofs.Records.{write-append}
-use Rattle.sets.specs.Sets.{Set, Canon}
-use Rattle.sets.specs.BitSet.{setAt, entries}
-use Rattle.sets.specs.Words.{putAt}
+use Rattle.sets.specs.Sets.{Set}
+use Rattle.sets.specs.inner.Members.{Canon}
+use Rattle.sets.specs.inner.BitSet.{setAt, entries}
+use Rattle.sets.specs.inner.Words.{putAt}
 use Rattle.sets.proofs.BitSet.{entry-at, length-entries}
 use Rattle.sets.proofs.Stores.{put-same}
 use Rattle.sheets.specs.Sheet.{stateCount, read}
 use Rattle.words.specs.Simulation.{startSet}
-use Rattle.words.specs.Gather.{Tables}
+use Rattle.words.specs.inner.Gather.{Tables}
 use Rattle.words.proofs.Answers.{start-canon}
 use Rattle.lists.proofs.Members.{at-in}
 use Rattle.determinize.specs.declared.Progress.{Progress}
 use Rattle.determinize.specs.declared.Progress.the-variants.{Sets, Over}
 use Rattle.determinize.specs.Determinize.{targets, table, states}
-use Rattle.determinize.specs.Notes.{notesOf, notesFrom, sinkNotes, Canonical, SpansVisited, SetVisited, Explored}
+use Rattle.determinize.specs.inner.Notes.{notesOf, notesFrom, sinkNotes, Canonical, SpansVisited, SetVisited, Explored}
 use Rattle.determinize.proofs.Tables.{meet-extends}
 use Rattle.determinize.proofs.Laws.{queue-begins, queue-next, queue-ended, queue-full, queue}
 use Rattle.lists.proofs.Left.{Left, left-start, left-done, left-next}

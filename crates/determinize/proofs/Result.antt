@@ -13,7 +13,8 @@ use Rattle.lists.proofs.Lists.{keep-append, keep-none, keep-all, keep-map, keep
 use Rattle.automata.specs.Automaton.{Transition, Automaton, holds, carries, leaving}
 use Rattle.sets.specs.Sets.{Set}
 use Rattle.words.specs.Simulation.{outgoing, kindOf}
-use Rattle.ranges.specs.Span.{Span, inside}
+use Rattle.ranges.specs.Span.{Span}
+use Rattle.ranges.proofs.Inside.{inside}
 use Rattle.ranges.specs.Cuts.{cutAll}
 use Rattle.lists.proofs.Members.{map-out}
 use Rattle.ranges.proofs.Spans.{containing}

@@ -14,16 +14,17 @@ use Rattle.lists.specs.Written.{Written}
 use Rattle.lists.proofs.Lists.{tabulate-end}
 use Rattle.lists.proofs.Written.{written-none, written-append, written-length}
 use Rattle.automata.specs.Automaton.{Transition, Automaton}
-use Rattle.automata.specs.Records.{recordAt, readRecords, writeRecords}
+use Rattle.automata.specs.Records.{readRecords, writeRecords}
+use Rattle.automata.specs.inner.Records.{recordAt}
 use Rattle.automata.proofs.Records.{records-at, records-end, part-record}
 use Rattle.sets.specs.Sets.{Set}
-use Rattle.sets.specs.BitSet.{setAt, entries}
-use Rattle.sets.specs.Words.{putAt}
+use Rattle.sets.specs.inner.BitSet.{setAt, entries}
+use Rattle.sets.specs.inner.Words.{putAt}
 use Rattle.sets.proofs.BitSet.{length-entries}
 use Rattle.sheets.specs.Sheet.{write}
 use Rattle.words.specs.Simulation.{kindOf}
-use Rattle.determinize.specs.Notes.{settle}
-use Rattle.determinize.specs.Sheets.{automatonOf}
+use Rattle.determinize.specs.inner.Notes.{settle}
+use Rattle.determinize.specs.inner.Sheets.{automatonOf}
 use Rattle.lists.proofs.Left.{Left, left-start, left-done, left-next}
 use Rattle.determinize.proofs.Queued.{row-at, row-canon}
 

@@ -12,9 +12,9 @@ use Rattle.automata.specs.Automaton.{Transition, Automaton, InBounds}
 use Rattle.automata.specs.Records.{readRecords, writeRecords}
 use Rattle.automata.proofs.Records.{read-write, length-write}
 use Rattle.sets.specs.Sets.{Set}
-use Rattle.sets.specs.BitSet.{entries}
+use Rattle.sets.specs.inner.BitSet.{entries}
 use Rattle.sets.proofs.BitSet.{length-entries}
-use Rattle.sheets.specs.Accepted.{Accepted}
+use Rattle.sheets.specs.inner.Accepted.{Accepted}
 use Rattle.sheets.specs.Sheet.{stateCount, read, write}
 use Rattle.sheets.proofs.Meaning.{read-well}
 use Rattle.words.specs.Simulation.{kindOf}
@@ -23,8 +23,8 @@ use Rattle.determinize.specs.declared.Progress.{Progress}
 use Rattle.determinize.specs.declared.Progress.the-variants.{Sets, Over}
 use Rattle.determinize.specs.declared.Determinized.the-variants.{Sheet, Refused}
 use Rattle.determinize.specs.Determinize.{states, built, determinize}
-use Rattle.determinize.specs.Notes.{notesFrom, settle, Canonical, TableFinished, Explored}
-use Rattle.determinize.specs.Sheets.{automatonOf, sheetOutput, determinizedOf}
+use Rattle.determinize.specs.inner.Notes.{notesFrom, settle, Canonical, TableFinished, Explored}
+use Rattle.determinize.specs.inner.Sheets.{automatonOf, sheetOutput, determinizedOf}
 use Rattle.determinize.proofs.Answers.{answer-over, answer-many, answer-given}
 use Rattle.determinize.proofs.Notes.{settle-states}
 

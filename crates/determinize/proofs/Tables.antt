@@ -14,7 +14,7 @@ use Rattle.lists.proofs.Index.{same-decides}
 use Rattle.sets.specs.Sets.{Set, isEmpty}
 use Rattle.sets.proofs.Tables.{In}
 use Rattle.determinize.specs.Determinize.{someOf}
-use Rattle.determinize.specs.Notes.{add, meet}
+use Rattle.determinize.specs.inner.Notes.{add, meet}
 
 -- meeting sets
 pub meet-nil : (T : List Set) → meet [] T ≡ T

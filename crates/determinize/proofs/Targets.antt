@@ -19,7 +19,7 @@ use Rattle.lists.proofs.Members.{map-in, map-out}
 use Rattle.ranges.proofs.Spans.{cut-stretch, cut-alike, containing}
 use Rattle.determinize.specs.Partition.{partOf, partition}
 use Rattle.determinize.specs.Determinize.{targets}
-use Rattle.determinize.specs.Notes.{add, meet}
+use Rattle.determinize.specs.inner.Notes.{add, meet}
 use Rattle.determinize.specs.Reached.{Reached}
 use Rattle.determinize.proofs.Steps.{step-alike, step-free, simulate-end}
 use Rattle.determinize.proofs.Tables.{meet-nil, meet-cons, add-empty}

@@ -8,19 +8,20 @@ use borrow.Author.Needs.{needs}
 use Rattle.lists.specs.Written.{Written}
 use Rattle.automata.specs.Automaton.{Automaton}
 use Rattle.automata.specs.Records.{writeRecords}
-use Rattle.sets.specs.Sets.{Set, Canon}
-use Rattle.sets.specs.BitSet.{setAt, entries}
+use Rattle.sets.specs.Sets.{Set}
+use Rattle.sets.specs.inner.Members.{Canon}
+use Rattle.sets.specs.inner.BitSet.{setAt, entries}
 use Rattle.sets.proofs.BitSet.{length-entries}
 use Rattle.sets.proofs.Tables.{In}
 use Rattle.sheets.specs.Sheet.{stateCount, read}
 use Rattle.sheets.proofs.Meaning.{read-well}
 use Rattle.words.specs.Simulation.{outgoing, step}
-use Rattle.words.specs.Gather.{Tables}
+use Rattle.words.specs.inner.Gather.{Tables}
 use Rattle.words.proofs.Stepping.{step-canon}
 use Rattle.ranges.specs.Cuts.{nextCut}
 use Rattle.determinize.specs.declared.Progress.the-variants.{Sets, Over}
 use Rattle.determinize.specs.Determinize.{targets, states}
-use Rattle.determinize.specs.Notes.{number, notesOf, Canonical, Placed, Visited, SetVisited, add, meet}
+use Rattle.determinize.specs.inner.Notes.{number, notesOf, Canonical, Placed, Visited, SetVisited, add, meet}
 use Rattle.determinize.proofs.Tables.{add-extends, add-in, meet-out}
 use Rattle.determinize.proofs.Targets.{spanTargets}
 use Rattle.determinize.proofs.Laws.{meet-begins, meet-next, meet-ended, meet-full}

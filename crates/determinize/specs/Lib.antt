@@ -3,5 +3,5 @@ pub mod Partition
 pub mod Determinize
 pub mod Sink
 pub mod Reached
-pub mod Notes
 pub mod Sheets
+pub mod inner

@@ -7,13 +7,13 @@ ghost use Prim.Native.Nat.{_+_, _-_, _*_, _≤_, _<_};
 ghost use lib.ListN.{length, getD};
 ghost use Rattle.lists.specs.Written.{Written};
 ghost use Rattle.automata.specs.Records.{writeRecords};
-ghost use Rattle.sets.specs.Sets.{Canon};
-ghost use Rattle.sets.specs.BitSet.{setAt, entries};
+ghost use Rattle.sets.specs.inner.Members.{Canon};
+ghost use Rattle.sets.specs.inner.BitSet.{setAt, entries};
 ghost use Rattle.sheets.specs.Sheet.{stateCount, read};
 ghost use Rattle.words.specs.Simulation.{outgoing, step, startSet};
-ghost use Rattle.words.specs.Gather.{Tables};
+ghost use Rattle.words.specs.inner.Gather.{Tables};
 ghost use Rattle.ranges.specs.Cuts.{nextCut};
-ghost use Rattle.determinize.specs.Notes.{sinkNotes, Canonical, Placed, Visited, SetVisited, Explored};
+ghost use Rattle.determinize.specs.inner.Notes.{sinkNotes, Canonical, Placed, Visited, SetVisited, Explored};
 use crate::Progress;
 
 // Where a set stands in the table, and how many sets the table has.

@@ -3,12 +3,13 @@
 ghost use mathlib.Core.Path.{_≡_};
 ghost use Prim.Native.Nat.{_≤_};
 ghost use lib.ListN.{length};
-ghost use Rattle.sheets.specs.Accepted.{Accepted};
+ghost use Rattle.sheets.specs.inner.Accepted.{Accepted};
 ghost use Rattle.sheets.specs.Sheet.{read};
 ghost use Rattle.output.specs.Made.{outputOf};
 ghost use Rattle.output.specs.Output.{outputs};
 ghost use Rattle.determinize.specs.Determinize.{determinize};
-ghost use Rattle.determinize.specs.Sheets.{determinizedOf, sheetOutput, determinizeSheet};
+ghost use Rattle.determinize.specs.Sheets.{determinizeSheet};
+ghost use Rattle.determinize.specs.inner.Sheets.{determinizedOf, sheetOutput};
 use output::Made;
 use refusal::Refusal;
 use refusal::StateRefusal;

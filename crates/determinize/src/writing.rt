@@ -4,13 +4,14 @@ ghost use mathlib.Core.Path.{_≡_};
 ghost use Prim.Native.Nat.{_+_, _*_, _≤_, _<_};
 ghost use lib.ListN.{length};
 ghost use Rattle.lists.specs.Written.{Written};
-ghost use Rattle.automata.specs.Records.{recordAt, readRecords, writeRecords};
-ghost use Rattle.sets.specs.BitSet.{setAt, entries};
-ghost use Rattle.sheets.specs.Accepted.{Accepted};
+ghost use Rattle.automata.specs.Records.{readRecords, writeRecords};
+ghost use Rattle.automata.specs.inner.Records.{recordAt};
+ghost use Rattle.sets.specs.inner.BitSet.{setAt, entries};
+ghost use Rattle.sheets.specs.inner.Accepted.{Accepted};
 ghost use Rattle.sheets.specs.Sheet.{stateCount, read, write};
 ghost use Rattle.words.specs.Simulation.{kindOf};
-ghost use Rattle.determinize.specs.Notes.{settle, Canonical};
-ghost use Rattle.determinize.specs.Sheets.{automatonOf};
+ghost use Rattle.determinize.specs.inner.Notes.{settle, Canonical};
+ghost use Rattle.determinize.specs.inner.Sheets.{automatonOf};
 
 // The accept word of the set in row j of the table.
 fn accept_word(s: &[u32], table: &[u64], n: usize, j: usize) -> u32

@@ -5,7 +5,8 @@ use mathlib.Core.Path.{_≡_, refl, sym, ap, _∙_}
 use mathlib.Core.Logic.{_⊎_, inl, inr}
 use native.Mathlib.Decide.{ℕ-discrete}
 use native.Mathlib.Omega.{arith}
-use Rattle.dsu.specs.Classes.{Classes, none, old, new, Joined, before, across, back, Ker}
+use Rattle.dsu.specs.Classes.{Classes, none, old, new, Joined, before, across, back}
+use Rattle.dsu.specs.inner.Generated.{Ker}
 use Rattle.dsu.proofs.Count.{Merged}
 
 pub classes-unique : {R : ℕ → ℕ → Type 0} {n j k : ℕ} → Classes R n j → Classes R n k → j ≡ k

@@ -15,7 +15,7 @@ use Rattle.dsu.specs.declared.Found.the-variants.{Root, Refused}
 use Rattle.dsu.specs.declared.DSU.{DSU}
 use Rattle.dsu.specs.declared.FindAnswer.{FindAnswer}
 use Rattle.dsu.specs.Sets.{Way, broken, reached, point, way, changed, foundBy, findOf}
-use Rattle.dsu.specs.Steps.{Met, climbed, answered}
+use Rattle.dsu.specs.inner.Steps.{Met, climbed, answered}
 use Rattle.dsu.proofs.Ways.{seen-many, seen-none, seen-over, seen-top, seen-outside, seen-small, seen-up, way-fault, way-top, way-up}
 
 -- an answer and the parents with it

@@ -3,7 +3,8 @@
 use Prim.Native.Nat.{ℕ, _+_, _≤_, _<_}
 use mathlib.Core.Path.{_≡_, sym, subst, _∙_}
 use native.Mathlib.Omega.{arith}
-use Rattle.dsu.specs.Classes.{Classes, none, old, new, Joined, before, across, back, Ker, Merges, Generated, pair, same, turn, chain, Spanned}
+use Rattle.dsu.specs.Classes.{Classes, none, old, new, Joined, before, across, back}
+use Rattle.dsu.specs.inner.Generated.{Ker, Merges, Generated, pair, same, turn, chain, Spanned}
 use Rattle.dsu.proofs.Classes.{classes-moved}
 
 -- some number, some class

@@ -6,8 +6,8 @@ use native.Mathlib.Decide.{ℕ-discrete}
 use native.Mathlib.Omega.{arith}
 use lib.ListN.{length, getD, set, length-set}
 use lib.Seq.{getD-set-same, getD-set-other}
-use Rattle.dsu.specs.Sets.{setsOf}
-use Rattle.dsu.specs.Steps.{Met}
+use Rattle.dsu.specs.inner.Lent.{setsOf}
+use Rattle.dsu.specs.inner.Steps.{Met}
 use Rattle.dsu.specs.Laws.{classOf, count, Valid}
 use Rattle.dsu.proofs.Count.{count-cong}
 use Rattle.dsu.proofs.Leads.{Leads, here, above, after, leads-start, leads-end, leads-lt, leads-class, pointed-leads, end-apart, after-leads}

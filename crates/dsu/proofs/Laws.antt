@@ -14,8 +14,9 @@ use Rattle.dsu.specs.declared.FindAnswer.{FindAnswer}
 use Rattle.dsu.specs.declared.Answer.{Answer}
 use Rattle.dsu.specs.declared.United.{United}
 use Rattle.dsu.specs.declared.United.the-variants as united
-use Rattle.dsu.specs.Sets.{setsOf, findOf, After, under, join, unionIn, madeOf, unionOf, upTo, fresh, newOf}
-use Rattle.dsu.specs.Steps.{Met}
+use Rattle.dsu.specs.Sets.{findOf, After, under, join, unionIn, madeOf, unionOf, upTo, fresh, newOf}
+use Rattle.dsu.specs.inner.Lent.{setsOf}
+use Rattle.dsu.specs.inner.Steps.{Met}
 use Rattle.dsu.specs.Classes.{Classes, before}
 use Rattle.dsu.specs.Laws.{classOf, Same, Valid, NewLaw, FindLaw, UnionLaw}
 use Rattle.dsu.proofs.Count.{count-one}

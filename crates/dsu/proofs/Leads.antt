@@ -10,8 +10,9 @@ use lib.Seq.{getD-set-same, getD-set-other}
 use borrow.Author.Tests.{lt-leb}
 use Rattle.dsu.specs.declared.Found.the-variants.{Root}
 use Rattle.dsu.specs.declared.FindAnswer.{FindAnswer}
-use Rattle.dsu.specs.Sets.{Seen, top, up, fault, seen, Way, broken, reached, point, onward, walk, way, setsOf, findOf}
-use Rattle.dsu.specs.Steps.{Met}
+use Rattle.dsu.specs.Sets.{Seen, top, up, fault, seen, Way, broken, reached, point, onward, walk, way, findOf}
+use Rattle.dsu.specs.inner.Lent.{setsOf}
+use Rattle.dsu.specs.inner.Steps.{Met}
 use Rattle.dsu.specs.Laws.{rootOf, classOf}
 use Rattle.dsu.proofs.Ways.{Higher, seen-top, seen-up, at-top, at-up, way-top, way-up}
 

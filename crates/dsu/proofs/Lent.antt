@@ -7,8 +7,9 @@ use Rattle.refusal.specs.declared.StateRefusal.{StateRefusal}
 use Rattle.dsu.specs.declared.DSU.{DSU}
 use Rattle.dsu.specs.declared.United.{United}
 use Rattle.dsu.specs.declared.United.the-variants.{Apart, Together, Refused}
-use Rattle.dsu.specs.Sets.{setsOf, After, unionIn}
-use Rattle.dsu.specs.Laws.{Valid, JoinLaw, old, new}
+use Rattle.dsu.specs.Sets.{After, unionIn}
+use Rattle.dsu.specs.inner.Lent.{setsOf, JoinLaw, old, new}
+use Rattle.dsu.specs.Laws.{Valid}
 use Rattle.dsu.proofs.Classes.{classes-fewer}
 use Rattle.dsu.proofs.Laws.{Unites, UnitesIn, union-unites}
 

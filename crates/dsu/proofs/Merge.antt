@@ -7,8 +7,8 @@ use native.Mathlib.Decide.{ℕ-discrete}
 use native.Mathlib.Omega.{arith}
 use lib.ListN.{length, getD, set, length-set}
 use lib.Seq.{getD-set-same, getD-set-other}
-use Rattle.dsu.specs.Sets.{setsOf}
-use Rattle.dsu.specs.Steps.{Met}
+use Rattle.dsu.specs.inner.Lent.{setsOf}
+use Rattle.dsu.specs.inner.Steps.{Met}
 use Rattle.dsu.specs.Laws.{classOf, count, Valid}
 use Rattle.dsu.proofs.Ways.{Higher}
 use Rattle.dsu.proofs.Count.{count-two, Merged, count-win, count-rest}

@@ -8,7 +8,7 @@ use lib.Dec.{leb, ltb, eqb}
 use lib.ListN.{getD}
 use borrow.Author.Tests.{lt-ltb, le-ltb, le-leb, lt-leb, eq-eqb, ne-eqb, ltb-false, leb-false, eqb-true, eqb-false}
 use Rattle.dsu.specs.Sets.{Seen, top, up, fault, seen, broken, reached, point, onward, walk, way}
-use Rattle.dsu.specs.Steps.{Met}
+use Rattle.dsu.specs.inner.Steps.{Met}
 
 cond-same : {A : Type 0} (b : Bool) (a : A) → cond b a a ≡ a
 cond-same true a = refl

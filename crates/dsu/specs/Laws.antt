@@ -2,7 +2,7 @@
 -- The arrays are named in `Valid` only, and no proof above this crate opens it.
 use Prim.Native.Nat.{ℕ, zero, suc, _+_, _≤_, _<_}
 use mathlib.Core.Path.{_≡_}
-use mathlib.Core.Bool.{Bool, true, false, cond}
+use mathlib.Core.Bool.{cond}
 use lib.Dec.{eqb}
 use lib.ListN.{length, getD}
 use Rattle.dsu.specs.declared.DSU.{DSU}
@@ -12,7 +12,7 @@ use Rattle.dsu.specs.declared.FindAnswer.{FindAnswer}
 use Rattle.dsu.specs.declared.Outcome.the-variants.{Done}
 use Rattle.dsu.specs.declared.Answer.{Answer}
 use Rattle.dsu.specs.Sets.{findOf}
-use Rattle.dsu.specs.Classes.{Classes, Joined, Merges}
+use Rattle.dsu.specs.Classes.{Classes, Joined}
 
 -- the representative in an answer; 512, which is no element, in a refusal
 abbrev pub rootOf : Found → ℕ
@@ -71,8 +71,3 @@ pub record UnionLaw (d : DSU) (x y : ℕ) (r : Answer) : Type 0 where
   pub only : (p q : ℕ) → p < d .n → q < d .n → Same (r .sets) p q → Joined (Same d) x y p q
   pub fewer : (Same d x y → ⊥) → (k : ℕ) → Classes (Same d) (d .n) k → (j : ℕ) × (k ≡ suc j) × Classes (Same (r .sets)) (d .n) j
   pub as-many : Same d x y → (k : ℕ) → Classes (Same d) (d .n) k → Classes (Same (r .sets)) (d .n) k
-
--- e is d after a `join_in` of x and y, which says whether the two were apart: they were not, and no class changed; or they were, and their classes are one now
-pub data JoinLaw (d e : DSU) (x y : ℕ) : Bool → Type 0 where
-  old : Valid e → e .n ≡ d .n → Same d x y → ((z : ℕ) → z < d .n → classOf e z ≡ classOf d z) → JoinLaw d e x y false
-  new : Valid e → e .n ≡ d .n → Merges (d .n) (classOf d) (classOf e) x y → JoinLaw d e x y true

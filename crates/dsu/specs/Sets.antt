@@ -56,10 +56,6 @@ walk (suc k) repr size n x = let above = walk k repr size n (getD repr x 0) in o
 unfoldable pub way : List ℕ → List ℕ → ℕ → ℕ → Way
 way repr size n x = walk (suc n) repr size n x
 
--- the sets with these parents and sizes
-abbrev pub setsOf : List ℕ → List ℕ → ℕ → DSU
-setsOf repr size n = record { repr = repr; size = size; n = n }
-
 -- the sets d with other parents and sizes
 abbrev pub changed : DSU → List ℕ → List ℕ → DSU
 changed d repr size = record { repr = repr; size = size; n = d .n }

@@ -3,9 +3,10 @@ ghost use mathlib.Core.Path.{_≡_};
 ghost use mathlib.Core.List.{List};
 ghost use Prim.Native.Nat.{ℕ, _<_};
 ghost use Rattle.dsu.specs.declared.Found.{Found};
-ghost use Rattle.dsu.specs.Sets.{way, setsOf, After, join, unionIn, newOf, findOf, unionOf};
-ghost use Rattle.dsu.specs.Steps.{Met, Roots, answered, climbed};
-ghost use Rattle.dsu.specs.Laws.{Valid, JoinLaw};
+ghost use Rattle.dsu.specs.Sets.{way, After, join, unionIn, newOf, findOf, unionOf};
+ghost use Rattle.dsu.specs.inner.Lent.{setsOf, JoinLaw};
+ghost use Rattle.dsu.specs.inner.Steps.{Met, Roots, answered, climbed};
+ghost use Rattle.dsu.specs.Laws.{Valid};
 use refusal::StateRefusal;
 
 pub struct DSU {

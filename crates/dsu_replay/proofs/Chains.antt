@@ -9,7 +9,8 @@ use lib.Seq.{take-all, take-suc-set}
 use borrow.Author.Needs.{needs}
 use Rattle.dsu.specs.declared.DSU.{DSU}
 use Rattle.dsu.specs.declared.Answer.{Answer}
-use Rattle.dsu.specs.Sets.{setsOf, newOf}
+use Rattle.dsu.specs.Sets.{newOf}
+use Rattle.dsu.specs.inner.Lent.{setsOf}
 use Rattle.dsu_replay.specs.Values.{oneTo, chainTo, withOne}
 
 -- the first i words are 1, 2, .., i

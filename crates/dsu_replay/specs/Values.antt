@@ -3,7 +3,8 @@ use Prim.Native.Nat.{ℕ, zero, suc}
 use mathlib.Core.List.{List, [], _∷_, _++_}
 use lib.ListN.{set}
 use Rattle.dsu.specs.declared.DSU.{DSU}
-use Rattle.dsu.specs.Sets.{setsOf, fresh}
+use Rattle.dsu.specs.Sets.{fresh}
+use Rattle.dsu.specs.inner.Lent.{setsOf}
 
 -- 1, 2, .., n
 unfoldable pub oneTo : ℕ → List ℕ

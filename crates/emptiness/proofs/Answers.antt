@@ -16,14 +16,15 @@ use Rattle.automata.specs.Automaton.{Automaton}
 use Rattle.refusal.specs.Answer.{given, refused}
 use Rattle.refusal.specs.Number.{inputNumber}
 use Rattle.refusal.specs.declared.InputRefusal.{InputRefusal}
-use Rattle.sets.specs.BitSet.{setAt}
-use Rattle.sets.specs.Sets.{Set, Canon}
+use Rattle.sets.specs.inner.BitSet.{setAt}
+use Rattle.sets.specs.Sets.{Set}
+use Rattle.sets.specs.inner.Members.{Canon}
 use Rattle.sets.proofs.BitSet.{fresh-at}
 use Rattle.sets.proofs.Sets.{mem-has, has-mem}
-use Rattle.sheets.specs.Accepted
+use Rattle.sheets.specs.inner.Accepted
 use Rattle.sheets.specs.Checked.{checkedNumber}
 use Rattle.sheets.specs.Fault.{fault}
-use Rattle.sheets.specs.Runs.{startsOf}
+use Rattle.sheets.specs.inner.Runs.{startsOf}
 use Rattle.sheets.specs.Sheet.{stateCount, read}
 use Rattle.sheets.specs.declared.Checked.{Checked}
 use Rattle.sheets.specs.declared.Checked.the-variants.{Accepted, Refused}
@@ -33,7 +34,7 @@ use Rattle.sheets.proofs.Meaning.{read-well}
 use Rattle.sheets.proofs.Runs.{starts-indexed}
 use Rattle.words.specs.Simulation.{kindOf}
 use Rattle.words.proofs.Kind.{kindOf-least, kindOf-some}
-use Rattle.emptiness.specs.Queue.{Ready}
+use Rattle.emptiness.specs.inner.Queue.{Ready}
 use Rattle.emptiness.specs.Reachable.{reachable, hasReachableAccepting, reachableAnswer}
 use Rattle.emptiness.proofs.Paths.{reachable-canon}
 

@@ -8,7 +8,8 @@ use native.Mathlib.Omega.{arith}
 use Rattle.lists.specs.Lists.{_∈_}
 use Rattle.automata.specs.Automaton.{Transition, Automaton, Run, InBounds}
 use Rattle.automata.specs.Automaton as runs
-use Rattle.sets.specs.Sets.{has, Canon}
+use Rattle.sets.specs.Sets.{has}
+use Rattle.sets.specs.inner.Members.{Canon}
 use Rattle.words.proofs.Closures.{closure-sound, closure-complete, closure-canon}
 use Rattle.emptiness.specs.Reachable.{Path, stay, follow, unlabelled, freed, reachable}
 

@@ -14,18 +14,20 @@ use lib.ListN.{length, getD, take, drop, set, length-set}
 use lib.Seq.{getD-set-same, getD-set-other}
 use Rattle.lists.proofs.Tests.{test, or-cases, or-left, or-right}
 use Rattle.automata.specs.Automaton.{Transition}
-use Rattle.automata.specs.Records.{readRecords, recordAt}
+use Rattle.automata.specs.Records.{readRecords}
+use Rattle.automata.specs.inner.Records.{recordAt}
 use Rattle.automata.proofs.Records.{records-at, records-end, part-record}
-use Rattle.sets.specs.Sets.{Set, has, pickFrom, pick, Canon}
-use Rattle.sets.specs.BitSet.{setAt}
-use Rattle.sets.specs.Words.{insertAt}
+use Rattle.sets.specs.Sets.{Set, has, pickFrom, pick}
+use Rattle.sets.specs.inner.Members.{Canon}
+use Rattle.sets.specs.inner.BitSet.{setAt}
+use Rattle.sets.specs.inner.Words.{insertAt}
 use Rattle.sets.proofs.Sets.{pick-ext, pick-out, picked, has-below}
 use Rattle.sets.proofs.BitSet.{at-canon}
 use Rattle.sets.proofs.Stores.{inserted, length-insert}
-use Rattle.words.specs.Gather.{withAll}
+use Rattle.words.specs.inner.Gather.{withAll}
 use Rattle.sheets.proofs.Named.{named-to, named-next}
 use Rattle.words.proofs.Gather.{all-none, all-cons, all-one}
-use Rattle.emptiness.specs.Queue.{leadsTo, Line, Longer, Met, Left}
+use Rattle.emptiness.specs.inner.Queue.{leadsTo, Line, Longer, Met, Left}
 
 -- how many a set has
 picked-most : (k n : ℕ) (P : ℕ → Bool) → length (pickFrom k n P) ≤ n

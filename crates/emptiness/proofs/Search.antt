@@ -16,18 +16,18 @@ use Rattle.automata.specs.Automaton.{Transition, Automaton, InBounds, leaving}
 use Rattle.automata.specs.Records.{readRecords, writeRecords}
 use Rattle.automata.proofs.Records.{read-write}
 use Rattle.sets.specs.Sets.{has}
-use Rattle.sets.specs.BitSet.{setAt}
-use Rattle.sets.specs.Words.{insertAt}
+use Rattle.sets.specs.inner.BitSet.{setAt}
+use Rattle.sets.specs.inner.Words.{insertAt}
 use Rattle.sets.proofs.Sets.{has-nil, pick-out, picked, has-below, canon-wide, set-ext}
 use Rattle.sets.proofs.BitSet.{at-canon}
-use Rattle.sheets.specs.Accepted.{Accepted}
-use Rattle.sheets.specs.Runs.{RunAt}
+use Rattle.sheets.specs.inner.Accepted.{Accepted}
+use Rattle.sheets.specs.inner.Runs.{RunAt}
 use Rattle.sheets.specs.Sheet.{stateCount, read}
 use Rattle.sheets.proofs.Meaning.{read-well}
 use Rattle.sheets.proofs.Named.{run-named}
 use Rattle.sheets.proofs.Runs.{run-at}
-use Rattle.words.specs.Gather.{withAll}
-use Rattle.emptiness.specs.Queue.{leadsTo, Line, Met, Searched, Ready}
+use Rattle.words.specs.inner.Gather.{withAll}
+use Rattle.emptiness.specs.inner.Queue.{leadsTo, Line, Met, Searched, Ready}
 use Rattle.emptiness.specs.Reachable.{Path, stay, follow, reachable}
 use Rattle.emptiness.proofs.Paths.{reachable-path, reachable-canon}
 use Rattle.emptiness.proofs.Queue.{met-new}

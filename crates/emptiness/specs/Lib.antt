@@ -1,3 +1,3 @@
 -- Emptiness.
 pub mod Reachable
-pub mod Queue
+pub mod inner

@@ -13,11 +13,12 @@ use Rattle.lists.proofs.Written.{written-length}
 use Rattle.automata.specs.Automaton.{states}
 use Rattle.automata.specs.WellFormed.{mostTransitions}
 use Rattle.labels.specs.Checked as labelCheck
-use Rattle.labels.specs.Labels.{labelsFault, readLabels, writeLabels, LabelList, labelCount}
+use Rattle.labels.specs.Labels.{labelsFault, readLabels, writeLabels, labelCount}
+use Rattle.labels.specs.inner.Places.{LabelList}
 use Rattle.labels.specs.declared.Checked as labelled
 use Rattle.labels.specs.declared.Checked.the-variants as labelAnswer
 use Rattle.labels.proofs.Labels.{label-list, count-read}
-use Rattle.output.specs.Gathering.{Collected}
+use Rattle.output.specs.inner.Gathering.{Collected}
 use Rattle.output.specs.Made.{outputOf}
 use Rattle.output.specs.Output.{Output, Pattern, outputs, roomFirst, labelsFirst, transitionsFirst}
 use Rattle.output.specs.declared.Made.the-variants.{Lengths, Refused}
@@ -26,7 +27,7 @@ use Rattle.refusal.specs.Answer.{Answer}
 use Rattle.refusal.specs.declared.InputRefusal.{InputRefusal}
 use Rattle.refusal.specs.declared.Refusal.the-variants.{Input, State}
 use Rattle.refusal.specs.declared.StateRefusal.the-variants.{OutputLength, Transitions}
-use Rattle.sheets.specs.Accepted.{Accepted}
+use Rattle.sheets.specs.inner.Accepted.{Accepted}
 use Rattle.sheets.specs.Checked.{checkedNumber}
 use Rattle.sheets.specs.declared.Checked.{Checked}
 use Rattle.sheets.specs.declared.Checked.the-variants as sheetAnswer
@@ -36,7 +37,7 @@ use Rattle.sheets.proofs.Accepted.{check-accepted}
 use Rattle.sheets.proofs.Checking.{sheet-passed, sheet-refused}
 use Rattle.words.proofs.Epsilons.{fresh}
 use Rattle.epsilon.specs.Eliminate.{closureRanges, eliminated, eliminatedWith, eliminateAnswer}
-use Rattle.epsilon.specs.Tables.{TransitionsOf, Ready}
+use Rattle.epsilon.specs.inner.Tables.{TransitionsOf, Ready}
 
 -- the transitions of all states are gathered
 module _ (s : List ℕ) (a : Accepted s) (buf : List ℕ) (end : ℕ) (t : Collected buf end (flatMap (closureRanges (read s)) (states (stateCount s)))) where

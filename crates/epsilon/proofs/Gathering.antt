@@ -10,29 +10,31 @@ use lib.Dec.{eqb}
 use lib.ListN.{length, getD, take, drop}
 use Rattle.lists.specs.Lists.{keep}
 use Rattle.automata.specs.Automaton.{Transition, states, leaving, rangesOf}
-use Rattle.automata.specs.Records.{readRecords, writeRecords, recordAt}
+use Rattle.automata.specs.Records.{readRecords, writeRecords}
+use Rattle.automata.specs.inner.Records.{recordAt}
 use Rattle.automata.proofs.States.{states-at, states-end}
 use Rattle.automata.proofs.Records.{records-at, records-end, part-record, read-write}
-use Rattle.output.specs.Gathering.{Open, Gathered, Rest}
-use Rattle.output.specs.Ordered.{recordsIn}
+use Rattle.output.specs.inner.Gathering.{Open, Gathered, Rest}
+use Rattle.output.specs.inner.Ordered.{recordsIn}
 use Rattle.output.proofs.Collecting.{gathered-same, rest-none, rest-begin, rest-end, rest-next, rest-over}
-use Rattle.sets.specs.Sets.{Set, Canon, membersFrom, nextMember}
-use Rattle.sets.specs.BitSet.{setAt}
-use Rattle.sets.specs.Words.{putAt}
+use Rattle.sets.specs.Sets.{Set}
+use Rattle.sets.specs.inner.Members.{Canon, membersFrom, nextMember}
+use Rattle.sets.specs.inner.BitSet.{setAt}
+use Rattle.sets.specs.inner.Words.{putAt}
 use Rattle.sets.proofs.BitSet.{at-canon, entry-at}
 use Rattle.sets.proofs.Members.{visit-start, visit-has, visit-next, from-end}
 use Rattle.sets.proofs.Sets.{has-below}
 use Rattle.sets.proofs.Stores.{put-same}
-use Rattle.sheets.specs.Runs.{RunAt}
+use Rattle.sheets.specs.inner.Runs.{RunAt}
 use Rattle.sheets.specs.Sheet.{stateCount, read}
 use Rattle.sheets.proofs.Meaning.{read-well}
 use Rattle.sheets.proofs.Runs.{run-at}
-use Rattle.words.specs.Gather.{Tables}
+use Rattle.words.specs.inner.Gather.{Tables}
 use Rattle.words.specs.Simulation.{closure}
 use Rattle.words.proofs.Closures.{closure-canon}
 use Rattle.words.proofs.Visiting.{member-here, member-later}
 use Rattle.epsilon.specs.Eliminate.{leavingFrom, movedTo, rangesFrom, closureRanges}
-use Rattle.epsilon.specs.Tables.{ClosuresOf}
+use Rattle.epsilon.specs.inner.Tables.{ClosuresOf}
 
 -- one record
 module _ (buf : List ℕ) (end p : ℕ) (r : Open buf end) (e : Transition) where

@@ -16,13 +16,13 @@ use Rattle.lists.proofs.Written.{written-none, written-append, written-length}
 use Rattle.automata.specs.Automaton.{Transition}
 use Rattle.automata.proofs.Records.{length-write}
 use Rattle.output.proofs.Collecting.{collect-all}
-use Rattle.sets.specs.BitSet.{setAt}
-use Rattle.sets.specs.Words.{putAt}
+use Rattle.sets.specs.inner.BitSet.{setAt}
+use Rattle.sets.specs.inner.Words.{putAt}
 use Rattle.sheets.specs.Sheet.{stateCount, read, write}
 use Rattle.words.specs.Simulation.{closure, kindOf}
 use Rattle.words.proofs.Reading.{begin-tables}
 use Rattle.epsilon.specs.Eliminate.{closureKinds, eliminated}
-use Rattle.epsilon.specs.Tables.{ClosuresOf, TransitionsOf}
+use Rattle.epsilon.specs.inner.Tables.{ClosuresOf, TransitionsOf}
 use Rattle.epsilon.proofs.Gathering.{row-inside, row-closure, row-canon}
 
 pub ruleset gatherLaws = (begin-tables, collect-all, needs)

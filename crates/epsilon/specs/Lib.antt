@@ -1,4 +1,4 @@
 -- Epsilon elimination.
 pub mod Eliminate
 pub mod Meaning
-pub mod Tables
+pub mod inner

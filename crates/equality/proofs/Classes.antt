@@ -3,7 +3,8 @@ use Prim.Native.Nat.{ℕ, zero, suc, _≤_, _<_}
 use mathlib.Core.Path.{_≡_, refl, sym, ap, _∙_}
 use native.Mathlib.Decide.{ℕ-discrete}
 use native.Mathlib.Omega.{arith}
-use Rattle.dsu.specs.Classes.{Classes, none, old, new, Ker}
+use Rattle.dsu.specs.Classes.{Classes, none, old, new}
+use Rattle.dsu.specs.inner.Generated.{Ker}
 use Rattle.dsu.proofs.Generated.{classes-positive}
 
 -- with no second class, all are in one

@@ -17,7 +17,7 @@ use Rattle.refusal.specs.Answer.{Answer, refused, given}
 use Rattle.refusal.specs.Number.{stateNumber, numberOf}
 use Rattle.sheets.specs.declared.Checked.{Checked}
 use Rattle.sheets.specs.declared.Checked.the-variants as checked
-use Rattle.sheets.specs.Accepted.{Accepted}
+use Rattle.sheets.specs.inner.Accepted.{Accepted}
 use Rattle.sheets.specs.Checked.{checkedNumber}
 use Rattle.sheets.specs.Fault.{fault}
 use Rattle.sheets.specs.Sheet.{read, write}
@@ -29,14 +29,14 @@ use Rattle.determinize.specs.declared.Determinized.the-variants.{Sheet}
 use Rattle.determinize.specs.declared.Determinized.the-variants as outcome
 use Rattle.automata.specs.Deterministic.{Deterministic}
 use Rattle.determinize.specs.Determinize.{determinize}
-use Rattle.determinize.specs.Sheets.{SheetSize, SheetOutput, sheetOutput, determinizedOf}
+use Rattle.determinize.specs.inner.Sheets.{SheetSize, SheetOutput, sheetOutput, determinizedOf}
 use Rattle.determinize.proofs.Theorems.{determinize-deterministic, determinize-written, determinize-read, determinize-room}
 use Rattle.equality.specs.declared.Verdict.{Verdict}
 use Rattle.equality.specs.declared.Verdict.the-variants.{Refused}
 use Rattle.equality.specs.Forced.{Two}
 use Rattle.equality.specs.Verdict.{Decided}
 use Rattle.equality.specs.Equality.{withSecond, withFirst, determinized, compared, Judged}
-use Rattle.equality.specs.Code.{twoOf}
+use Rattle.equality.specs.inner.Code.{twoOf}
 
 -- the sheet d is the determinization of the sheet s
 pub record Determinizes (low high : ℕ) (s d : List ℕ) : Type 0 where

@@ -5,8 +5,8 @@ use mathlib.Core.Path.{_≡_, sym, ap, subst, _∙_}
 use native.Mathlib.Omega.{arith}
 use lib.ListN.{length, getD, take, drop}
 use lib.Seq.{sets-eq, length-sets, take-at, drop-at, getD-take, getD-drop, length-take-le}
-use Rattle.equality.specs.Walking.{Pushed}
-use Rattle.equality.specs.Code.{queueOf, Stored}
+use Rattle.equality.specs.inner.Walking.{Pushed}
+use Rattle.equality.specs.inner.Code.{queueOf, Stored}
 
 module _ (l : List ℕ) (made i x p q : ℕ) (room : made < 512) (long : length l ≡ 2560) (l′ : List ℕ) (e : Stored l made i x p q l′) where
   abbrev words : List ℕ

@@ -2,7 +2,7 @@
 -- tells the two automata apart. Assumes nothing.
 use Prim.Native.Nat.{ℕ, _-_, _<_}
 use mathlib.Core.Path.{_≡_, refl, sym, subst, _∙_}
-use mathlib.Core.Bool.{Bool, true, false}
+use mathlib.Core.Bool.{Bool, true, false, cond}
 use mathlib.Core.List.{List, [], _∷_}
 use native.Mathlib.Omega.{arith}
 use lib.Dec.{ltb}
@@ -10,8 +10,11 @@ use borrow.Author.Tests.{lt-ltb, le-ltb, ltb-true, ltb-false}
 use Rattle.automata.specs.Automaton.{Automaton, Word, none, more, InBounds}
 use Rattle.automata.specs.Deterministic.{Deterministic}
 use Rattle.equality.specs.Successors.{successor, stateAfter, acceptOf, acceptAfter}
-use Rattle.equality.specs.Forced.{Two, Symbol, states, left, right, successorIn, acceptIn, Such, Forced, starts, follow, same, turn, chain}
+use Rattle.equality.specs.Forced.{Two, Symbol, states, left, right, successorIn, Such, Forced, starts, follow, same, turn, chain}
 use Rattle.equality.proofs.Successors.{next-inside}
+
+unfoldable pub acceptIn : Two → ℕ → ℕ
+acceptIn t p = cond (ltb p (t .one .size)) (acceptOf (t .one) p) (acceptOf (t .two) (p - t .one .size))
 
 -- the start is a state and so is every successor of a state
 pub record TotalOne (t : Two) (D : Automaton) : Type 0 where

@@ -7,7 +7,7 @@ use borrow.Author.Needs.{needs}
 use lib.ListN.{length, getD, drop}
 use Rattle.automata.specs.Automaton.{leaving, none}
 use Rattle.automata.specs.Records.{writeRecords}
-use Rattle.sheets.specs.Runs.{startsOf, RunAt}
+use Rattle.sheets.specs.inner.Runs.{startsOf, RunAt}
 use Rattle.sheets.specs.Sheet.{stateCount, read}
 use Rattle.sheets.proofs.Runs.{run-at, starts-indexed}
 use lib.Seq.{sets}
@@ -16,9 +16,9 @@ use Rattle.equality.specs.declared.pairs.Seen.the-variants.{Alike, Diffe
 use Rattle.equality.specs.declared.Verdict.the-variants.{Same, Different}
 use Rattle.equality.specs.Successors.{stateAfter, acceptOf}
 use Rattle.equality.specs.Forced.{states}
-use Rattle.equality.specs.Walking.{trail, Closed, Chained, Spelled}
+use Rattle.equality.specs.inner.Walking.{trail, Closed, Chained, Spelled}
 use Rattle.equality.specs.Verdict.{Decided}
-use Rattle.equality.specs.Code.{twoOf, Pairs, classes, queue, Begun, Ready, Saw, Given, Going}
+use Rattle.equality.specs.inner.Code.{twoOf, Pairs, classes, queue, Begun, Ready, Saw, Given, Going}
 use Rattle.equality.proofs.Queue.{room, begun, ended, short}
 use Rattle.equality.proofs.Spelling.{chained, differs}
 use Rattle.equality.proofs.Onward.{total}

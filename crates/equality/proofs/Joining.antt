@@ -7,11 +7,12 @@ use native.Mathlib.Omega.{arith}
 use lib.ListN.{length, set, replicate, length-set, length-replicate}
 use Rattle.dsu.specs.declared.DSU.{DSU}
 use Rattle.dsu.specs.declared.Answer.{Answer}
-use Rattle.dsu.specs.Classes.{Merges}
+use Rattle.dsu.specs.inner.Generated.{Merges}
 use Rattle.dsu.specs.Sets.{newOf}
-use Rattle.dsu.specs.Laws.{Valid, classOf, NewLaw, JoinLaw, old, new}
+use Rattle.dsu.specs.Laws.{Valid, classOf, NewLaw}
+use Rattle.dsu.specs.inner.Lent.{JoinLaw, old, new}
 use Rattle.dsu.proofs.Laws.{new-law}
-use Rattle.equality.specs.Code.{Pairs, Begun, Stored, withSets, Offered, had, put}
+use Rattle.equality.specs.inner.Code.{Pairs, Begun, Stored, withSets, Offered, had, put}
 use Rattle.equality.proofs.Entries.{stored-long, stored-pushed}
 
 -- the starts joined

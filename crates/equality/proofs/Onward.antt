@@ -5,11 +5,11 @@ use mathlib.Core.List.{List}
 use native.Mathlib.Omega.{arith}
 use Rattle.sheets.specs.Sheet.{stateCount, read}
 use Rattle.sheets.proofs.Meaning.{read-well}
-use Rattle.dsu.specs.Classes.{Merges}
+use Rattle.dsu.specs.inner.Generated.{Merges}
 use Rattle.equality.specs.Successors.{successor, acceptOf}
 use Rattle.equality.specs.Forced.{states}
-use Rattle.equality.specs.Walking.{Queue}
-use Rattle.equality.specs.Code.{twoOf, Pairs, classes, queue, Sheets, Offered, had, put, Good}
+use Rattle.equality.specs.inner.Walking.{Queue}
+use Rattle.equality.specs.inner.Code.{twoOf, Pairs, classes, queue, Sheets, Offered, had, put, Good}
 use Rattle.equality.proofs.Forced.{Total, total-of}
 use Rattle.equality.proofs.Queue.{renamed, pushed}
 

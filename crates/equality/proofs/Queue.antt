@@ -4,14 +4,15 @@ use mathlib.Core.Path.{_≡_, refl, sym, ap, subst, _∙_}
 use native.Mathlib.Decide.{ℕ-discrete}
 use native.Mathlib.Omega.{arith}
 use borrow.Author.Count.{below-more}
-use Rattle.dsu.specs.Classes.{Classes, Ker, Merges}
+use Rattle.dsu.specs.Classes.{Classes}
+use Rattle.dsu.specs.inner.Generated.{Ker, Merges}
 use Rattle.dsu.proofs.Classes.{classes-moved}
 use Rattle.dsu.proofs.Generated.{generated-into, spanned-alone, spanned-more, spanned-renamed, spanned-room}
 use Rattle.equality.specs.Successors.{successor, acceptOf}
-use Rattle.equality.specs.Forced.{Two, Symbol, states, left, right, successorIn, acceptIn, Such, Forced}
-use Rattle.equality.specs.Walking.{Queue, Met, Walking, Closed, Pushed}
+use Rattle.equality.specs.Forced.{Two, Symbol, states, left, right, successorIn, Such, Forced}
+use Rattle.equality.proofs.Forced.{acceptIn, Total, successor-left, accept-left, successor-right, accept-right, forced-least, forced-in, agree-words}
+use Rattle.equality.specs.inner.Walking.{Queue, Met, Walking, Closed, Pushed}
 use Rattle.equality.specs.Verdict.{Equal}
-use Rattle.equality.proofs.Forced.{Total, successor-left, accept-left, successor-right, accept-right, forced-least, forced-in, agree-words}
 use Rattle.equality.proofs.Classes.{classes-one}
 
 module _ (t : Two) (total : Total t) (f : ℕ → ℕ) (r : Queue) (made : ℕ) (w : Walking t f r made) where

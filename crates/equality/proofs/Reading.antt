@@ -12,7 +12,7 @@ use Rattle.ranges.specs.declared.Common.{Common}
 use Rattle.ranges.specs.declared.Common.the-variants.{Range, Nothing}
 use Rattle.ranges.specs.Span.{Span, intersectRanges, spanOf}
 use Rattle.equality.specs.declared.pairs.First.the-variants as first
-use Rattle.equality.specs.Code.{FirstOf}
+use Rattle.equality.specs.inner.Code.{FirstOf}
 
 -- the answer of `intersect_ranges`
 module _ (f₁ l₁ f₂ l₂ : ℕ) (r : Common) (e : spanOf r ≡ intersectRanges (record { low = f₁; high = l₁ }) (record { low = f₂; high = l₂ })) where

@@ -9,7 +9,7 @@ use lib.Seq.{drop-cons, getD-set-same, drop-set-lt, length-take-le}
 use Rattle.automata.specs.Automaton.{Word, none, more}
 use Rattle.equality.specs.Successors.{successor, stateAfter, acceptOf}
 use Rattle.equality.specs.Forced.{Two, Symbol}
-use Rattle.equality.specs.Walking.{Queue, Trail, trail, Walking, Chained, Leads, here, back, Spelled}
+use Rattle.equality.specs.inner.Walking.{Queue, Trail, trail, Walking, Chained, Leads, here, back, Spelled}
 use Rattle.equality.specs.Verdict.{Apart}
 use Rattle.equality.proofs.Forced.{Total}
 use Rattle.equality.proofs.Queue.{short}

@@ -13,7 +13,8 @@ use Rattle.lists.specs.Lists.{_∈_, keep}
 use Rattle.lists.proofs.Lists.{keep-in, keep-out, drop-mem}
 use Rattle.lists.proofs.Tests.{and-both, and-parts}
 use Rattle.automata.specs.Automaton.{Transition, Automaton, Run, stay, skip, read, Accepts, Word, none, more, InBounds, holds, carries, leaving}
-use Rattle.automata.specs.Records.{recordAt, readRecords, writeRecords}
+use Rattle.automata.specs.Records.{readRecords, writeRecords}
+use Rattle.automata.specs.inner.Records.{recordAt}
 use Rattle.automata.proofs.Records.{read-write, read-drop, records-at, length-write}
 use Rattle.automata.specs.Deterministic.{Deterministic}
 use Rattle.automata.proofs.Leaving.{leaves, leaving-in}

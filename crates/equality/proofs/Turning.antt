@@ -8,19 +8,20 @@ use borrow.Author.Count.{below-more}
 use borrow.Author.Needs.{needs}
 use lib.ListN.{length, getD, take, drop}
 use Rattle.automata.specs.Automaton.{Transition}
-use Rattle.automata.specs.Records.{recordAt}
+use Rattle.automata.specs.inner.Records.{recordAt}
 use Rattle.automata.proofs.Records.{part-record}
-use Rattle.sheets.specs.Accepted.{Accepted}
+use Rattle.sheets.specs.inner.Accepted.{Accepted}
 use Rattle.sheets.specs.Sheet.{stateCount, read}
 use Rattle.sheets.proofs.Meaning.{read-well}
 use Rattle.dsu.specs.declared.DSU.{DSU}
-use Rattle.dsu.specs.Laws.{Valid, JoinLaw}
+use Rattle.dsu.specs.Laws.{Valid}
+use Rattle.dsu.specs.inner.Lent.{JoinLaw}
 use Rattle.equality.specs.declared.pairs.First.{First}
 use Rattle.equality.specs.declared.pairs.First.the-variants.{Symbol, Nothing}
 use Rattle.equality.specs.declared.pairs.Seen.the-variants.{Alike, Differ}
 use Rattle.equality.specs.Successors.{successor, acceptOf}
 use Rattle.equality.specs.Forced.{states}
-use Rattle.equality.specs.Code.{twoOf, Pairs, Common, FirstOf, classes, queue, Stored, withSets, Offered, Ready, Saw}
+use Rattle.equality.specs.inner.Code.{twoOf, Pairs, Common, FirstOf, classes, queue, Stored, withSets, Offered, Ready, Saw}
 use Rattle.equality.proofs.Joining.{offer-had, offer-put}
 use Rattle.equality.proofs.Queue.{room}
 use Rattle.equality.proofs.Successors.{RunOf, run-of}

@@ -4,7 +4,7 @@ use Prim.Native.Nat.{ℕ, _+_, _-_, _≤_, _<_}
 use mathlib.Core.Bool.{cond}
 use lib.Dec.{ltb}
 use Rattle.automata.specs.Automaton.{Automaton}
-use Rattle.equality.specs.Successors.{successor, acceptOf}
+use Rattle.equality.specs.Successors.{successor}
 
 -- two automata, and the least and the greatest symbol
 pub record Two : Type 0 where
@@ -29,9 +29,6 @@ right t q = t .one .size + q
 -- a state's successor and its accept word, in the automaton that it belongs to
 unfoldable pub successorIn : Two → ℕ → ℕ → ℕ
 successorIn t p x = cond (ltb p (t .one .size)) (left t (successor (t .one) p x)) (right t (successor (t .two) (p - t .one .size) x))
-
-unfoldable pub acceptIn : Two → ℕ → ℕ
-acceptIn t p = cond (ltb p (t .one .size)) (acceptOf (t .one) p) (acceptOf (t .two) (p - t .one .size))
 
 -- an equivalence on the states of both
 pub record Equivalence (t : Two) (R : ℕ → ℕ → Type 0) : Type 0 where

@@ -1,7 +1,6 @@
 -- Exact equality: deterministic automata read step by step, the smallest equivalence, the walk over pairs, and the verdict.
 pub mod Successors
 pub mod Forced
-pub mod Walking
 pub mod Verdict
-pub mod Code
 pub mod Equality
+pub mod inner

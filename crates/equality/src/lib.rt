@@ -1,7 +1,7 @@
 // Exact equality (document 01, "Equality"): both sheets are determinized, and the pairs of states of the two determinizations are walked.
 ghost use Prim.Native.Nat.{_≤_};
 ghost use lib.ListN.{length};
-ghost use Rattle.sheets.specs.Accepted.{Accepted};
+ghost use Rattle.sheets.specs.inner.Accepted.{Accepted};
 ghost use Rattle.sheets.specs.Sheet.{read};
 ghost use Rattle.automata.specs.WellFormed.{lastSymbol};
 ghost use Rattle.automata.specs.Deterministic.{Deterministic};

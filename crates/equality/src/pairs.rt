@@ -6,9 +6,9 @@
 ghost use mathlib.Core.Path.{_≡_};
 ghost use Prim.Native.Nat.{_+_, _*_, _≤_, _<_};
 ghost use lib.ListN.{length, getD};
-ghost use Rattle.automata.specs.Records.{recordAt};
-ghost use Rattle.equality.specs.Walking.{trail, Chained, Spelled};
-ghost use Rattle.equality.specs.Code.{twoOf, FirstOf, queueOf, pairsOf, Stored, Ready, Saw, Going, Given};
+ghost use Rattle.automata.specs.inner.Records.{recordAt};
+ghost use Rattle.equality.specs.inner.Walking.{trail, Chained, Spelled};
+ghost use Rattle.equality.specs.inner.Code.{twoOf, FirstOf, queueOf, pairsOf, Stored, Ready, Saw, Going, Given};
 ghost use Rattle.equality.specs.Verdict.{Decided};
 use crate::Verdict;
 use dsu::DSU;

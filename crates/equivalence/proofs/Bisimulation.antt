@@ -13,7 +13,7 @@ use Rattle.automata.specs.Automaton.{Transition, Automaton, InBounds, leaving}
 use Rattle.dsu.proofs.Generated.{generated-into}
 use Rattle.equivalence.specs.Triggers.{SameTrigger, First, Within}
 use Rattle.equivalence.specs.Equivalent.{Reached, start, step, Alike}
-use Rattle.equivalence.specs.Walking.{Pairs, classes, oneAt, twoAt, Good}
+use Rattle.equivalence.specs.inner.Walking.{Pairs, classes, oneAt, twoAt, Good}
 use Rattle.equivalence.proofs.Triggers.{trigger-turn, trigger-chain, first-target, first-exists, within-self, within-chain}
 use Rattle.equivalence.proofs.Exact.{reached-in}
 

@@ -12,12 +12,13 @@ use lib.ListN.{length, getD, take, drop}
 use Rattle.lists.specs.Lists.{_∈_}
 use Rattle.lists.proofs.Tests.{test}
 use Rattle.automata.specs.Automaton.{Transition}
-use Rattle.automata.specs.Records.{recordAt, readRecords}
+use Rattle.automata.specs.Records.{readRecords}
+use Rattle.automata.specs.inner.Records.{recordAt}
 use Rattle.automata.proofs.Records.{records-at, records-end}
 use Rattle.dsu.proofs.Generated.{spanned-room}
 use Rattle.equivalence.specs.Triggers.{SameTrigger, Within, sameTrigger}
-use Rattle.equivalence.specs.Rows.{leadersBehind, leaders, RowEnd}
-use Rattle.equivalence.specs.Walking.{Pairs, Good, Grown, CanOffer, Offered, Runs, CanTurn, Comes, Saw, Turned}
+use Rattle.equivalence.specs.inner.Rows.{leadersBehind, leaders, RowEnd}
+use Rattle.equivalence.specs.inner.Walking.{Pairs, Good, Grown, CanOffer, Offered, Runs, CanTurn, Comes, Saw, Turned}
 use Rattle.equivalence.proofs.Triggers.{trigger-test, trigger-apart, trigger-chain}
 use Rattle.equivalence.proofs.Reading.{test-parts}
 use Rattle.equivalence.proofs.Rows.{leaders-rest, leaders-out, leaders-led}

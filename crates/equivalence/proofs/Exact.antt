@@ -16,7 +16,7 @@ use Rattle.lists.proofs.Members.{map-in, map-out, at-in, distinct-length}
 use Rattle.lists.proofs.Tests.{test, and-both, and-parts}
 use Rattle.automata.specs.Automaton.{Transition, Automaton, InBounds, leaving}
 use Rattle.search.specs.Search.{Found, over, found, table}
-use Rattle.search.specs.Reached as Search
+use Rattle.search.proofs.Reached as Search
 use Rattle.search.proofs.Queue.{over-exact, table-all}
 use Rattle.automata.specs.Pairs.{Pair}
 use Rattle.automata.proofs.Pairs.{pair-decides}

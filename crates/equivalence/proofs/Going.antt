@@ -17,14 +17,14 @@ use Rattle.automata.specs.Automaton.{Transition, Automaton, leaving}
 use Rattle.automata.specs.Records.{readRecords, writeRecords}
 use Rattle.automata.specs.WellFormed.{WellFormed}
 use Rattle.automata.proofs.Records.{read-write}
-use Rattle.sheets.specs.Accepted.{Accepted}
-use Rattle.sheets.specs.Runs.{startsOf, RunAt}
+use Rattle.sheets.specs.inner.Accepted.{Accepted}
+use Rattle.sheets.specs.inner.Runs.{startsOf, RunAt}
 use Rattle.sheets.specs.Sheet.{stateCount, read}
 use Rattle.sheets.proofs.Meaning.{read-well}
 use Rattle.sheets.proofs.Runs.{run-at, starts-indexed}
 use Rattle.automata.proofs.Leaving.{leaves}
 use Rattle.equivalence.specs.Equivalent.{Reached, start, step, Alike, equivalent}
-use Rattle.equivalence.specs.Walking.{Pairs, classes, oneAt, twoAt, Good, Fresh, CanOffer, Offered, Runs, CanTurn, Saw, Turned, Follows, Going}
+use Rattle.equivalence.specs.inner.Walking.{Pairs, classes, oneAt, twoAt, Good, Fresh, CanOffer, Offered, Runs, CanTurn, Saw, Turned, Follows, Going}
 use Rattle.equivalence.proofs.Triggers.{trigger-turn, trigger-chain, first-target}
 use Rattle.equivalence.proofs.Exact.{reached-in, exact, exact-false}
 use Rattle.equivalence.proofs.Rows.{Sorted, leaders-ascend, leaders-first, leaders-led}

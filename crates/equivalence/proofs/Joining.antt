@@ -8,12 +8,13 @@ use lib.ListN.{length, set, length-set}
 use lib.Seq.{getD-set-same, getD-set-other}
 use Rattle.dsu.specs.declared.DSU.{DSU}
 use Rattle.dsu.specs.declared.Answer.{Answer}
-use Rattle.dsu.specs.Classes.{Spanned}
+use Rattle.dsu.specs.inner.Generated.{Spanned}
 use Rattle.dsu.specs.Sets.{newOf}
-use Rattle.dsu.specs.Laws.{classOf, JoinLaw, old, new}
+use Rattle.dsu.specs.Laws.{classOf}
+use Rattle.dsu.specs.inner.Lent.{JoinLaw, old, new}
 use Rattle.dsu.proofs.Generated.{spanned-alone, spanned-more, spanned-renamed}
 use Rattle.dsu.proofs.Laws.{new-law}
-use Rattle.equivalence.specs.Walking.{Pairs, classes, oneAt, twoAt, Fresh, CanOffer, Offered}
+use Rattle.equivalence.specs.inner.Walking.{Pairs, classes, oneAt, twoAt, Fresh, CanOffer, Offered}
 
 pub fresh-law : (n : ℕ) → n ≤ 512 → (f : Answer) → f ≡ newOf n → (one two : List ℕ) → length one ≡ 512 → length two ≡ 512 → Fresh n (record { sets = f .sets; one = one; two = two; made = 0 })
 fresh-law n few f e one two a b =

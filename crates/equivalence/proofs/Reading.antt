@@ -9,10 +9,11 @@ use borrow.Author.Tests.{eq-eqb, ne-eqb, not-true, not-false}
 use lib.Dec.{eqb}
 use lib.ListN.{length, getD, take, drop}
 use Rattle.automata.specs.Automaton.{Transition}
-use Rattle.automata.specs.Records.{recordAt, readRecords}
+use Rattle.automata.specs.Records.{readRecords}
+use Rattle.automata.specs.inner.Records.{recordAt}
 use Rattle.automata.proofs.Records.{records-at, records-end, part-record}
 use Rattle.equivalence.specs.Triggers.{sameTrigger}
-use Rattle.equivalence.specs.Rows.{behindRow, RowEnd}
+use Rattle.equivalence.specs.inner.Rows.{behindRow, RowEnd}
 
 -- two records
 module _ (d e : List ℕ) where

@@ -10,7 +10,7 @@ use Rattle.automata.specs.Automaton.{Transition}
 use Rattle.automata.specs.WellFormed.{here, later, Before}
 use Rattle.automata.proofs.Ordered.{lex-trans, lex-irreflexive}
 use Rattle.equivalence.specs.Triggers.{SameTrigger, First, sameTrigger}
-use Rattle.equivalence.specs.Rows.{behindRow, leadersBehind, leaders, Lower}
+use Rattle.equivalence.specs.inner.Rows.{behindRow, leadersBehind, leaders, Lower}
 use Rattle.equivalence.proofs.Triggers.{trigger-self, trigger-turn, trigger-chain, trigger-test, trigger-apart}
 
 -- behind a row the rows go on

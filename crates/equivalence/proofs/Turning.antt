@@ -8,8 +8,8 @@ use Rattle.lists.proofs.Members.{ascending-first, ascending-rest}
 use Rattle.automata.specs.Automaton.{Transition}
 use Rattle.automata.proofs.Ordered.{lex-trans, lex-irreflexive}
 use Rattle.equivalence.specs.Triggers.{SameTrigger, Within}
-use Rattle.equivalence.specs.Rows.{Lower}
-use Rattle.equivalence.specs.Walking.{Pairs, classes, Grown}
+use Rattle.equivalence.specs.inner.Rows.{Lower}
+use Rattle.equivalence.specs.inner.Walking.{Pairs, classes, Grown}
 use Rattle.equivalence.proofs.Triggers.{trigger-turn, trigger-chain}
 use Rattle.equivalence.proofs.Rows.{lower-apart, lower-right}
 

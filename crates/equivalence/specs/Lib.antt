@@ -1,5 +1,4 @@
 -- `is_equivalent`: triggers, its definition, and what its code holds of pairs of states.
 pub mod Triggers
 pub mod Equivalent
-pub mod Rows
-pub mod Walking
+pub mod inner

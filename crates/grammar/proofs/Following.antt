@@ -7,7 +7,7 @@ use borrow.Author.Needs.{needs}
 use borrow.Author.Tests.{le-leb, lt-leb}
 use lib.Dec.{leb}
 use Rattle.grammar.specs.Grammar.{Found, nothing, found, follow, Mark, mark, Ends, nextNames}
-use Rattle.grammar.specs.Pieces.{pieceOf, nameOf, numberOf, rangeOf, acceptingOf}
+use Rattle.grammar.specs.inner.Pieces.{pieceOf, nameOf, numberOf, rangeOf, acceptingOf}
 use Rattle.grammar.specs.declared.tokens.Cursor.{Cursor}
 use Rattle.grammar.specs.declared.tokens.Span.{Span}
 use Rattle.grammar.specs.declared.tokens.Piece.{Piece}

@@ -7,3 +7,4 @@ pub mod Spelling
 pub mod Following
 pub mod Progress
 pub mod Many
+pub mod Examples

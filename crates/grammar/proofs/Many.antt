@@ -6,8 +6,8 @@ use native.Mathlib.Omega.{arith}
 use borrow.Author.Needs.{needs}
 use lib.ListN.{length}
 use Rattle.grammar.specs.Grammar.{Found, nothing, found, space, transition, nextName, Items, oneMore, many, transitions, nextNames}
-use Rattle.grammar.specs.Pieces.{nameOf, arrowOf}
-use Rattle.grammar.specs.Places.{Spelt, Drawn}
+use Rattle.grammar.specs.inner.Pieces.{nameOf, arrowOf}
+use Rattle.grammar.specs.inner.Places.{Spelt, Drawn}
 use Rattle.grammar.specs.declared.tokens.Cursor.{Cursor}
 use Rattle.grammar.specs.declared.tokens.Span.{Span}
 use Rattle.grammar.specs.declared.pieces.Arrow.{Arrow}

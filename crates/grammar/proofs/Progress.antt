@@ -11,7 +11,7 @@ use Rattle.decimal.specs.Decimal.{value}
 use Rattle.lists.proofs.Tests.{and-parts}
 use Rattle.grammar.specs.Bytes.{isLetter, isDigit, isNameByte}
 use Rattle.grammar.specs.Grammar.{Found, nothing, found, follow, mark, run, space, neededSpace, begins, token, name, number, ends, range, target, transition, initial, nextName, transitions, nextNames, accepting, heading, ending, wholeText}
-use Rattle.grammar.specs.Places.{Spelt, Drawn}
+use Rattle.grammar.specs.inner.Places.{Spelt, Drawn}
 use Rattle.grammar.specs.declared.tokens.Span.{Span}
 use Rattle.grammar.proofs.Letters.{letter-named}
 use Rattle.grammar.proofs.Runs.{run-short, run-more, run-within}

@@ -4,4 +4,4 @@ pub mod Words
 pub mod Grammar
 pub mod Places
 pub mod Pieces
-pub mod Examples
+pub mod inner

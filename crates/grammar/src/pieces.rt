@@ -1,7 +1,7 @@
 // The initial state, the transitions and what accepts.
 ghost use mathlib.Core.Path.{_≡_};
 ghost use Rattle.grammar.specs.Grammar.{space, token, target, transition, initial, nextName, transitions, nextNames, accepting};
-ghost use Rattle.grammar.specs.Pieces.{pieceOf, nameOf, arrowOf, acceptingOf};
+ghost use Rattle.grammar.specs.inner.Pieces.{pieceOf, nameOf, arrowOf, acceptingOf};
 ghost use Rattle.grammar.specs.Words.{semicolon};
 use crate::ranges::RangePiece;
 use crate::tokens::Cursor;

@@ -5,7 +5,7 @@ ghost use Prim.Native.Nat.{_+_, _-_, _*_, _^_, _<_};
 ghost use lib.Dec.{eqb};
 ghost use Rattle.grammar.specs.Bytes.{isDigit};
 ghost use Rattle.grammar.specs.Grammar.{nothing, found, space, number, ends, range};
-ghost use Rattle.grammar.specs.Pieces.{numberOf, rangeOf};
+ghost use Rattle.grammar.specs.inner.Pieces.{numberOf, rangeOf};
 use crate::tokens::Cursor;
 use crate::tokens::Piece;
 

@@ -1,7 +1,8 @@
 // A whole text: its pieces in order, and where they stand.
 ghost use mathlib.Core.Path.{_≡_};
 ghost use Rattle.grammar.specs.Grammar.{space, heading, ending, transitions, accepting, wholeText};
-ghost use Rattle.grammar.specs.Pieces.{pieceOf, acceptingOf, textOf};
+ghost use Rattle.grammar.specs.Pieces.{textOf};
+ghost use Rattle.grammar.specs.inner.Pieces.{pieceOf, acceptingOf};
 use crate::pieces::AcceptingPiece;
 use crate::tokens::Cursor;
 use crate::tokens::NamePiece;

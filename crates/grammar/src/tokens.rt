@@ -4,7 +4,7 @@ ghost use Prim.Native.Nat.{_+_};
 ghost use lib.ListN.{drop};
 ghost use Rattle.grammar.specs.Bytes.{isNameByte};
 ghost use Rattle.grammar.specs.Grammar.{run, space, neededSpace, token, name};
-ghost use Rattle.grammar.specs.Pieces.{pieceOf, nameOf};
+ghost use Rattle.grammar.specs.inner.Pieces.{pieceOf, nameOf};
 
 // A place in a text.
 pub struct Cursor {

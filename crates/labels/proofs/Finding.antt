@@ -7,7 +7,8 @@ use native.Mathlib.Omega.{arith}
 use borrow.Author.Needs.{needs}
 use lib.ListN.{length, getD, take, drop, drop-of-length-le}
 use lib.Seq.{drop-cons}
-use Rattle.labels.specs.Labels.{labelsFault, labelPlace, readLabels, sameLabel}
+use Rattle.labels.specs.Labels.{labelsFault, readLabels, sameLabel}
+use Rattle.labels.specs.inner.Places.{labelPlace}
 use Rattle.labels.proofs.Labels.{label-list, length-read}
 use Rattle.labels.proofs.Places.{place-first, place-next, place-inside, found-whole, found-label, within-count}
 use Rattle.lists.specs.Index.{index}

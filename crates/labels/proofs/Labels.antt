@@ -9,7 +9,8 @@ use lib.ListN.{length, getD, take, drop, length-append, length-drop, take-append
 use lib.Seq.{length-take-le, take-append-seam, drop-append-seam}
 use borrow.Author.Tests.{leb-true, eqb-true, le-leb, eq-eqb}
 use Rattle.lists.proofs.Tests.{and-both, and-parts, cond-yes}
-use Rattle.labels.specs.Labels.{writeEntries, writeLabels, labelCount, readEntries, readLabels, entriesOk, labelsOk, labelsFault, LabelList, AllLabels, none, more}
+use Rattle.labels.specs.Labels.{writeEntries, writeLabels, labelCount, readEntries, readLabels, entriesOk, labelsOk, labelsFault, AllLabels, none, more}
+use Rattle.labels.specs.inner.Places.{LabelList}
 
 -- what it says that the first of some entries is right
 pub record First (l : ℕ) (b : List ℕ) (k : ℕ) : Type 0 where

@@ -8,3 +8,4 @@ pub mod Putting
 pub mod Listing
 pub mod Whole
 pub mod Theorems
+pub mod Examples

@@ -12,7 +12,8 @@ use lib.Seq.{drop-drop, getD-drop}
 use borrow.Author.Needs.{needs}
 use borrow.Author.Tests.{ltb-true, ltb-false}
 use Rattle.lists.proofs.Parts.{drop-at}
-use Rattle.labels.specs.Labels.{labelCount, readEntries, readLabels, entriesOk, LabelList, labelPlace, labelsFault}
+use Rattle.labels.specs.Labels.{labelCount, readEntries, readLabels, entriesOk, labelsFault}
+use Rattle.labels.specs.inner.Places.{LabelList, labelPlace}
 use Rattle.labels.proofs.Labels.{first, sound, count-read}
 
 -- what is known at a place where one label and then k more stand

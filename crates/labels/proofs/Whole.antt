@@ -12,7 +12,8 @@ use Rattle.lists.proofs.Lists.{length-tabulate, tabulate-end}
 use Rattle.lists.proofs.Parts.{part-all}
 use Rattle.lists.specs.Written.{Written}
 use Rattle.lists.proofs.Written.{written-length}
-use Rattle.labels.specs.Labels.{entry, writeEntries, countBytes, writeLabels, readLabels, labelCount, labelsFault, LabelList, AllLabels}
+use Rattle.labels.specs.Labels.{entry, writeEntries, countBytes, writeLabels, readLabels, labelCount, labelsFault, AllLabels}
+use Rattle.labels.specs.inner.Places.{LabelList}
 use Rattle.labels.specs.Forms.{numberedLabel, sinkLabel, numbered}
 use Rattle.labels.proofs.Labels.{sound, length-read, entries-read, labels-read, size-read, write-read}
 use Rattle.labels.proofs.Listing.{list-none, list-next, list-length, list-room, list-done, labels-tabulate, label-numbered}

@@ -2,7 +2,6 @@
 use Prim.Native.Nat.{ℕ, zero, suc, _+_, _*_, _/_, _%_, _≤_}
 use mathlib.Core.Bool.{Bool, true, false, cond, _&&_}
 use mathlib.Core.List.{List, [], _∷_, _++_}
-use mathlib.Core.Path.{_≡_}
 use lib.Dec.{leb, eqb}
 use lib.ListN.{length, getD, take, drop}
 unfoldable pub use Rattle.lists.specs.Index.{same as sameLabel}
@@ -51,15 +50,6 @@ labelsOk n b = leb 2 (length b) && (eqb (getD b 0 0) (n % 256) && (eqb (getD b 1
 -- the fault of the bytes b as the labels of n states: every fault is 10
 unfoldable pub labelsFault : ℕ → List ℕ → ℕ
 labelsFault n b = cond (labelsOk n b) 0 10
-
--- an accepted list: one without a fault as the labels of as many states as it announces
-pub record LabelList (b : List ℕ) : Type 0 where
-  pub accepted : labelsFault (labelCount b) b ≡ 0
-
--- where the length of label i stands: the first behind the count, each other behind the label before it
-unfoldable pub labelPlace : List ℕ → ℕ → ℕ
-labelPlace b zero = 2
-labelPlace b (suc i) = labelPlace b i + 1 + getD b (labelPlace b i) 0
 
 -- bytes that can be a label
 pub record Label (l : List ℕ) : Type 0 where

@@ -2,4 +2,4 @@
 pub mod Labels
 pub mod Forms
 pub mod Checked
-pub mod Examples
+pub mod inner

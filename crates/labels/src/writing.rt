@@ -5,7 +5,8 @@ ghost use mathlib.Core.List.{[], _∷_, _++_};
 ghost use lib.ListN.{length, set};
 ghost use Rattle.decimal.specs.Decimal.{digits};
 ghost use Rattle.lists.specs.Written.{Written};
-ghost use Rattle.labels.specs.Labels.{labelsFault, LabelList, labelCount, readLabels, writeLabels, entry, countBytes};
+ghost use Rattle.labels.specs.Labels.{labelsFault, labelCount, readLabels, writeLabels, entry, countBytes};
+ghost use Rattle.labels.specs.inner.Places.{LabelList};
 ghost use Rattle.labels.specs.Forms.{numberedLabel, pairLabel, sinkLabel, numbered};
 
 // Writes the byte x at at. Like the functions below it answers the place behind what it wrote.

@@ -9,9 +9,14 @@ use borrow.Author.Tests.{eq-eqb, eqb-true}
 use lib.Dec.{eqb}
 use lib.ListN.{getD, length}
 use Rattle.lists.specs.Lists.{_∈_, Distinct}
-use Rattle.lists.specs.Index.{index, Decides, same}
+use Rattle.lists.specs.Index.{index, same}
 use Rattle.lists.proofs.Members.{at-in}
 use Rattle.lists.proofs.Tests.{test, and-both, and-parts}
+
+-- the test is equality
+pub record Decides {X : Type 0} (same : X → X → Bool) : Type 0 where
+  pub same-eq : (x y : X) → same x y ≡ true → x ≡ y
+  pub same-self : (x : X) → same x x ≡ true
 
 module _ {X : Type 0} (same : X → X → Bool) where
   pub index-le : (x : X) (T : List X) → index same x T ≤ length T

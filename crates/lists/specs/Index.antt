@@ -2,18 +2,12 @@
 use Prim.Native.Nat.{ℕ, suc}
 use mathlib.Core.Bool.{Bool, true, false, cond, _&&_}
 use mathlib.Core.List.{List, [], _∷_}
-use mathlib.Core.Path.{_≡_}
 use lib.Dec.{eqb}
 
 -- the place of the first element that is x, or the length of the list
 unfoldable pub index : {X : Type 0} → (X → X → Bool) → X → List X → ℕ
 index same x [] = 0
 index same x (y ∷ T) = cond (same x y) 0 (suc (index same x T))
-
--- the test is equality
-pub record Decides {X : Type 0} (same : X → X → Bool) : Type 0 where
-  pub same-eq : (x y : X) → same x y ≡ true → x ≡ y
-  pub same-self : (x : X) → same x x ≡ true
 
 -- two lists of numbers are the same, number by number
 unfoldable pub same : List ℕ → List ℕ → Bool

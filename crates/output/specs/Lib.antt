@@ -2,6 +2,4 @@
 pub mod Output
 pub mod Made
 pub mod Left
-pub mod Ordered
-pub mod Sorting
-pub mod Gathering
+pub mod inner

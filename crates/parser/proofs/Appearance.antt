@@ -8,8 +8,7 @@ use native.Mathlib.Omega.{arith}
 use borrow.Author.Tests.{ltb-true, ltb-false}
 use lib.Dec.{ltb}
 use lib.ListN.{length}
-use Rattle.lists.specs.Index.{Decides}
-use Rattle.lists.proofs.Index.{index-before, same-no}
+use Rattle.lists.proofs.Index.{Decides, index-before, same-no}
 use Rattle.lists.proofs.Tests.{test}
 use Rattle.search.specs.Search.{index, add, meet}
 use Rattle.search.proofs.Tables.{add-known, add-new}

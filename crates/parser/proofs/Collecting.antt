@@ -4,7 +4,7 @@ use mathlib.Core.List.{List, map, flatMap}
 use mathlib.Core.Path.{_≡_, sym, _∙_, ap}
 use borrow.Author.Needs.{needs}
 use Rattle.grammar.specs.Grammar.{space, transition, Items}
-use Rattle.grammar.specs.Pieces.{arrowOf}
+use Rattle.grammar.specs.inner.Pieces.{arrowOf}
 use Rattle.grammar.specs.declared.pieces.Arrow.{Arrow}
 use Rattle.grammar.specs.declared.pieces.ArrowPiece.{ArrowPiece}
 use Rattle.grammar.specs.declared.pieces.ArrowPiece.the-variants.{Read as ArrowRead, Nothing as NoArrow}
@@ -12,7 +12,7 @@ use Rattle.grammar.proofs.Many.{arrows-ended, arrows-more, arrows-less, arrow-d
 use Rattle.labels.specs.Labels.{sameLabel}
 use Rattle.search.specs.Search.{meet}
 use Rattle.search.proofs.Tables.{meet-append}
-use Rattle.parser.specs.Names.{Table, namesIn, Addition, kept, full}
+use Rattle.parser.specs.inner.Names.{Table, namesIn, Addition, kept, full}
 use Rattle.syntax.specs.Spelled.{spellMove}
 use Rattle.parser.specs.Pattern.{bothNames, namesOf}
 use Rattle.parser.specs.inner.Places.{movesAt}

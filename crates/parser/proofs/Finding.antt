@@ -8,9 +8,10 @@ use borrow.Author.Needs.{needs}
 use borrow.Author.Tests.{eq-eqb, eqb-true}
 use lib.Dec.{eqb}
 use lib.ListN.{length, getD, drop, length-map, drop-of-length-le}
-use Rattle.buckets.specs.Buckets.{inBucket}
+use Rattle.buckets.specs.inner.Buckets.{inBucket}
 use Rattle.buckets.proofs.Walking.{Walk, walk-begin, walk-next, walk-less, walk-ended}
-use Rattle.grammar.specs.Places.{spelled, Spelt}
+use Rattle.grammar.specs.Places.{spelled}
+use Rattle.grammar.specs.inner.Places.{Spelt}
 use Rattle.labels.specs.Labels.{sameLabel}
 use Rattle.labels.proofs.Same.{same-equal, equal-same}
 use Rattle.lists.specs.Lists.{Distinct}
@@ -19,7 +20,7 @@ use Rattle.lists.proofs.Lists.{tabulate-at, length-tabulate, map-tabulate}
 use Rattle.lists.proofs.Parts.{drop-at}
 use Rattle.lists.proofs.Tests.{true-same}
 use Rattle.search.specs.Search.{index}
-use Rattle.parser.specs.Names.{hashFrom, hashOf, spanAt, namesIn, isName, Table}
+use Rattle.parser.specs.inner.Names.{hashFrom, hashOf, spanAt, namesIn, isName, Table}
 
 -- the bucket of a name is below 256
 hash-from : (h : ℕ) (x : List ℕ) → h < 256 → hashFrom h x < 256

@@ -7,13 +7,14 @@ use native.Mathlib.Numerals.{add-one}
 use native.Mathlib.Omega.{arith}
 use borrow.Author.Needs.{needs}
 use lib.ListN.{length}
-use Rattle.grammar.specs.Places.{spelled, Spelt}
+use Rattle.grammar.specs.Places.{spelled}
+use Rattle.grammar.specs.inner.Places.{Spelt}
 use Rattle.labels.specs.Labels.{entry, writeEntries, countBytes, writeLabels, AllLabels}
 use Rattle.labels.proofs.Listing.{list-none, list-next, list-length, list-room, list-done, labels-tabulate}
 use Rattle.lists.specs.Lists.{tabulate}
 use Rattle.lists.specs.Written.{Written}
 use Rattle.lists.proofs.Lists.{tabulate-end}
-use Rattle.parser.specs.Names.{spanAt, namesIn, Table}
+use Rattle.parser.specs.inner.Names.{spanAt, namesIn, Table}
 use Rattle.parser.proofs.Finding.{names-count}
 use Rattle.parser.proofs.Tables.{spelt-label}
 

@@ -12,3 +12,4 @@ pub mod Outcomes
 pub mod Appearance
 pub mod Call
 pub mod Theorems
+pub mod Examples

@@ -12,7 +12,7 @@ use lib.ListN.{length, getD, take, set, length-set, length-map}
 use lib.Seq.{getD-set-same, getD-set-other, getD-take, ext-getD, length-take-le}
 use Rattle.grammar.specs.Grammar.{Items, nextName, nextNames}
 use Rattle.grammar.specs.Places.{spelled}
-use Rattle.grammar.specs.Pieces.{nameOf}
+use Rattle.grammar.specs.inner.Pieces.{nameOf}
 use Rattle.grammar.specs.declared.tokens.Span.{Span}
 use Rattle.grammar.specs.declared.tokens.NamePiece.{NamePiece}
 use Rattle.grammar.specs.declared.tokens.NamePiece.the-variants.{Read as NameRead, Nothing as NoName}
@@ -22,9 +22,9 @@ use Rattle.lists.proofs.Tests.{test}
 use Rattle.lists.proofs.Lists.{map-at}
 use Rattle.labels.specs.Labels.{sameLabel}
 use Rattle.search.specs.Search.{index}
-use Rattle.parser.specs.Accepts.{markOne, markAll}
-use Rattle.parser.specs.Memory.{Zeros}
-use Rattle.parser.specs.Names.{Table, namesIn}
+use Rattle.parser.specs.inner.Accepts.{markOne, markAll}
+use Rattle.parser.specs.inner.Memory.{Zeros}
+use Rattle.parser.specs.inner.Names.{Table, namesIn}
 use Rattle.parser.specs.Pattern.{acceptWord}
 use Rattle.parser.proofs.Finding.{names-count, index-same}
 

@@ -10,7 +10,8 @@ use lib.Dec.{ltb}
 use lib.ListN.{length, take, drop, length-map, length-take, length-drop}
 use lib.Seq.{length-take-le}
 use Rattle.grammar.specs.Grammar.{found, nextNames, wholeText}
-use Rattle.grammar.specs.Places.{spelled, Spelt, toldAt, Laid}
+use Rattle.grammar.specs.Places.{spelled, toldAt}
+use Rattle.grammar.specs.inner.Places.{Spelt, Laid}
 use Rattle.grammar.specs.Pieces.{textOf}
 use Rattle.grammar.specs.declared.tokens.Cursor.{Cursor}
 use Rattle.grammar.specs.declared.text.Layout.{Layout}
@@ -24,7 +25,7 @@ use Rattle.automata.specs.Records.{writeRecords}
 use Rattle.automata.proofs.Records.{length-write}
 use Rattle.labels.specs.Labels.{writeLabels, sameLabel}
 use Rattle.output.proofs.Answers.{room-lacking, room-enough, room-words, room-bytes}
-use Rattle.output.specs.Gathering.{Collected}
+use Rattle.output.specs.inner.Gathering.{Collected}
 use Rattle.output.specs.Output.{Pattern, roomFirst, statesFirst, transitionsFirst}
 use Rattle.refusal.specs.Answer.{given}
 use Rattle.refusal.specs.declared.InputRefusal.the-variants.{Grammar}
@@ -33,11 +34,11 @@ use Rattle.refusal.specs.declared.Refusal.the-variants.{Input, State}
 use Rattle.search.specs.Search.{index, add, meet}
 use Rattle.sheets.specs.Sheet.{write}
 use Rattle.syntax.specs.Spelled.{spell}
-use Rattle.parser.specs.Accepts.{markAll}
-use Rattle.parser.specs.Memory.{Zeros}
-use Rattle.parser.specs.Names.{Table, namesIn, Addition}
+use Rattle.parser.specs.inner.Accepts.{markAll}
+use Rattle.parser.specs.inner.Memory.{Zeros}
+use Rattle.parser.specs.inner.Names.{Table, namesIn, Addition}
 use Rattle.parser.specs.Parsed.{Output, parsed, parsedOf}
-use Rattle.parser.specs.Records.{Recorded}
+use Rattle.parser.specs.inner.Records.{Recorded}
 use Rattle.parser.specs.Pattern.{namesOf, statesOf, transitionOf, acceptWord, automatonOf, patternOf, fewTransitions, meant, meaning, parse}
 use Rattle.parser.specs.inner.Places.{saidAt, movesAt, transitionsAt, patternAt}
 use Rattle.parser.specs.declared.Parsed.the-variants.{Read, Refused}

@@ -7,15 +7,15 @@ use lib.ListN.{length}
 use Rattle.automata.specs.Automaton.{Transition}
 use Rattle.grammar.specs.Grammar.{space, transition, Items}
 use Rattle.grammar.specs.Places.{spelled}
-use Rattle.grammar.specs.Pieces.{arrowOf}
+use Rattle.grammar.specs.inner.Pieces.{arrowOf}
 use Rattle.grammar.specs.declared.tokens.Cursor.{Cursor}
 use Rattle.grammar.specs.declared.pieces.Arrow.{Arrow}
 use Rattle.grammar.specs.declared.pieces.ArrowPiece.{ArrowPiece}
 use Rattle.grammar.specs.declared.pieces.ArrowPiece.the-variants.{Read as ArrowRead, Nothing as NoArrow}
 use Rattle.grammar.proofs.Many.{arrows-ended, arrows-more, arrows-less, arrow-drawn}
 use Rattle.labels.specs.Labels.{sameLabel}
-use Rattle.output.specs.Gathering.{Gathered, Rest}
-use Rattle.output.specs.Ordered.{recordsIn}
+use Rattle.output.specs.inner.Gathering.{Gathered, Rest}
+use Rattle.output.specs.inner.Ordered.{recordsIn}
 use Rattle.output.proofs.Collecting.{rest-none, rest-end, rest-next, rest-over}
 use Rattle.search.specs.Search.{index}
 use Rattle.syntax.specs.Spelled.{spellMove}

@@ -21,7 +21,7 @@ use Rattle.output.specs.Output.{statesFirst, transitionsFirst}
 use Rattle.output.proofs.Left.{Writable}
 use Rattle.refusal.specs.Answer.{refused, given}
 use Rattle.search.specs.Search.{Graph, index}
-use Rattle.search.specs.Reached as search
+use Rattle.search.proofs.Reached as search
 use Rattle.search.proofs.Tables.{extends-in, extends-length, meet-extends, meet-in, meet-out, meet-good}
 use Rattle.syntax.specs.Syntax as syntax
 use Rattle.syntax.specs.Syntax.{Name, named, Move, Said, Text, says}

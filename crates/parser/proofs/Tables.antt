@@ -12,9 +12,10 @@ use borrow.Author.Tests.{eqb-true, eqb-false}
 use lib.Dec.{eqb}
 use lib.ListN.{length, getD, set, length-set, length-append, length-take, length-drop, length-map}
 use lib.Seq.{getD-set-same, getD-set-other}
-use Rattle.buckets.specs.Buckets.{Entered}
+use Rattle.buckets.specs.inner.Buckets.{Entered}
 use Rattle.buckets.proofs.Entering.{entered-none, entered-kept, entered-next, entered-behind, length-entered}
-use Rattle.grammar.specs.Places.{spelled, Spelt}
+use Rattle.grammar.specs.Places.{spelled}
+use Rattle.grammar.specs.inner.Places.{Spelt}
 use Rattle.grammar.specs.declared.tokens.Span.{Span}
 use Rattle.labels.specs.Labels.{Label, sameLabel}
 use Rattle.lists.specs.Lists.{_∈_, tabulate, none}
@@ -24,8 +25,8 @@ use Rattle.lists.proofs.Members.{distinct-end}
 use Rattle.lists.proofs.Tests.{test}
 use Rattle.search.specs.Search.{index, add, meet}
 use Rattle.search.proofs.Tables.{add-known, add-new, extends-length, meet-extends}
-use Rattle.parser.specs.Memory.{Zeros}
-use Rattle.parser.specs.Names.{hashOf, spanAt, namesIn, stored, Table, Addition, kept, full}
+use Rattle.parser.specs.inner.Memory.{Zeros}
+use Rattle.parser.specs.inner.Names.{hashOf, spanAt, namesIn, stored, Table, Addition, kept, full}
 use Rattle.parser.specs.declared.names.Added.{Added}
 use Rattle.parser.specs.declared.names.Added.the-variants.{Kept, Full}
 use Rattle.parser.proofs.Finding.{hash-low, names-count, table-long}

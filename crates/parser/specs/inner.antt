@@ -1,2 +1,6 @@
 -- What only inner contracts cite.
 pub mod Places
+pub mod Accepts
+pub mod Memory
+pub mod Names
+pub mod Records

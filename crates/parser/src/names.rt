@@ -3,13 +3,14 @@
 ghost use mathlib.Core.Path.{_≡_};
 ghost use Prim.Native.Nat.{_+_, _*_, _%_, _<_};
 ghost use lib.ListN.{length};
-ghost use Rattle.grammar.specs.Places.{spelled, Spelt, Drawn};
+ghost use Rattle.grammar.specs.Places.{spelled};
+ghost use Rattle.grammar.specs.inner.Places.{Spelt, Drawn};
 ghost use Rattle.labels.specs.Labels.{sameLabel};
 ghost use Rattle.search.specs.Search.{index, add, meet};
 ghost use Rattle.syntax.specs.Spelled.{spellMove};
 ghost use Rattle.parser.specs.Pattern.{bothNames, namesOf};
 ghost use Rattle.parser.specs.inner.Places.{movesAt};
-ghost use Rattle.parser.specs.Names.{hashOf, spanAt, namesIn, isName, stored, Table, Addition};
+ghost use Rattle.parser.specs.inner.Names.{hashOf, spanAt, namesIn, isName, stored, Table, Addition};
 use grammar::Arrow;
 use grammar::ArrowPiece;
 use grammar::Cursor;

@@ -2,13 +2,13 @@
 ghost use mathlib.Core.List.{[], _∷_, _++_, map};
 ghost use mathlib.Core.Path.{_≡_};
 ghost use lib.ListN.{length};
-ghost use Rattle.grammar.specs.Places.{Drawn};
-ghost use Rattle.output.specs.Gathering.{Open, Gathered, Collected};
-ghost use Rattle.output.specs.Ordered.{recordsIn};
+ghost use Rattle.grammar.specs.inner.Places.{Drawn};
+ghost use Rattle.output.specs.inner.Gathering.{Open, Gathered, Collected};
+ghost use Rattle.output.specs.inner.Ordered.{recordsIn};
 ghost use Rattle.syntax.specs.Spelled.{spellMove};
 ghost use Rattle.parser.specs.Pattern.{transitionOf};
 ghost use Rattle.parser.specs.inner.Places.{movesAt};
-ghost use Rattle.parser.specs.Names.{Table, namesIn};
+ghost use Rattle.parser.specs.inner.Names.{Table, namesIn};
 use grammar::Arrow;
 use grammar::ArrowPiece;
 use grammar::Cursor;

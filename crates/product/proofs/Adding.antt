@@ -8,10 +8,11 @@ use borrow.Author.Needs.{needs}
 use lib.ListN.{getD, length, take, drop, drop-of-length-le}
 use lib.Seq.{drop-cons}
 use Rattle.automata.specs.Automaton.{Transition, Automaton, leaving}
-use Rattle.automata.specs.Records.{recordAt, readRecords, writeRecords}
+use Rattle.automata.specs.Records.{readRecords, writeRecords}
+use Rattle.automata.specs.inner.Records.{recordAt}
 use Rattle.automata.proofs.Records.{read-write, records-at, records-end, part-record}
-use Rattle.output.specs.Gathering.{Open, Gathered, Rest}
-use Rattle.output.specs.Ordered.{recordsIn}
+use Rattle.output.specs.inner.Gathering.{Open, Gathered, Rest}
+use Rattle.output.specs.inner.Ordered.{recordsIn}
 use Rattle.output.proofs.Collecting.{gathered-same, rest-none, rest-begin, rest-end, rest-next, rest-over}
 use Rattle.ranges.specs.Span.{intersectRanges, spanOf}
 use Rattle.ranges.specs.declared.Common.{Common}
@@ -19,7 +20,7 @@ use Rattle.ranges.specs.declared.Common.the-variants.{Range, Nothing}
 use Rattle.sheets.specs.Sheet.{read}
 use Rattle.automata.specs.Pairs.{Pair}
 use Rattle.product.specs.Product.{jointOf, jointsOf, jointsFrom, transitionOf, transitionsFrom, placeIn}
-use Rattle.product.specs.Tables.{pairOf, tableOf, Queued, links}
+use Rattle.product.specs.inner.Tables.{pairOf, tableOf, Queued, links}
 use Rattle.product.proofs.Joints.{joints-none-left, joints-none-right, joints-left, joints-right, joints-other-left, joints-other-right, joints-two}
 use Rattle.sheets.proofs.Named.{named-to, named-next, ready-run, ready-named}
 use Rattle.product.proofs.Queueing.{length-table, queued-room}

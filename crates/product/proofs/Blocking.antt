@@ -16,16 +16,17 @@ use Rattle.lists.proofs.Lists.{any-out, keep-out}
 use Rattle.lists.proofs.Members.{ascending-keep}
 use Rattle.lists.proofs.Tests.{test, or-left}
 use Rattle.automata.specs.Automaton.{Transition, leaving, hasEpsilon}
-use Rattle.automata.specs.Records.{readRecords, writeRecords, recordAt}
+use Rattle.automata.specs.Records.{readRecords, writeRecords}
+use Rattle.automata.specs.inner.Records.{recordAt}
 use Rattle.automata.specs.WellFormed.{here, later, Before}
 use Rattle.automata.proofs.Records.{read-write, read-front, read-short}
-use Rattle.sheets.specs.Runs.{Ready}
+use Rattle.sheets.specs.inner.Runs.{Ready}
 use Rattle.sheets.specs.Sheet.{stateCount, read}
 use Rattle.sheets.proofs.Meaning.{read-well}
 use Rattle.sheets.proofs.Named.{ready-run}
 use Rattle.automata.specs.Pairs.{Pair}
 use Rattle.product.specs.Product.{isNone, blocked, blockedAt}
-use Rattle.product.specs.Tables.{pairOf, tableOf, Within, EpsilonFirst}
+use Rattle.product.specs.inner.Tables.{pairOf, tableOf, Within, EpsilonFirst}
 use Rattle.product.proofs.Finding.{entry-at, entry-in}
 use Rattle.product.proofs.Queueing.{length-table}
 

@@ -18,13 +18,13 @@ use Rattle.automata.proofs.Records.{read-write}
 use Rattle.search.specs.Search.{Graph, meet, add, index, table}
 use Rattle.search.proofs.Tables.{meet-out}
 use Rattle.search.proofs.Queue.{queue, queue-begin, queue-step, queue-end, queue-over, queue-capped}
-use Rattle.sheets.specs.Runs.{RunAt, Ready}
+use Rattle.sheets.specs.inner.Runs.{RunAt, Ready}
 use Rattle.sheets.specs.Sheet.{stateCount, read}
 use Rattle.sheets.proofs.Meaning.{read-well}
 use Rattle.sheets.proofs.Named.{ready-run, ready-named}
 use Rattle.automata.specs.Pairs.{Pair, samePair}
 use Rattle.product.specs.Product.{Joint, jointsFrom, pairs}
-use Rattle.product.specs.Tables.{pairOf, tableOf, capped, Queued, Met, targets, Within, foundIn}
+use Rattle.product.specs.inner.Tables.{pairOf, tableOf, capped, Queued, Met, targets, Within, foundIn}
 use Rattle.product.proofs.Joints.{from-out}
 use Rattle.product.proofs.Queueing.{length-table, queued-room}
 use Rattle.lists.proofs.Lists.{map-at}

@@ -22,7 +22,7 @@ use Rattle.sheets.proofs.Numbers.{sheet-first, sheet-given, sheet-number, sheet
 use Rattle.product.specs.Product
 use Rattle.product.specs.Product.{built, labelOf, product}
 use Rattle.product.specs.Reached.{Reached, start, step}
-use Rattle.product.specs.Tables.{Within}
+use Rattle.product.specs.inner.Tables.{Within}
 use Rattle.product.proofs.Answers.{Outcome, many-pairs, stopped, many-transitions, made, outcome}
 use Rattle.product.proofs.Pairs.{pairs-decides}
 use Rattle.product.proofs.Refusals.{in-reached}

@@ -17,7 +17,7 @@ use Rattle.buckets.proofs.Entering.{entered-none}
 use Rattle.labels.specs.Labels.{writeLabels}
 use Rattle.output.specs.declared.Made.{Made}
 use Rattle.output.specs.declared.Made.the-variants as made
-use Rattle.output.specs.Gathering.{Collected}
+use Rattle.output.specs.inner.Gathering.{Collected}
 use Rattle.output.specs.Made.{outputOf}
 use Rattle.output.specs.Output.{outputs, roomFirst}
 use Rattle.output.proofs.Answers.{made-given, made-refused, room-lacking, room-enough}
@@ -27,18 +27,18 @@ use Rattle.refusal.specs.declared.Refusal.the-variants.{Input, State}
 use Rattle.refusal.specs.declared.StateRefusal.the-variants.{OutputLength, States, Transitions}
 use Rattle.refusal.specs.Answer.{refused}
 use Rattle.search.specs.Search.{over, found, table}
-use Rattle.sheets.specs.Accepted.{Accepted}
+use Rattle.sheets.specs.inner.Accepted.{Accepted}
 use Rattle.sheets.specs.declared.Checked.{Checked}
 use Rattle.sheets.specs.declared.Checked.the-variants as checked
 use Rattle.sheets.specs.Checked.{checkedNumber, sheetFirst}
 use Rattle.sheets.specs.Fault.{fault}
-use Rattle.sheets.specs.Runs.{startsOf, Ready}
+use Rattle.sheets.specs.inner.Runs.{startsOf, Ready}
 use Rattle.sheets.specs.Sheet.{stateCount, read, write}
 use Rattle.sheets.proofs.Checking.{sheet-passed, sheet-refused}
 use Rattle.sheets.proofs.Runs.{starts-indexed}
 use Rattle.automata.specs.Pairs.{Pair}
 use Rattle.product.specs.Product.{pairs, transitionsFrom, placeIn, acceptOf, built, blockedAt, labelOf, product, intersection}
-use Rattle.product.specs.Tables.{tableOf, bucketsOf, Queued, Within, foundIn, sheetWords, Whole}
+use Rattle.product.specs.inner.Tables.{tableOf, bucketsOf, Queued, Within, foundIn, sheetWords, Whole}
 use Rattle.product.proofs.Answers.{answer-over, answer-blocked, answer-many, answer-given}
 use Rattle.product.proofs.Queueing.{length-table, queued-room}
 

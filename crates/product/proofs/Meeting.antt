@@ -5,14 +5,15 @@ use mathlib.Core.Path.{_≡_, refl, sym, _∙_, ap}
 use borrow.Author.Needs.{needs}
 use lib.ListN.{getD, length, take, drop}
 use Rattle.automata.specs.Automaton.{Transition}
-use Rattle.automata.specs.Records.{recordAt, readRecords}
+use Rattle.automata.specs.Records.{readRecords}
+use Rattle.automata.specs.inner.Records.{recordAt}
 use Rattle.automata.proofs.Records.{records-at, records-end, part-record}
 use Rattle.ranges.specs.Span.{intersectRanges, spanOf}
 use Rattle.ranges.specs.declared.Common.{Common}
 use Rattle.ranges.specs.declared.Common.the-variants.{Range, Nothing}
 use Rattle.product.specs.Product.{Joint, jointOf, jointsOf}
 use Rattle.sheets.proofs.Named.{named-to, named-next}
-use Rattle.product.specs.Tables.{tableOf, Queued, Met, targets}
+use Rattle.product.specs.inner.Tables.{tableOf, Queued, Met, targets}
 use Rattle.product.proofs.Joints.{joints-none-left, joints-none-right, joints-left, joints-right, joints-other-left, joints-other-right, joints-two}
 use Rattle.product.proofs.Queueing.{met-none, metWith, met-ended, met-full, met-next}
 

@@ -13,13 +13,13 @@ use lib.Dec.{ltb, eqb}
 use lib.ListN.{getD, length, take}
 use lib.Seq.{getD-take, length-take-le}
 use Rattle.lists.proofs.Tests.{test}
-use Rattle.buckets.specs.Buckets.{inBucket}
+use Rattle.buckets.specs.inner.Buckets.{inBucket}
 use Rattle.buckets.proofs.Walking.{Walk, walk-begin, walk-next, walk-less, walk-ended}
 use Rattle.search.proofs.Tables.{index-in, index-at, index-place}
 use Rattle.automata.specs.Pairs.{Pair, samePair}
 use Rattle.lists.proofs.Index.{index-le}
 use Rattle.product.specs.Product.{placeIn}
-use Rattle.product.specs.Tables.{pairOf, tableOf, bucketOf, bucketsOf, Queued}
+use Rattle.product.specs.inner.Tables.{pairOf, tableOf, bucketOf, bucketsOf, Queued}
 use Rattle.product.proofs.Finding.{entry-at}
 use Rattle.automata.proofs.Pairs.{pair-decides}
 use Rattle.product.proofs.Queueing.{length-table, length-buckets, bucket-low, bucket-less, queued-room, queued-long, word-pair}

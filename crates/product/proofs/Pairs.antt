@@ -8,7 +8,7 @@ use Rattle.automata.specs.Automaton.{Automaton}
 use Rattle.automata.specs.WellFormed.{mostStates}
 use Rattle.automata.proofs.Pairs.{pair-decides}
 use Rattle.search.specs.Search.{over, table}
-use Rattle.search.specs.Reached as Search
+use Rattle.search.proofs.Reached as Search
 use Rattle.search.proofs.Queue.{over-exact}
 use Rattle.automata.specs.Pairs.{Pair}
 use Rattle.product.specs.Product.{Joint, jointsFrom, pairs}

@@ -8,13 +8,13 @@ use borrow.Author.Needs.{needs}
 use lib.ListN.{length, take, set, length-set, length-append, length-map}
 use lib.Seq.{length-take-le, take-all, take-suc-set}
 use Rattle.lists.proofs.Members.{distinct-end}
-use Rattle.buckets.specs.Buckets.{Entered, entered}
+use Rattle.buckets.specs.inner.Buckets.{Entered, entered}
 use Rattle.buckets.proofs.Entering.{entered-next, length-entered}
 use Rattle.search.specs.Search.{meet}
 use Rattle.search.proofs.Tables.{add-known, add-new, meet-append, meet-full, meet-capped, index-lt}
 use Rattle.automata.specs.Pairs.{Pair, samePair}
 use Rattle.product.specs.Product.{placeIn}
-use Rattle.product.specs.Tables.{pairOf, tableOf, capped, bucketOf, bucketsOf, Queued, Met}
+use Rattle.product.specs.inner.Tables.{pairOf, tableOf, capped, bucketOf, bucketsOf, Queued, Met}
 use Rattle.automata.proofs.Pairs.{pair-decides}
 
 pub length-table : (queue : List ℕ) (n : ℕ) → n ≤ length queue → length (tableOf queue n) ≡ n

@@ -19,7 +19,7 @@ use Rattle.sheets.specs.Sheet.{stateCount, read}
 use Rattle.sheets.proofs.Words.{accept-at}
 use Rattle.automata.specs.Pairs.{Pair}
 use Rattle.product.specs.Product.{acceptOf, labelOf}
-use Rattle.product.specs.Tables.{pairOf, tableOf, Within, sheetWords}
+use Rattle.product.specs.inner.Tables.{pairOf, tableOf, Within, sheetWords}
 use Rattle.product.proofs.Blocking.{within-left, within-right}
 use Rattle.product.proofs.Queueing.{length-table}
 

@@ -3,13 +3,14 @@ ghost use mathlib.Core.List.{[], _∷_, _++_, map};
 ghost use mathlib.Core.Path.{_≡_};
 ghost use Prim.Native.Nat.{_≤_, _<_};
 ghost use lib.ListN.{length, getD};
-ghost use Rattle.automata.specs.Records.{recordAt, readRecords};
+ghost use Rattle.automata.specs.Records.{readRecords};
+ghost use Rattle.automata.specs.inner.Records.{recordAt};
 ghost use Rattle.sheets.specs.Sheet.{stateCount, read};
-ghost use Rattle.output.specs.Gathering.{Open, Gathered, Collected};
-ghost use Rattle.output.specs.Ordered.{recordsIn};
+ghost use Rattle.output.specs.inner.Gathering.{Open, Gathered, Collected};
+ghost use Rattle.output.specs.inner.Ordered.{recordsIn};
 ghost use Rattle.product.specs.Product.{jointsFrom, transitionOf, transitionsFrom, placeIn};
-ghost use Rattle.sheets.specs.Runs.{Named, Ready};
-ghost use Rattle.product.specs.Tables.{pairOf, tableOf, Queued, Within, links};
+ghost use Rattle.sheets.specs.inner.Runs.{Named, Ready};
+ghost use Rattle.product.specs.inner.Tables.{pairOf, tableOf, Queued, Within, links};
 use ranges::Common;
 
 // The number of the pair of p and q among the first n of the queue, or n.

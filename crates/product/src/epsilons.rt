@@ -6,8 +6,8 @@ ghost use Rattle.automata.specs.Records.{readRecords};
 ghost use Rattle.sheets.specs.Sheet.{stateCount, read};
 ghost use Rattle.lists.specs.Lists.{any};
 ghost use Rattle.product.specs.Product.{blocked, blockedAt};
-ghost use Rattle.sheets.specs.Runs.{Ready};
-ghost use Rattle.product.specs.Tables.{pairOf, tableOf, Within, EpsilonFirst};
+ghost use Rattle.sheets.specs.inner.Runs.{Ready};
+ghost use Rattle.product.specs.inner.Tables.{pairOf, tableOf, Within, EpsilonFirst};
 
 // Whether there are records in both runs and an epsilon in at least one of them, in which it is then the first.
 fn is_blocked(first: &[u32], second: &[u32]) -> bool

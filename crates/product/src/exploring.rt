@@ -3,13 +3,14 @@ ghost use mathlib.Core.List.{[], _∷_};
 ghost use mathlib.Core.Path.{_≡_};
 ghost use Prim.Native.Nat.{_<_};
 ghost use lib.ListN.{length, getD};
-ghost use Rattle.automata.specs.Records.{recordAt, readRecords};
+ghost use Rattle.automata.specs.Records.{readRecords};
+ghost use Rattle.automata.specs.inner.Records.{recordAt};
 ghost use Rattle.automata.specs.WellFormed.{mostStates};
 ghost use Rattle.search.specs.Search.{table};
 ghost use Rattle.sheets.specs.Sheet.{stateCount, read};
 ghost use Rattle.product.specs.Product.{pairs};
-ghost use Rattle.sheets.specs.Runs.{Named, Ready};
-ghost use Rattle.product.specs.Tables.{pairOf, tableOf, Queued, Met, targets, Within, foundIn};
+ghost use Rattle.sheets.specs.inner.Runs.{Named, Ready};
+ghost use Rattle.product.specs.inner.Tables.{pairOf, tableOf, Queued, Met, targets, Within, foundIn};
 use ranges::Common;
 
 // The pair of p and q gets the next number, if it has none and there is room. The number of pairs afterwards.

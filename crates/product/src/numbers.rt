@@ -2,7 +2,7 @@
 ghost use mathlib.Core.Path.{_≡_};
 ghost use Prim.Native.Nat.{_≤_};
 ghost use Rattle.product.specs.Product.{placeIn};
-ghost use Rattle.product.specs.Tables.{pairOf, tableOf, bucketOf, Queued};
+ghost use Rattle.product.specs.inner.Tables.{pairOf, tableOf, bucketOf, Queued};
 
 // The bucket of a pair's word.
 pub fn bucket_of(c: u32) -> usize

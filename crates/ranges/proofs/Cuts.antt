@@ -10,7 +10,8 @@ use lib.Dec.{leb, ltb}
 use Rattle.lists.specs.Lists.{_∈_, keep}
 use Rattle.lists.proofs.Tests.{test}
 use Rattle.automata.specs.Automaton.{Transition, holds}
-use Rattle.ranges.specs.Span.{Span, inside}
+use Rattle.ranges.specs.Span.{Span}
+use Rattle.ranges.proofs.Inside.{inside}
 use Rattle.ranges.specs.Cuts.{nearer, nextCut, spans, cutAll}
 
 module _ (a c b : ℕ) where

@@ -12,3 +12,4 @@ pub mod Runs
 pub mod SortedCuts
 pub mod Writing
 pub mod Theorems
+pub mod Inside

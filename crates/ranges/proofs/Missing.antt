@@ -12,9 +12,11 @@ use Rattle.lists.specs.Lists.{_∈_, any, keep, Ascending}
 use Rattle.lists.proofs.Tests.{test, and-parts}
 use Rattle.lists.proofs.Lists.{any-out, keep-in, keep-out}
 use Rattle.automata.specs.Automaton.{Transition, holds}
-use Rattle.ranges.specs.Span.{Span, inside}
+use Rattle.ranges.specs.Span.{Span}
+use Rattle.ranges.proofs.Inside.{inside}
 use Rattle.ranges.specs.Cuts.{nextCut, spans, cutAll}
-use Rattle.ranges.specs.Missing.{covered, missing, Free, Apart, Holes, Sorted, scan}
+use Rattle.ranges.specs.Missing.{covered, missing, Free, Apart, Holes, Sorted}
+use Rattle.ranges.specs.inner.Missing.{scan}
 use Rattle.ranges.proofs.Cuts.{next-gt, next-cuts, next-is, cut-one}
 use Rattle.ranges.proofs.Spans.{Stretch, stretches, stretch-alike, cut-stretch}
 use Rattle.ranges.proofs.Separate.{holes-unique}

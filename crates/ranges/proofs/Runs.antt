@@ -8,7 +8,8 @@ use lib.ListN.{length, getD, take, drop}
 use Rattle.lists.specs.Lists.{keep}
 use Rattle.lists.proofs.Parts.{part-all}
 use Rattle.automata.specs.Automaton.{Transition, rangesOf}
-use Rattle.automata.specs.Records.{readRecords, recordAt}
+use Rattle.automata.specs.Records.{readRecords}
+use Rattle.automata.specs.inner.Records.{recordAt}
 use Rattle.automata.proofs.Records.{records-at, records-end}
 use Rattle.ranges.specs.Span.{startsBelow, overlapping}
 

@@ -12,7 +12,8 @@ use Rattle.lists.proofs.Tests.{test}
 use Rattle.lists.proofs.Members.{ascending-first}
 use Rattle.automata.specs.Automaton.{Transition}
 use Rattle.ranges.specs.Span.{Span, Inside}
-use Rattle.ranges.specs.Missing.{Free, Within, Holes, Sorted, gap, scan}
+use Rattle.ranges.specs.Missing.{Free, Within, Holes, Sorted}
+use Rattle.ranges.specs.inner.Missing.{gap, scan}
 use Rattle.ranges.proofs.Separate.{split, here, there}
 use Rattle.ranges.proofs.Held.{not-held, past, free-cons, rest-sorted}
 

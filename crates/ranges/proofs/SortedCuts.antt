@@ -11,7 +11,7 @@ use lib.Dec.{ltb}
 use lib.ListN.{length, getD, drop}
 use Rattle.lists.specs.Lists.{_∈_}
 use Rattle.automata.specs.Automaton.{Transition}
-use Rattle.automata.specs.Records.{recordAt}
+use Rattle.automata.specs.inner.Records.{recordAt}
 use Rattle.lists.proofs.Members.{ascending-first}
 use Rattle.ranges.specs.Cuts.{nearer, nextCut}
 use Rattle.ranges.specs.Missing.{Sorted}

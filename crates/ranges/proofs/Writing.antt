@@ -10,7 +10,8 @@ use lib.ListN.{length, getD, drop, length-append}
 use lib.Seq.{sets, length-sets}
 use Rattle.lists.proofs.Parts.{sets-append}
 use Rattle.ranges.specs.Span.{Span}
-use Rattle.ranges.specs.Missing.{missing, Sorted, gap, scan, spanWords}
+use Rattle.ranges.specs.Missing.{missing, Sorted}
+use Rattle.ranges.specs.inner.Missing.{gap, scan, spanWords}
 use Rattle.ranges.proofs.Missing.{missing-scan}
 use Rattle.ranges.proofs.Runs.{rangesIn, ranges-at, ranges-skip, ranges-end}
 

@@ -2,3 +2,4 @@
 pub mod Span
 pub mod Cuts
 pub mod Missing
+pub mod inner

@@ -1,10 +1,9 @@
 -- The symbols from lo to hi that no range holds (document 01, "Ranges"), as spans: by cuts, by their properties, and by one pass over sorted ranges.
-use Prim.Native.Nat.{ℕ, suc, _-_, _≤_, _<_, min, max}
-use mathlib.Core.Bool.{Bool, false, cond, not}
-use mathlib.Core.List.{List, [], _∷_, _++_}
+use Prim.Native.Nat.{ℕ, suc, _≤_, _<_}
+use mathlib.Core.Bool.{Bool, false, not}
+use mathlib.Core.List.{List}
 use mathlib.Core.Logic.{_↔_}
 use mathlib.Core.Path.{_≡_}
-use lib.Dec.{ltb}
 use Rattle.lists.specs.Lists.{_∈_, any, keep, Ascending}
 use Rattle.automata.specs.Automaton.{Transition, holds}
 use Rattle.ranges.specs.Span.{Span, Inside}
@@ -40,17 +39,3 @@ pub record Holes (lo hi : ℕ) (es : List Transition) (hs : List Span) : Type 0 
 pub record Sorted (es : List Transition) : Type 0 where
   pub rises : Ascending (λ d e. d .first ≤ e .first) es
   pub full : (e : Transition) → e ∈ es → e .first ≤ e .last
-
--- the span from a up to and without b, if it has a symbol
-unfoldable pub gap : ℕ → ℕ → List Span
-gap a b = cond (ltb a b) (record { low = a; high = b - 1 } ∷ []) []
-
--- one pass over sorted ranges: c is the first symbol that is not settled
-unfoldable pub scan : ℕ → ℕ → List Transition → List Span
-scan c hi [] = gap c (suc hi)
-scan c hi (e ∷ es) = gap c (min (e .first) (suc hi)) ++ scan (max c (suc (e .last))) hi es
-
--- low and high of each span, in order
-unfoldable pub spanWords : List Span → List ℕ
-spanWords [] = []
-spanWords (s ∷ hs) = s .low ∷ s .high ∷ spanWords hs

@@ -1,6 +1,6 @@
 -- Spans of symbols: what two share, and whether ranges overlap (document 01, "Ranges").
 use Prim.Native.Nat.{ℕ, _≤_, _<_, min, max}
-use mathlib.Core.Bool.{Bool, true, false, cond, _&&_, _||_}
+use mathlib.Core.Bool.{Bool, true, false, cond, _||_}
 use mathlib.Core.List.{List, [], _∷_}
 use mathlib.Core.Option.{Option, none, some}
 use mathlib.Core.Path.{_≡_}
@@ -19,10 +19,6 @@ pub record Span : Type 0 where
 pub record Inside (x : ℕ) (s : Span) : Type 0 where
   pub above : s .low ≤ x
   pub below : x ≤ s .high
-
--- the same as a test
-unfoldable pub inside : ℕ → Span → Bool
-inside x s = leb (s .low) x && leb x (s .high)
 
 -- the symbol x lies in the span that there may be
 abbrev pub InsideAny : ℕ → Option Span → Type 0

@@ -7,7 +7,8 @@ ghost use lib.Seq.{sets};
 ghost use Rattle.automata.specs.Automaton.{rangesOf};
 ghost use Rattle.automata.specs.Records.{readRecords};
 ghost use Rattle.ranges.specs.Span.{intersectRanges, spanOf, startsBelow, overlapping};
-ghost use Rattle.ranges.specs.Missing.{Sorted, missing, gap, spanWords};
+ghost use Rattle.ranges.specs.Missing.{Sorted, missing};
+ghost use Rattle.ranges.specs.inner.Missing.{gap, spanWords};
 
 // The common symbols of two ranges.
 pub enum Common {

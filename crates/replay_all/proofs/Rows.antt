@@ -16,8 +16,9 @@ use Rattle.lists.proofs.Lists.{length-tabulate}
 use Rattle.lists.proofs.Parts.{drop-at}
 use Rattle.refusal.specs.declared.InputRefusal.{InputRefusal}
 use Rattle.replay.specs.Cases.{listAt}
-use Rattle.sets.specs.Sets.{Set, has, membersFrom}
-use Rattle.sets.specs.BitSet.{setAt, entries}
+use Rattle.sets.specs.Sets.{Set, has}
+use Rattle.sets.specs.inner.Members.{membersFrom}
+use Rattle.sets.specs.inner.BitSet.{setAt, entries}
 use Rattle.sets.proofs.BitSet.{at-canon}
 use Rattle.sets.proofs.Members.{from-all, from-skip, from-here, from-end}
 use Rattle.sets.proofs.Steps.{entries-from}

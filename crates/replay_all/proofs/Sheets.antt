@@ -13,8 +13,8 @@ use Rattle.automata.proofs.Records.{read-write, length-write}
 use Rattle.lists.proofs.Lists.{length-keep}
 use Rattle.ranges.specs.Missing.{Sorted}
 use Rattle.ranges.proofs.Sorting.{leaving-sorted}
-use Rattle.sheets.specs.Accepted.{Accepted}
-use Rattle.sheets.specs.Runs.{startsOf, RunAt}
+use Rattle.sheets.specs.inner.Accepted.{Accepted}
+use Rattle.sheets.specs.inner.Runs.{startsOf, RunAt}
 use Rattle.sheets.specs.Sheet.{read}
 use Rattle.sheets.proofs.Accepted.{check-accepted}
 use Rattle.sheets.proofs.Meaning.{read-well, read-fits}

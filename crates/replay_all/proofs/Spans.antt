@@ -19,7 +19,8 @@ use Rattle.lists.proofs.Parts.{drop-at, sets-append}
 use Rattle.lists.proofs.Written.{written-none, written-append, written-cons}
 use Rattle.ranges.specs.declared.Common.{Common}
 use Rattle.ranges.specs.declared.Common.the-variants as common
-use Rattle.ranges.specs.Missing.{missing, spanWords}
+use Rattle.ranges.specs.Missing.{missing}
+use Rattle.ranges.specs.inner.Missing.{spanWords}
 use Rattle.ranges.specs.Span.{Span, spanOf, intersectRanges, overlapping}
 use Rattle.ranges.proofs.Writing.{words-length}
 use Rattle.refusal.specs.declared.InputRefusal.{InputRefusal}

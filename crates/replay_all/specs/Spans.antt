@@ -7,7 +7,8 @@ use lib.Dec.{eqb, leb, ltb}
 use lib.ListN.{length, getD, replicate}
 use Rattle.automata.specs.Automaton.{Transition, leaving, rangesOf}
 use Rattle.labels.specs.Labels.{sameLabel}
-use Rattle.ranges.specs.Missing.{missing, spanWords}
+use Rattle.ranges.specs.Missing.{missing}
+use Rattle.ranges.specs.inner.Missing.{spanWords}
 use Rattle.ranges.specs.Span.{Span, intersectRanges, overlapping}
 use Rattle.replay.specs.Cases.{listAt}
 use Rattle.sheets.specs.Fault.{fault}

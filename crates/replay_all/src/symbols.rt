@@ -9,7 +9,7 @@ ghost use Rattle.automata.specs.Records.{readRecords};
 ghost use Rattle.lists.specs.Written.{Written};
 ghost use Rattle.ranges.specs.Missing.{missing, Sorted};
 ghost use Rattle.ranges.specs.Span.{spanOf};
-ghost use Rattle.sheets.specs.Accepted.{Accepted};
+ghost use Rattle.sheets.specs.inner.Accepted.{Accepted};
 ghost use Rattle.sheets.specs.Sheet.{read};
 ghost use Rattle.replay_all.specs.Spans.{isEnds, commonCase, records, rangeSheet, isBit, areSpans, isHoles, holesCase, rangesCase};
 

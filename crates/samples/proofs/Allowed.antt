@@ -18,8 +18,9 @@ use Rattle.equality.proofs.Theorems.{one-word, not-same}
 use Rattle.refusal.specs.Answer.{Answer, given}
 use Rattle.sheets.specs.Sheet.{read}
 use Rattle.verdict_line.specs.Line.{Line, same, differs, sameLine, differLine}
-use Rattle.samples.proofs.Patterns.{A, B, DA, DB, DC, determinized}
-use Rattle.samples.proofs.Three.{both, three, well-a, well-b}
+use Rattle.samples.proofs.Patterns.{determinized, DC}
+use Rattle.samples.specs.Samples.{A, B, DA, DB, both}
+use Rattle.samples.proofs.Three.{three, well-a, well-b}
 use Rattle.samples.proofs.Verdicts.{same-ab}
 
 equal-4 : Equal both 4

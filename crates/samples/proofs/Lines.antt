@@ -29,8 +29,9 @@ use Rattle.sheets.proofs.Meaning.{read-well}
 use Rattle.verdict_line.specs.Texts.{twoTexts, withSecondText, withFirstText, comparedTexts}
 use Rattle.verdict_line.specs.Line.{Line, refuses, same, differs, sameLine, differLine}
 use Rattle.samples.proofs.Allowed.{allowed-same-4, allowed-differ-9}
-use Rattle.samples.proofs.Patterns.{A, B, C, DA, DB, DC, determinized, no-fault}
-use Rattle.samples.proofs.Three.{both, three, well-a, well-b}
+use Rattle.samples.proofs.Patterns.{determinized, no-fault, DC}
+use Rattle.samples.specs.Samples.{A, B, C, DA, DB, both}
+use Rattle.samples.proofs.Three.{three, well-a, well-b}
 use Rattle.samples.proofs.Verdicts.{same-ab, differ-ac, only-nine}
 use Rattle.output.specs.Output.{statesFirst, transitionsFirst}
 

@@ -18,7 +18,7 @@ use Rattle.sheets.specs.Sheet.{read, write}
 use Rattle.totality.specs.Totality.{holesOf, isNfaAt, isNfaIn, isNfa, filled, filledIn, totalized, flipped, complemented}
 use Rattle.words.specs.Acceptance.{acceptsWords}
 use Rattle.words.specs.Simulation.{isEpsilon, epsilonRow, closures, closure, outgoing, step, startSet, simulate, least, kindOf, kind}
-use Rattle.samples.proofs.Patterns.{O}
+use Rattle.samples.specs.Samples.{O}
 
 pub overlap-5 : (acceptsWords O (5 ∷ []) ≡ given 1) × (acceptsWords (write (complemented 0 lastSymbol (read O))) (5 ∷ []) ≡ given 1)
 unfolding any keep tabulate flatMap holds leaving rangesOf inOrder insert readRecords writeRecords has pickFrom through closed isEpsilon epsilonRow closures closure outgoing step startSet simulate least kindOf kind nearer nextCut spans cutAll covered missing startsBelow overlapping isBad recordFault recordsFault transitionsFault statesFault fault sheetFirst acceptsWords states holesOf hasEpsilon isNfaAt isNfaIn isNfa filled filledIn totalized flipped complemented

@@ -15,7 +15,7 @@ use Rattle.ranges.specs.Cuts.{nearer, nextCut, spans, cutAll}
 use Rattle.ranges.specs.Missing.{covered, missing}
 use Rattle.sheets.specs.Sheet.{read}
 use Rattle.totality.specs.Totality.{holesOf, isNfaAt, isNfaIn, isNfa, filled, filledIn, totalized, flipped, complemented}
-use Rattle.samples.proofs.Patterns.{range, A, O}
+use Rattle.samples.specs.Samples.{range, A, O}
 use Rattle.samples.proofs.Single.{a-single}
 
 pub accepts-9 : Accepts (read A) (9 ∷ [])

@@ -13,7 +13,7 @@ use Rattle.lists.proofs.Tests.{test}
 use Rattle.automata.specs.Automaton.{Transition, Automaton, Run, stay, skip, read, Accepts}
 use Rattle.automata.specs.Records.{readRecords}
 use Rattle.sheets.specs.Sheet
-use Rattle.samples.proofs.Patterns.{range, A, B, C}
+use Rattle.samples.specs.Samples.{range, A, B, C}
 
 -- all transitions are ranges up to k, and lead from the start, which rejects, to other states
 pub record Short (k : ℕ) (X : Automaton) : Type 0 where

@@ -9,9 +9,9 @@ use Rattle.lists.specs.Lists.{any, keep, tabulate}
 use Rattle.automata.specs.Automaton.{Accepts, holds}
 use Rattle.automata.specs.Records.{readRecords}
 use Rattle.automata.specs.WellFormed.{lastSymbol}
-use Rattle.determinize.specs.Partition.{Part, partOf, partition}
+use Rattle.determinize.specs.Partition.{partOf, partition}
 use Rattle.determinize.specs.Determinize.{determinize}
-use Rattle.ranges.specs.Span.{Span, intersectRanges, startsBelow, overlapping}
+use Rattle.ranges.specs.Span.{intersectRanges, startsBelow, overlapping}
 use Rattle.ranges.specs.Cuts.{nearer, nextCut, spans, cutAll}
 use Rattle.ranges.specs.Missing.{covered, missing}
 use Rattle.dsu.specs.Classes.{Classes}
@@ -20,7 +20,7 @@ use Rattle.equality.specs.Forced.{Forced, states}
 use Rattle.equality.specs.declared.Verdict.{Verdict}
 use Rattle.equality.specs.declared.Verdict.the-variants.{Same, Different}
 use Rattle.refusal.specs.Answer.{given}
-use Rattle.sets.specs.Sets.{Set, has, pickFrom}
+use Rattle.sets.specs.Sets.{has, pickFrom}
 use Rattle.sets.specs.Closure.{through, closed}
 use Rattle.sheets.specs.Checked.{sheetFirst}
 use Rattle.sheets.specs.Fault.{isBad, recordFault, recordsFault, transitionsFault, statesFault, fault}
@@ -28,22 +28,16 @@ use Rattle.sheets.specs.Sheet.{read, write}
 use Rattle.totality.specs.Totality.{complemented}
 use Rattle.words.specs.Acceptance.{acceptsWords}
 use Rattle.words.specs.Simulation.{isEpsilon, epsilonRow, closures, closure, outgoing, step, startSet, simulate, least, kindOf, kind}
-use Rattle.samples.proofs.Patterns.{range, A, B, C, O, DA, DB, determinized}
-use Rattle.samples.proofs.Lines.{may-print-same-4, may-print-differ-9}
+use Rattle.samples.proofs.Patterns.{determinized}
+use Rattle.samples.specs.Samples.{range, A, B, C, O, DA, DB, both, span, part}
+use Rattle.samples.proofs.Lines.{may-print-same-4, may-print-differ-9, prints-same-4, prints-differ-9}
 use Rattle.samples.proofs.Overlap.{overlap-5}
 use Rattle.samples.proofs.Runs.{accepts-9, rejects-10, rejects-empty, overlap-accepts-5, complement-accepts-5}
-use Rattle.samples.proofs.Three.{both, three}
+use Rattle.samples.proofs.Three.{three}
 use Rattle.samples.proofs.Verdicts.{same-4, differ-9}
 use Rattle.syntax.specs.Examples.{text-a, text-b, text-c}
-use Rattle.samples.proofs.Lines.{prints-same-4, prints-differ-9}
 use Rattle.verdict_line.specs.Line.{Line, sameLine, differLine}
 use Rattle.verdict_line.specs.Texts.{comparedTexts}
-
-abbrev span : ℕ → ℕ → Span
-span a b = record { low = a; high = b }
-
-abbrev part : ℕ → ℕ → Set → Part
-part a b S = record { low = a; high = b; targets = S }
 
 pub starred :
     -- holes of nothing, and of (5, 4294967295)

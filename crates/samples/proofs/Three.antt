@@ -15,7 +15,7 @@ use Rattle.automata.specs.WellFormed.{WellFormed, lastSymbol}
 use Rattle.automata.specs.Deterministic.{Deterministic}
 use Rattle.determinize.proofs.Theorems.{determinize-deterministic}
 use Rattle.dsu.specs.Classes.{Classes, none, old, new}
-use Rattle.equality.specs.Forced.{Two, Such, Forced, starts, follow, successorIn}
+use Rattle.equality.specs.Forced.{Such, Forced, starts, follow, successorIn}
 use Rattle.equality.specs.Successors.{successor}
 use Rattle.equality.proofs.Exact.{smallest-two}
 use Rattle.equality.proofs.Forced.{successor-left, successor-right, by-side}
@@ -23,10 +23,8 @@ use Rattle.equality.proofs.Successors.{successor-is}
 use Rattle.sheets.specs.Sheet.{read}
 use Rattle.sheets.proofs.Accepted.{accepted}
 use Rattle.sheets.proofs.Meaning.{read-well}
-use Rattle.samples.proofs.Patterns.{range, A, B, DA, DB, determinized, no-fault}
-
-abbrev pub both : Two
-both = record { one = DA; two = DB; low = 0; high = lastSymbol }
+use Rattle.samples.proofs.Patterns.{determinized, no-fault}
+use Rattle.samples.specs.Samples.{range, A, B, DA, DB, both}
 
 pub well-a : WellFormed (read A)
 well-a = read-well A (accepted A (no-fault .0))

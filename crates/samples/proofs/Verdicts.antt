@@ -13,9 +13,10 @@ use Rattle.equality.specs.Equality.{compared, Judged, SameWords, ExactlyOne}
 use Rattle.equality.specs.declared.Verdict.{Verdict}
 use Rattle.equality.specs.declared.Verdict.the-variants.{Same, Different}
 use Rattle.equality.proofs.Theorems.{classes-number, equality-exact}
-use Rattle.samples.proofs.Patterns.{A, B, C, DA, DB, DC, determinized, no-fault}
+use Rattle.samples.proofs.Patterns.{determinized, no-fault, DC}
+use Rattle.samples.specs.Samples.{A, B, C, DA, DB, both}
 use Rattle.samples.proofs.Single.{a-single, b-single, c-single}
-use Rattle.samples.proofs.Three.{both, three}
+use Rattle.samples.proofs.Three.{three}
 
 pub same-ab : SameWords 0 lastSymbol (read A) (read B)
 same-ab w v = (λ h. b-single w .1 (a-single w .0 h), λ h. a-single w .1 (b-single w .0 h))

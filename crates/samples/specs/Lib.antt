@@ -1,1 +1,2 @@
 -- The samples of document 01.
+pub mod Samples

@@ -13,10 +13,10 @@ use lib.Seq.{take-all, length-take-le}
 use Rattle.lists.specs.Lists.{_∈_, Distinct}
 use Rattle.lists.proofs.Members.{at-in, distinct-length}
 use Rattle.lists.proofs.Tests.{test}
-use Rattle.lists.specs.Index.{index, Decides}
-use Rattle.lists.proofs.Index.{index-lt, index-at}
+use Rattle.lists.specs.Index.{index}
+use Rattle.lists.proofs.Index.{Decides, index-lt, index-at}
 use Rattle.search.specs.Search.{Graph, meet, Found, over, found, explore, table}
-use Rattle.search.specs.Reached.{Reached, start, step, Good, MoreThan, AllReached}
+use Rattle.search.proofs.Reached.{Reached, start, step, Good, MoreThan, AllReached}
 use Rattle.search.proofs.Tables.{Extends, extends-refl, extends-trans, extends-in, extends-at, extends-length, meet-extends, meet-in, meet-good}
 
 module _ {X : Type 0} (G : Graph X) (most : ℕ) where

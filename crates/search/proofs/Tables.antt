@@ -10,12 +10,13 @@ use lib.Dec.{ltb}
 use lib.ListN.{getD, length, take, length-append, List·getD-append}
 use lib.Seq.{take-all, take-append-le, length-take-le}
 use Rattle.lists.specs.Lists.{_∈_}
-use Rattle.lists.specs.Index.{index, Decides}
+use Rattle.lists.specs.Index.{index}
+use Rattle.lists.proofs.Index.{Decides}
 use Rattle.lists.proofs.Members.{distinct-end}
 pub use Rattle.lists.proofs.Index.{index-before, index-behind, same-no, index-in, index-lt, index-at, index-place}
 use Rattle.lists.proofs.Tests.{test}
 use Rattle.search.specs.Search.{Graph, add, meet}
-use Rattle.search.specs.Reached.{Reached, Good}
+use Rattle.search.proofs.Reached.{Reached, Good}
 
 -- U is T with some entries behind it
 pub record Extends {X : Type 0} (T U : List X) : Type 0 where

@@ -6,8 +6,9 @@ use mathlib.Core.Path.{_≡_, refl, sym, _∙_, ap}
 use native.Mathlib.Omega.{arith}
 use lib.ListN.{getD, length, replicate}
 use Rattle.lists.proofs.Lists.{tabulate-at, length-tabulate}
-use Rattle.sets.specs.Sets.{has, pick, Canon}
-use Rattle.sets.specs.BitSet.{bit, inWords, setAt, entries}
+use Rattle.sets.specs.Sets.{has, pick}
+use Rattle.sets.specs.inner.Members.{Canon}
+use Rattle.sets.specs.inner.BitSet.{bit, inWords, setAt, entries}
 use Rattle.sets.proofs.Sets.{pick-ext, has-pick, pick-canon, pick-none}
 use Rattle.sets.proofs.Bits.{word-ext, bit-nothing}
 

@@ -11,7 +11,7 @@ use lib.Count.{trailingZeros, under}
 use lib.Dec.{eqb}
 use lib.Pow.{shr-shr}
 use Rattle.lists.proofs.Tests.{test, true-same}
-use Rattle.sets.specs.BitSet.{bit}
+use Rattle.sets.specs.inner.BitSet.{bit}
 
 bit-zero : (w : ℕ) → bit w 0 ≡ eqb (w % 2) 1
 unfolding bit

@@ -15,11 +15,12 @@ use lib.Seq.{getD-take, getD-drop}
 use Rattle.lists.specs.Lists.{tabulate}
 use Rattle.lists.proofs.Lists.{tabulate-ext, map-tabulate}
 use Rattle.lists.proofs.Tests.{test, true-same, or-cases, or-left, or-false}
-use Rattle.sets.specs.Sets.{Set, has, Canon, nextMember}
-use Rattle.sets.specs.BitSet.{setAt, entries}
-use Rattle.sets.specs.Words.{visitRows}
+use Rattle.sets.specs.Sets.{Set, has}
+use Rattle.sets.specs.inner.Members.{Canon, nextMember}
+use Rattle.sets.specs.inner.BitSet.{setAt, entries}
+use Rattle.sets.specs.inner.Words.{visitRows}
 use Rattle.sets.specs.Closure.{through, closed}
-use Rattle.sets.specs.Rows.{RowsBelow, ClosedTo, leadsOn}
+use Rattle.sets.specs.inner.Rows.{RowsBelow, ClosedTo, leadsOn}
 use Rattle.sets.proofs.Sets.{pick-ext, has-below}
 use Rattle.sets.proofs.BitSet.{entry-at, at-canon, sets-by-words}
 use Rattle.sets.proofs.Members.{next-least}

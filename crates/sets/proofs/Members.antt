@@ -12,7 +12,8 @@ use lib.ListN.{getD}
 use Rattle.lists.specs.Lists.{_∈_, keep}
 use Rattle.lists.proofs.Lists.{keep-ext, keep-all, keep-none, keep-out}
 use Rattle.lists.proofs.Tests.{test, true-same}
-use Rattle.sets.specs.Sets.{Set, has, pickFrom, Canon, membersFrom, nextMember}
+use Rattle.sets.specs.Sets.{Set, has, pickFrom}
+use Rattle.sets.specs.inner.Members.{Canon, membersFrom, nextMember}
 use Rattle.sets.proofs.Sets.{mem-has, pick-out, has-below}
 
 -- a stretch without members

@@ -12,9 +12,10 @@ use borrow.Author.Tests.{ltb-true, ltb-false}
 use lib.Dec.{ltb}
 use lib.ListN.{length}
 use Rattle.lists.proofs.Tests.{test}
-use Rattle.sets.specs.Sets.{Set, has, pick, Canon}
-use Rattle.sets.specs.BitSet.{setAt}
-use Rattle.sets.specs.Words.{unionAt, visitRow, visitRows}
+use Rattle.sets.specs.Sets.{Set, has, pick}
+use Rattle.sets.specs.inner.Members.{Canon}
+use Rattle.sets.specs.inner.BitSet.{setAt}
+use Rattle.sets.specs.inner.Words.{unionAt, visitRow, visitRows}
 use Rattle.sets.specs.Closure.{through}
 use Rattle.sets.proofs.Sets.{pick-ext, pick-canon}
 use Rattle.sets.proofs.Stores.{length-union, unioned-below, union-other}

@@ -12,8 +12,9 @@ use lib.Dec.{ltb}
 use lib.ListN.{getD}
 use lib.Pow.{shr-le}
 use Rattle.lists.proofs.Tests.{test}
-use Rattle.sets.specs.Sets.{has, nextMember}
-use Rattle.sets.specs.BitSet.{bit, inWords, setAt}
+use Rattle.sets.specs.Sets.{has}
+use Rattle.sets.specs.inner.Members.{nextMember}
+use Rattle.sets.specs.inner.BitSet.{bit, inWords, setAt}
 use Rattle.sets.proofs.Members.{from-skip, from-here, from-end}
 use Rattle.sets.proofs.Bits.{bit-nothing, bit-past, bit-shift, trailing-one, trailing-none}
 use Rattle.sets.proofs.BitSet.{in-has, at-canon}

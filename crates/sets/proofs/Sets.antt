@@ -10,7 +10,8 @@ use borrow.Author.Tests.{eq-eqb, eqb-true}
 use lib.Dec.{eqb}
 use Rattle.lists.specs.Lists.{_∈_}
 use Rattle.lists.proofs.Tests.{test, or-cases, or-left, or-right, true-same}
-use Rattle.sets.specs.Sets.{Set, has, pickFrom, pick, Canon, isEmpty}
+use Rattle.sets.specs.Sets.{Set, has, pickFrom, pick, isEmpty}
+use Rattle.sets.specs.inner.Members.{Canon}
 
 pub mem-has : {q : ℕ} {S : Set} → q ∈ S → has q S ≡ true
 unfolding has

@@ -19,8 +19,8 @@ use Rattle.lists.proofs.Tests.{test, true-same}
 use Rattle.lists.specs.Index.{index, same}
 use Rattle.lists.proofs.Index.{equal-same, unequal-same}
 use Rattle.sets.specs.Sets.{Set, has, isEmpty}
-use Rattle.sets.specs.BitSet.{bit, inWords, setAt, entries}
-use Rattle.sets.specs.Words.{insertAt}
+use Rattle.sets.specs.inner.BitSet.{bit, inWords, setAt, entries}
+use Rattle.sets.specs.inner.Words.{insertAt}
 use Rattle.sets.proofs.Sets.{empty-yes}
 use Rattle.sets.proofs.BitSet.{four, in-has, sets-by-words, words-by-sets, zeros-at, entry-at, length-entries}
 

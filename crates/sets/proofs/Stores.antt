@@ -13,9 +13,10 @@ use lib.ListN.{getD, set, length, length-set}
 use lib.Seq.{getD-set-same, getD-set-other}
 use Rattle.lists.proofs.Lists.{tabulate-ext, tabulate-end}
 use Rattle.lists.proofs.Tests.{test, true-same}
-use Rattle.sets.specs.Sets.{has, pick, Canon}
-use Rattle.sets.specs.BitSet.{bit, inWords, setAt, entries}
-use Rattle.sets.specs.Words.{putWords, insertAt, unionAt, putAt, clearAt}
+use Rattle.sets.specs.Sets.{has, pick}
+use Rattle.sets.specs.inner.Members.{Canon}
+use Rattle.sets.specs.inner.BitSet.{bit, inWords, setAt, entries}
+use Rattle.sets.specs.inner.Words.{putWords, insertAt, unionAt, putAt, clearAt}
 use Rattle.sets.proofs.Sets.{wide, has-past}
 use Rattle.sets.proofs.Bits.{bit-or, bit-pow}
 use Rattle.sets.proofs.BitSet.{four, in-has, bits-at, sets-by-words, zeros-at}

@@ -2,9 +2,9 @@
 ghost use mathlib.Core.Path.{_≡_};
 ghost use Prim.Native.Nat.{_+_, _*_, _≤_, _<_};
 ghost use lib.ListN.{length};
-ghost use Rattle.sets.specs.Words.{visitRow, visitRows};
-ghost use Rattle.sets.specs.BitSet.{setAt};
-ghost use Rattle.sets.specs.Rows.{RowsBelow, ClosedTo, leadsOn};
+ghost use Rattle.sets.specs.inner.Words.{visitRow, visitRows};
+ghost use Rattle.sets.specs.inner.BitSet.{setAt};
+ghost use Rattle.sets.specs.inner.Rows.{RowsBelow, ClosedTo, leadsOn};
 
 // Row p takes in row k where it has k.
 fn visit(t: &mut [u64], p: usize, k: usize)

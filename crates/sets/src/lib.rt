@@ -5,9 +5,10 @@ ghost use Prim.Native.Nat.{_+_, _*_, _≤_, _<_};
 ghost use lib.Count.{trailingZeros};
 ghost use lib.ListN.{length};
 ghost use Rattle.lists.specs.Index.{same};
-ghost use Rattle.sets.specs.Sets.{has, isEmpty, nextMember};
-ghost use Rattle.sets.specs.BitSet.{setAt};
-ghost use Rattle.sets.specs.Words.{putWords, insertAt, unionAt, putAt, clearAt};
+ghost use Rattle.sets.specs.Sets.{has, isEmpty};
+ghost use Rattle.sets.specs.inner.Members.{nextMember};
+ghost use Rattle.sets.specs.inner.BitSet.{setAt};
+ghost use Rattle.sets.specs.inner.Words.{putWords, insertAt, unionAt, putAt, clearAt};
 
 mod closure;
 mod lookup;

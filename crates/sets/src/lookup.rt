@@ -3,7 +3,7 @@ ghost use mathlib.Core.Path.{_≡_};
 ghost use Prim.Native.Nat.{_*_, _≤_};
 ghost use lib.ListN.{length};
 ghost use Rattle.lists.specs.Index.{index, same};
-ghost use Rattle.sets.specs.BitSet.{setAt, entries};
+ghost use Rattle.sets.specs.inner.BitSet.{setAt, entries};
 
 // Where the set s stands among the first n rows of t, or n.
 pub fn find(t: &[u64], n: usize, s: &[u64]) -> usize

@@ -15,7 +15,7 @@ use Rattle.automata.specs.Records.{readRecords}
 use Rattle.sheets.specs.declared.Checked.{Checked}
 use Rattle.sheets.specs.declared.Checked.the-variants
 use Rattle.sheets.specs.Checked.{checkedNumber}
-use Rattle.sheets.specs.Accepted.{Accepted}
+use Rattle.sheets.specs.inner.Accepted.{Accepted}
 use Rattle.sheets.specs.Fault.{acceptWords, recordsFault, transitionsFault, statesFault, fault}
 
 -- the transitions of a sheet of n states without a fault

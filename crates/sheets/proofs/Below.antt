@@ -14,10 +14,11 @@ use Rattle.lists.specs.Lists.{_∈_, keep, Ascending, none, more}
 use Rattle.lists.proofs.Lists.{keep-none, length-keep, drop-mem}
 use Rattle.lists.proofs.Tests.{test}
 use Rattle.automata.specs.Automaton.{Transition}
-use Rattle.automata.specs.Records.{readRecords, recordAt}
+use Rattle.automata.specs.Records.{readRecords}
+use Rattle.automata.specs.inner.Records.{recordAt}
 use Rattle.automata.specs.WellFormed.{here, later, Before}
 use Rattle.automata.proofs.Records.{records-at, records-end, read-drop}
-use Rattle.sheets.specs.Runs.{below, Rising}
+use Rattle.sheets.specs.inner.Runs.{below, Rising}
 
 -- records in order ascend in the states that they leave
 pub rising : {es : List Transition} → Ascending Before es → Rising es

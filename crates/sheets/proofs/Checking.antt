@@ -13,7 +13,8 @@ use lib.ListN.{length, getD, take, drop, drop-of-length-le, length-drop, length-
 use Rattle.lists.proofs.Parts.{drop-at, part-all}
 use Rattle.lists.proofs.Tests.{tests}
 use Rattle.automata.specs.Ordered.{less}
-use Rattle.automata.specs.Records.{wordsOf, readRecords, recordAt}
+use Rattle.automata.specs.Records.{wordsOf, readRecords}
+use Rattle.automata.specs.inner.Records.{recordAt}
 use Rattle.automata.proofs.Records.{records-at, records-end, part-record}
 use Rattle.refusal.specs.declared.InputRefusal.{InputRefusal}
 use Rattle.refusal.specs.declared.InputRefusal.the-variants.{SheetLength, Start, Counts, AcceptWord, Record, RecordOrder, Epsilon, Grammar, Utf8, Labels}

@@ -17,8 +17,8 @@ use Rattle.automata.specs.Ordered.{less}
 use Rattle.automata.specs.WellFormed.{Before, Sound, WellFormed, Fits}
 use Rattle.automata.proofs.Ordered.{less-lex, lex-less, lex-trans}
 use Rattle.automata.proofs.Records.{read-write, write-read, length-write, length-read}
-use Rattle.sheets.specs.Sheet.{stateCount, recordCount, recordsAt, read, write}
-use Rattle.sheets.specs.Accepted.{Accepted}
+use Rattle.sheets.specs.Sheet.{stateCount, recordsAt, read, write}
+use Rattle.sheets.specs.inner.Accepted.{recordCount, Accepted}
 use Rattle.sheets.specs.Fault.{acceptWords, orElse, isBad, recordFault, recordsFault, transitionsFault, statesFault, fault}
 
 orElse-zero : (f g : ℕ) → orElse f g ≡ 0 → (f ≡ 0) × (g ≡ 0)

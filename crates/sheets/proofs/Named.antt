@@ -7,12 +7,13 @@ use lib.ListN.{length, getD, take, drop}
 use Rattle.lists.specs.Lists.{_∈_}
 use Rattle.lists.proofs.Parts.{part-all}
 use Rattle.automata.specs.Automaton.{Transition, leaving}
-use Rattle.automata.specs.Records.{readRecords, writeRecords, recordAt}
+use Rattle.automata.specs.Records.{readRecords, writeRecords}
+use Rattle.automata.specs.inner.Records.{recordAt}
 use Rattle.automata.proofs.Leaving.{leaves}
 use Rattle.automata.proofs.Records.{read-write, records-at, part-record}
 use Rattle.sheets.specs.Sheet.{stateCount, recordsAt, read}
-use Rattle.sheets.specs.Accepted.{Accepted}
-use Rattle.sheets.specs.Runs.{Ready, Named, RunAt}
+use Rattle.sheets.specs.inner.Accepted.{Accepted}
+use Rattle.sheets.specs.inner.Runs.{Ready, Named, RunAt}
 use Rattle.sheets.proofs.Meaning.{read-well}
 use Rattle.sheets.proofs.Runs.{run-at}
 

@@ -13,9 +13,9 @@ use Rattle.lists.proofs.Parts.{part-all, sets-one}
 use Rattle.automata.specs.Automaton.{Transition, leaving}
 use Rattle.automata.specs.Records.{readRecords, writeRecords}
 use Rattle.automata.proofs.Records.{read-drop, read-take, write-read, length-read}
-use Rattle.sheets.specs.Sheet.{stateCount, recordCount, recordsAt, read}
-use Rattle.sheets.specs.Accepted.{Accepted}
-use Rattle.sheets.specs.Runs.{below, startsOf, startsBelow, Rising, Indexed, RunAt}
+use Rattle.sheets.specs.Sheet.{stateCount, recordsAt, read}
+use Rattle.sheets.specs.inner.Accepted.{recordCount, Accepted}
+use Rattle.sheets.specs.inner.Runs.{below, startsOf, startsBelow, Rising, Indexed, RunAt}
 use Rattle.sheets.proofs.Meaning.{read-well}
 use Rattle.sheets.proofs.Below.{rising, below-mono, below-length, leaving-run}
 

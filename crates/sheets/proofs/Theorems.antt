@@ -11,7 +11,7 @@ use mathlib.Core.Path.{_≡_, sym, ap, _∙_}
 use lib.ListN.{length}
 use Rattle.automata.specs.Automaton.{Automaton}
 use Rattle.automata.specs.WellFormed.{WellFormed, Fits}
-use Rattle.sheets.specs.Accepted.{Accepted}
+use Rattle.sheets.specs.inner.Accepted.{Accepted}
 use Rattle.sheets.specs.Fault.{fault}
 use Rattle.sheets.specs.Sheet.{read, write}
 use Rattle.sheets.proofs.Accepted.{accepted}

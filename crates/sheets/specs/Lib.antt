@@ -1,6 +1,5 @@
 -- The sheet: what it means, its faults, and the runs of its states.
 pub mod Sheet
 pub mod Fault
-pub mod Accepted
 pub mod Checked
-pub mod Runs
+pub mod inner

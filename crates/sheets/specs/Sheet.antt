@@ -9,9 +9,6 @@ use Rattle.automata.specs.Records.{readRecords, writeRecords}
 abbrev pub stateCount : List ℕ → ℕ
 stateCount s = getD s 2 0
 
-abbrev pub recordCount : List ℕ → ℕ
-recordCount s = getD s (stateCount s + 3) 0
-
 -- where the records begin
 abbrev pub recordsAt : List ℕ → ℕ
 recordsAt s = stateCount s + 4

@@ -6,8 +6,8 @@ ghost use lib.ListN.{length, getD};
 ghost use lib.Seq.{sets};
 ghost use Rattle.automata.specs.Automaton.{leaving};
 ghost use Rattle.automata.specs.Records.{readRecords, writeRecords};
-ghost use Rattle.sheets.specs.Accepted.{Accepted};
-ghost use Rattle.sheets.specs.Runs.{below, startsOf, Rising, RunAt};
+ghost use Rattle.sheets.specs.inner.Accepted.{Accepted};
+ghost use Rattle.sheets.specs.inner.Runs.{below, startsOf, Rising, RunAt};
 ghost use Rattle.sheets.specs.Sheet.{stateCount, read};
 
 // The number of the first record of t, from the k-th on, that leaves no state below q.

@@ -16,7 +16,7 @@ use Rattle.output.proofs.Answers.{labels-accepted, labels-passed, labels-refuse
 use Rattle.refusal.specs.Answer.{refused, given}
 use Rattle.refusal.specs.Number.{inputNumber}
 use Rattle.refusal.specs.declared.InputRefusal.{InputRefusal}
-use Rattle.sheets.specs.Accepted.{Accepted}
+use Rattle.sheets.specs.inner.Accepted.{Accepted}
 use Rattle.sheets.specs.Checked.{checkedNumber}
 use Rattle.sheets.specs.Fault.{fault}
 use Rattle.sheets.specs.Sheet.{stateCount}
@@ -25,7 +25,7 @@ use Rattle.sheets.specs.declared.Checked.the-variants as sheets
 use Rattle.sheets.proofs.Accepted.{check-accepted}
 use Rattle.sheets.proofs.Checking.{sheet-passed, sheet-refused}
 use Rattle.subautomaton.specs.Inclusion.{isSubautomaton}
-use Rattle.subautomaton.specs.Tables.{Inputs}
+use Rattle.subautomaton.specs.inner.Tables.{Inputs}
 use Rattle.subautomaton.specs.Answer.{patternOf, subautomatonAnswer}
 
 pub count-inside : (s : List ℕ) → Accepted s → 2 < length s

@@ -18,13 +18,13 @@ use Rattle.automata.specs.Automaton.{Transition, leaving, states}
 use Rattle.automata.specs.Records.{readRecords}
 use Rattle.labels.specs.Labels.{sameLabel, readLabels}
 use Rattle.labels.proofs.Labels.{length-read}
-use Rattle.sheets.specs.Runs.{startsOf, Named, Ready}
+use Rattle.sheets.specs.inner.Runs.{startsOf, Named, Ready}
 use Rattle.sheets.specs.Sheet.{stateCount, read}
 use Rattle.sheets.proofs.Meaning.{read-well}
 use Rattle.sheets.proofs.Named.{sheet-named}
 use Rattle.sheets.proofs.Runs.{starts-indexed}
 use Rattle.subautomaton.specs.Inclusion.{labelOf, isSame, hasState, covers, isCovered, isSubautomaton}
-use Rattle.subautomaton.specs.Tables.{Numbered, isHeld, isHeldIn, fits, fitsFrom, fitsIn, Inputs, Tabled}
+use Rattle.subautomaton.specs.inner.Tables.{Numbered, isHeld, isHeldIn, fits, fitsFrom, fitsIn, Inputs, Tabled}
 use Rattle.subautomaton.specs.Answer.{patternOf}
 use Rattle.lists.proofs.Every.{all-ext}
 use Rattle.automata.proofs.States.{states-in, states-out}

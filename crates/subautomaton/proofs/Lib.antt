@@ -5,3 +5,4 @@ pub mod Matching
 pub mod Deciding
 pub mod Answers
 pub mod Theorems
+pub mod Examples

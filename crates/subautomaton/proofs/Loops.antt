@@ -7,7 +7,8 @@ use lib.ListN.{length, take, drop}
 use Rattle.lists.specs.Lists.{any, all}
 use Rattle.lists.proofs.Every.{any-cons, all-cons}
 use Rattle.automata.specs.Automaton.{Transition, states}
-use Rattle.automata.specs.Records.{recordAt, readRecords}
+use Rattle.automata.specs.Records.{readRecords}
+use Rattle.automata.specs.inner.Records.{recordAt}
 use Rattle.automata.proofs.States.{states-at, states-end}
 use Rattle.automata.proofs.Records.{records-at, records-end, part-record}
 use borrow.Author.Tests.{not-true, not-false}

@@ -10,12 +10,13 @@ use lib.Dec.{ltb}
 use lib.ListN.{getD}
 use Rattle.lists.specs.Lists.{any}
 use Rattle.automata.specs.Automaton.{Transition, leaving, states}
-use Rattle.automata.specs.Records.{recordAt, readRecords, writeRecords}
+use Rattle.automata.specs.Records.{readRecords, writeRecords}
+use Rattle.automata.specs.inner.Records.{recordAt}
 use Rattle.automata.proofs.Records.{read-write}
-use Rattle.sheets.specs.Accepted.{Accepted}
+use Rattle.sheets.specs.inner.Accepted.{Accepted}
 use Rattle.sheets.specs.Sheet.{stateCount, read}
 use Rattle.sheets.proofs.Named.{named-from, named-to, named-next, ready-run, ready-named}
-use Rattle.subautomaton.specs.Tables.{isHeld, isHeldIn, fits, fitsFrom, fitsIn}
+use Rattle.subautomaton.specs.inner.Tables.{isHeld, isHeldIn, fits, fitsFrom, fitsIn}
 use Rattle.subautomaton.proofs.Loops.{some-begin, some-ended, some-found, some-next, each-begin, each-ended, each-failed, each-next, record-ended, record-found, record-next, records-ended, records-failed, records-next}
 
 -- the state q of the sheet b

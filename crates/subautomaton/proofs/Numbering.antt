@@ -13,12 +13,13 @@ use lib.ListN.{length, getD, take, drop, set, length-set}
 use lib.Seq.{getD-set-same, getD-set-other}
 use Rattle.lists.specs.Lists.{_∈_}
 use Rattle.lists.proofs.Tests.{true-same}
-use Rattle.labels.specs.Labels.{labelsFault, labelPlace, readLabels, sameLabel}
+use Rattle.labels.specs.Labels.{labelsFault, readLabels, sameLabel}
+use Rattle.labels.specs.inner.Places.{labelPlace}
 use Rattle.labels.proofs.Places.{place-first}
 use Rattle.lists.specs.Index.{index}
 use Rattle.lists.proofs.Index.{same-equal, equal-same, same-decides, index-in, index-lt, index-at}
 use Rattle.labels.proofs.Finding.{seek-inside, seek-whole, seek-next, label-is}
-use Rattle.subautomaton.specs.Tables.{Numbered}
+use Rattle.subautomaton.specs.inner.Tables.{Numbered}
 
 -- the table of numbers
 pub number-fits : (r n : ℕ) → r ≤ n → n ≤ 256 → Fits w32 r

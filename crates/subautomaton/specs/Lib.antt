@@ -1,5 +1,4 @@
 -- Whether an automaton is a part of another, by the labels of their states.
 pub mod Inclusion
-pub mod Tables
 pub mod Answer
-pub mod Examples
+pub mod inner

@@ -1,16 +1,46 @@
 -- The texts A, B and C of document 01 are texts of the rules, and so is one that has it all: leading zeros, states called `accepting`, and space
 -- wherever it is optional.
-use mathlib.Core.List.{[], _∷_}
+use mathlib.Core.List.{[], _∷_, List}
 use mathlib.Core.Path.{refl}
 use Rattle.decimal.specs.Decimal.{valueAfter}
 use Rattle.grammar.specs.Bytes.{isSpace, isLetter, isDigit, isNameByte}
 use Rattle.grammar.specs.Words.{acceptingWord}
-use Rattle.grammar.specs.Examples.{loose}
+use Rattle.grammar.proofs.Examples.{loose}
 use Rattle.grammar.specs.Grammar.{follow, run, space, neededSpace, begins, token, name, number, ends, range, target, transition, initial, nextName, many, transitions, nextNames, accepting, heading, ending, wholeText}
-use Rattle.syntax.specs.Syntax.{Text}
+use Rattle.syntax.specs.Syntax.{Text, Said}
 use Rattle.syntax.specs.Spelled.{spell}
-use Rattle.syntax.specs.Examples.{text-a, said-a, text-b, said-b, text-c, said-c}
+use Rattle.syntax.specs.Examples.{text-a, text-b, text-c}
 use Rattle.syntax.proofs.Theorems.{sound}
+use Prim.Native.Nat.{ℕ}
+
+-- p, q, s, t and u as names
+abbrev p : List ℕ
+p = 112 ∷ []
+
+abbrev q : List ℕ
+q = 113 ∷ []
+
+abbrev s : List ℕ
+s = 115 ∷ []
+
+abbrev t : List ℕ
+t = 116 ∷ []
+
+abbrev u : List ℕ
+u = 117 ∷ []
+
+abbrev pub said-a : Said
+said-a = record { start = p; moves = record { from = p; to = q; first = 0; last = 9 } ∷ []; accepts = q ∷ [] }
+
+abbrev pub said-b : Said
+said-b = record {
+  start = s;
+  moves = record { from = s; to = t; first = 0; last = 4 } ∷ record { from = s; to = u; first = 5; last = 9 } ∷ [];
+  accepts = t ∷ u ∷ [];
+}
+
+abbrev pub said-c : Said
+said-c = record { start = p; moves = record { from = p; to = q; first = 0; last = 8 } ∷ []; accepts = q ∷ [] }
 
 document-texts : Text text-a said-a × Text text-b said-b × Text text-c said-c
 unfolding isSpace isLetter isDigit isNameByte follow run space neededSpace begins token name valueAfter number ends range target transition initial

@@ -22,9 +22,10 @@ use Rattle.sheets.specs.Checked.{checkedNumber}
 use Rattle.sheets.specs.Fault.{fault}
 use Rattle.sheets.proofs.Checking.{sheet-passed, sheet-refused}
 use Rattle.sheets.proofs.Accepted.{check-accepted}
-use Rattle.sheets.specs.Accepted.{Accepted}
+use Rattle.sheets.specs.inner.Accepted.{Accepted}
 use Rattle.sheets.specs.Sheet.{stateCount, read}
-use Rattle.totality.specs.Answers.{inputsFirst, inputsOf, passed, limited, turnedPattern, totalPattern, complementPattern, totalizeAnswer, complementAnswer, isNfaAnswer}
+use Rattle.totality.specs.Answers.{limited, totalPattern, complementPattern, totalizeAnswer, complementAnswer, isNfaAnswer}
+use Rattle.totality.specs.inner.Answers.{inputsFirst, inputsOf, passed, turnedPattern}
 use Rattle.totality.specs.declared.Inputs as inputs
 use Rattle.totality.specs.declared.Inputs.the-variants as input
 use Rattle.totality.specs.Totality.{isNfa}

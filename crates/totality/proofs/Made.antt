@@ -27,14 +27,15 @@ use Rattle.output.proofs.Answers.{made-given}
 use Rattle.refusal.specs.declared.Refusal.the-variants.{State}
 use Rattle.refusal.specs.declared.StateRefusal.the-variants.{States, Transitions}
 use Rattle.refusal.specs.Answer.{given}
-use Rattle.sheets.specs.Runs.{startsOf}
+use Rattle.sheets.specs.inner.Runs.{startsOf}
 use Rattle.sheets.proofs.Runs.{starts-indexed}
 use Rattle.sheets.proofs.Accepted.{accepted}
-use Rattle.sheets.specs.Accepted.{Accepted}
-use Rattle.sheets.specs.Sheet.{stateCount, recordCount, recordsAt, read, write}
+use Rattle.sheets.specs.inner.Accepted.{Accepted, recordCount}
+use Rattle.sheets.specs.Sheet.{stateCount, recordsAt, read, write}
 use Rattle.sheets.proofs.Meaning.{read-well, read-fits, write-read-sheet}
-use Rattle.totality.specs.Answers.{limited, turnedPattern, flippedPattern, complementPattern}
-use Rattle.totality.specs.Merging.{turned, headWords, Small, Ready}
+use Rattle.totality.specs.Answers.{limited, complementPattern}
+use Rattle.totality.specs.inner.Answers.{turnedPattern, flippedPattern}
+use Rattle.totality.specs.inner.Merging.{turned, headWords, Small, Ready}
 use Rattle.totality.specs.Totality.{isNfa, flipped, totalized, complemented, holesIn, transitionCount}
 use Rattle.totality.proofs.Rows.{length-totalized}
 use Rattle.totality.proofs.States.{holes-bound}

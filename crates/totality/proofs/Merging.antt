@@ -21,7 +21,7 @@ use Rattle.automata.proofs.Ordered.{lex-trans, inOrder-in, inOrder-out, inOrder
 use Rattle.automata.proofs.Records.{records-at, records-end, read-drop, read-take, write-read, write-append}
 use Rattle.ranges.specs.Span.{Span}
 use Rattle.totality.specs.Totality.{holeTo}
-use Rattle.totality.specs.Merging.{readSpans, leading, Mergeable, merged, Whole}
+use Rattle.totality.specs.inner.Merging.{readSpans, leading, Mergeable, merged, Whole}
 use Rattle.lists.proofs.Left.{Left, left-start, left-done, left-room, left-next}
 use Rattle.lists.proofs.Members.{ascending-first, ascending-rest}
 

@@ -28,9 +28,9 @@ use Rattle.sheets.specs.Checked.{checkedNumber, sheetFirst}
 use Rattle.sheets.specs.Fault.{fault}
 use Rattle.sheets.proofs.Checking.{sheet-passed, sheet-refused}
 use Rattle.sheets.proofs.Accepted.{accepted, check-accepted}
-use Rattle.sheets.specs.Accepted.{Accepted}
+use Rattle.sheets.specs.inner.Accepted.{Accepted}
 use Rattle.sheets.specs.Sheet.{stateCount}
-use Rattle.totality.specs.Answers.{inputsFirst, inputsOf, passed}
+use Rattle.totality.specs.inner.Answers.{inputsFirst, inputsOf, passed}
 use Rattle.totality.specs.declared.Inputs as inputs
 use Rattle.totality.specs.declared.Inputs.the-variants as input
 

@@ -29,7 +29,7 @@ use Rattle.ranges.proofs.Held.{held}
 use Rattle.ranges.proofs.Sorting.{leaving-sorted}
 use Rattle.sheets.specs.Sheet.{stateCount, read}
 use Rattle.sheets.proofs.Meaning.{read-well}
-use Rattle.totality.specs.Merging.{leading, Mergeable, Fillable, Ready}
+use Rattle.totality.specs.inner.Merging.{leading, Mergeable, Fillable, Ready}
 use Rattle.totality.specs.Totality.{holesOf, holeTo, filled, filledIn, totalized, holesIn}
 use Rattle.lists.proofs.Left.{Left, left-start, left-done, left-room, left-next}
 use Rattle.totality.proofs.Merging.{merge-hole, drop-records, less-holes}

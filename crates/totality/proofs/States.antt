@@ -20,16 +20,17 @@ use Rattle.automata.proofs.States.{length-states, states-at, states-end}
 use Rattle.automata.proofs.Records.{read-write, length-write}
 use Rattle.automata.specs.WellFormed.{WellFormed}
 use Rattle.ranges.specs.Span.{Span}
-use Rattle.ranges.specs.Missing.{Sorted, missing, gap, scan, spanWords}
+use Rattle.ranges.specs.Missing.{Sorted, missing}
+use Rattle.ranges.specs.inner.Missing.{gap, scan, spanWords}
 use Rattle.ranges.proofs.Missing.{missing-scan}
 use Rattle.ranges.proofs.Writing.{words-length, gap-short}
 use Rattle.ranges.proofs.Sorting.{leaving-sorted}
-use Rattle.sheets.specs.Runs.{RunAt}
+use Rattle.sheets.specs.inner.Runs.{RunAt}
 use Rattle.sheets.specs.Sheet.{stateCount, read}
 use Rattle.sheets.proofs.Meaning.{read-well, read-fits}
 use Rattle.sheets.proofs.Runs.{run-at}
 use Rattle.totality.specs.Totality.{holesOf, isNfaAt, isNfaIn, isNfa, filled, holesIn}
-use Rattle.totality.specs.Merging.{readSpans, Mergeable, merged, Fillable, Ready}
+use Rattle.totality.specs.inner.Merging.{readSpans, Mergeable, merged, Fillable, Ready}
 
 -- the run of a state of a sheet
 module _ (s starts holes : List ℕ) (r : Ready s starts holes) where

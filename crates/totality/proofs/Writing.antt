@@ -14,10 +14,10 @@ use Rattle.lists.proofs.Written.{written-none, written-append, written-cons, wr
 use Rattle.automata.specs.Automaton.{Automaton, states}
 use Rattle.automata.specs.Records.{writeRecords}
 use Rattle.automata.proofs.Records.{length-write, write-append}
-use Rattle.sheets.specs.Accepted.{Accepted}
+use Rattle.sheets.specs.inner.Accepted.{Accepted}
 use Rattle.sheets.specs.Sheet.{stateCount, read, write}
 use Rattle.sheets.proofs.Meaning.{read-well}
-use Rattle.totality.specs.Merging.{acceptWord, turned, headWords, frontWords, Small, Ready}
+use Rattle.totality.specs.inner.Merging.{acceptWord, turned, headWords, frontWords, Small, Ready}
 use Rattle.totality.proofs.Rows.{length-all, length-totalized}
 use Rattle.totality.specs.Totality.{filledIn, loopOn, flipped, totalized, transitionCount}
 

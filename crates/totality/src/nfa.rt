@@ -7,7 +7,7 @@ ghost use Rattle.automata.specs.Records.{readRecords};
 ghost use Rattle.ranges.specs.Missing.{Sorted};
 ghost use Rattle.sheets.specs.Sheet.{stateCount, read};
 ghost use Rattle.totality.specs.Totality.{isNfaAt, isNfa, holesIn};
-ghost use Rattle.totality.specs.Merging.{Ready};
+ghost use Rattle.totality.specs.inner.Merging.{Ready};
 
 // Whether an epsilon stands in the run.
 fn has_epsilon(run: &[u32]) -> bool

@@ -6,10 +6,10 @@ ghost use lib.ListN.{length, drop};
 ghost use Rattle.lists.specs.Written.{Written};
 ghost use Rattle.automata.specs.Automaton.{states};
 ghost use Rattle.automata.specs.Records.{readRecords, writeRecords};
-ghost use Rattle.sheets.specs.Accepted.{Accepted};
+ghost use Rattle.sheets.specs.inner.Accepted.{Accepted};
 ghost use Rattle.sheets.specs.Sheet.{stateCount, read, write};
 ghost use Rattle.totality.specs.Totality.{filled, filledIn, totalized};
-ghost use Rattle.totality.specs.Merging.{readSpans, leading, Mergeable, merged, Whole, Fillable, acceptWord, turned, headWords, frontWords, Small, Ready};
+ghost use Rattle.totality.specs.inner.Merging.{readSpans, leading, Mergeable, merged, Whole, Fillable, acceptWord, turned, headWords, frontWords, Small, Ready};
 
 // The place behind the records from i on that come before a hole that begins at low.
 fn records_before(run: &[u32], i: usize, low: u32) -> usize

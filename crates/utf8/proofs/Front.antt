@@ -8,7 +8,8 @@ use lib.Dec.{lit≤}
 use lib.ListN.{length, getD, drop, drop-of-length-le}
 use Rattle.lists.proofs.Parts.{drop-at}
 use Rattle.utf8.proofs.Lead.{Lead, none, one, two, three, four, lead}
-use Rattle.utf8.specs.Utf8.{sequenceLength, continued, leadBits, valueOf, isSurrogate, isImproper, leastValue, scalarOf, sequence, point, front, placed, stepAt}
+use Rattle.utf8.specs.Utf8.{sequenceLength, continued, leadBits, valueOf, isSurrogate, isImproper, leastValue, scalarOf, sequence, point, front}
+use Rattle.utf8.specs.inner.Steps.{placed, stepAt}
 use Rattle.utf8.specs.declared.Step.{Step}
 use Rattle.utf8.specs.declared.Step.the-variants.{Point, End, Malformed}
 

@@ -7,3 +7,4 @@ pub mod Decode
 pub mod Wellformed
 pub mod Encode
 pub mod Exact
+pub mod Examples

@@ -10,7 +10,8 @@ use lib.ListN.{length, getD, drop, length-drop}
 use lib.Dec.{eqb}
 use lib.Seq.{getD-drop}
 use Rattle.lists.proofs.Parts.{drop-at}
-use Rattle.utf8.specs.Utf8.{isContinuation, fault, continued, leadBits, valueOf, leastValue, isImproper, scalarOf, sequence, placed}
+use Rattle.utf8.specs.Utf8.{isContinuation, fault, continued, leadBits, valueOf, leastValue, isImproper, scalarOf, sequence}
+use Rattle.utf8.specs.inner.Steps.{placed}
 use Rattle.utf8.specs.declared.Step.{Step}
 use Rattle.utf8.specs.declared.Step.the-variants.{Point, Malformed}
 

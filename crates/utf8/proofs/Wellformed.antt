@@ -6,7 +6,8 @@ use mathlib.Core.Logic.{_↔_}
 use mathlib.Core.Path.{_≡_, refl, sym, _∙_, ap}
 use borrow.Author.Needs.{needs}
 use lib.ListN.{drop}
-use Rattle.utf8.specs.Utf8.{Decoded, malformed, points, cons, decode, isPoints, wellformed, stepAt}
+use Rattle.utf8.specs.Utf8.{Decoded, malformed, points, cons, decode}
+use Rattle.utf8.specs.inner.Steps.{isPoints, wellformed, stepAt}
 use Rattle.utf8.specs.declared.Step.{Step}
 use Rattle.utf8.specs.declared.Step.the-variants.{Point, End, Malformed}
 use Rattle.utf8.proofs.Decode.{end-decode, malformed-decode, point-decode, point-within, point-less}

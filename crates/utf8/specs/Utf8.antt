@@ -2,10 +2,8 @@
 use Prim.Native.Nat.{ℕ, zero, suc, _+_, _-_, _*_, _%_, _^_}
 use mathlib.Core.Bool.{Bool, true, false, cond, _&&_, _||_}
 use mathlib.Core.List.{List, [], _∷_}
-use lib.ListN.{getD, take, drop}
+use lib.ListN.{getD, take}
 use lib.Dec.{leb, ltb, eqb}
-use Rattle.utf8.specs.declared.Step.{Step}
-use Rattle.utf8.specs.declared.Step.the-variants.{Point, End, Malformed}
 
 -- The length of the sequence that a lead byte begins: its ones, counted from the top, where none means 1. A byte with
 -- one of them, or with five or more, begins no sequence: 0.
@@ -90,20 +88,3 @@ decodeFrom (a ∷ rest) (suc k) = decodeFrom rest k
 
 unfoldable pub decode : List ℕ → Decoded
 decode t = decodeFrom t 0
-
-abbrev pub isPoints : Decoded → Bool
-isPoints malformed = false
-isPoints (points ps) = true
-
-unfoldable pub wellformed : List ℕ → Bool
-wellformed t = isPoints (decode t)
-
--- the answer of `next` for what stands at the place at
-abbrev pub placed : ℕ → Front → Step
-placed at end = End
-placed at fault = Malformed
-placed at (point x n) = Point x (at + n)
-
--- what stands at the place at of a text
-unfoldable pub stepAt : List ℕ → ℕ → Step
-stepAt t at = placed at (front (drop at t))

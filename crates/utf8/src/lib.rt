@@ -2,7 +2,8 @@
 ghost use mathlib.Core.Path.{_≡_};
 ghost use Prim.Native.Nat.{_+_, _*_, _%_, _^_, _<_};
 ghost use lib.ListN.{length, getD, drop};
-ghost use Rattle.utf8.specs.Utf8.{sequenceLength, isContinuation, isImproper, leastValue, scalarOf, sequence, placed, stepAt, wellformed};
+ghost use Rattle.utf8.specs.Utf8.{sequenceLength, isContinuation, isImproper, leastValue, scalarOf, sequence};
+ghost use Rattle.utf8.specs.inner.Steps.{placed, stepAt, wellformed};
 
 pub enum Step {
     // A code point, and the place behind its sequence.

@@ -37,7 +37,7 @@ use Rattle.verdict_line.specs.declared.Second.{Second}
 use Rattle.verdict_line.specs.declared.Second.the-variants.{At, Outside}
 use Rattle.verdict_line.specs.Texts.{twoTexts, withSecondText, withFirstText, onTexts, comparedTexts}
 use Rattle.verdict_line.specs.Line.{Line, refuses, same, differs, Printed, short, printed}
-use Rattle.verdict_line.specs.Code.{secondOf, SheetRead, lineOf, Short}
+use Rattle.verdict_line.specs.inner.Code.{secondOf, SheetRead, lineOf, Short}
 use Rattle.verdict_line.proofs.Reading.{IsSheet, two-inside, sheet-refused, sheet-inside, sheet-is}
 
 -- a refusal with its number

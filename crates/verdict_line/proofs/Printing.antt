@@ -18,7 +18,7 @@ use Rattle.refusal.specs.declared.Refusal.{Refusal}
 use Rattle.equality.specs.declared.Verdict.{Verdict}
 use Rattle.equality.specs.declared.Verdict.the-variants.{Same, Different, Refused}
 use Rattle.verdict_line.specs.Line.{sameLine, symbols, differLine, refusedLine}
-use Rattle.verdict_line.specs.Code.{lineOf, Short}
+use Rattle.verdict_line.specs.inner.Code.{lineOf, Short}
 
 -- the parts of a line, one behind the other
 module _ (l m n o : List ℕ) (x i j r : ℕ) where

@@ -35,7 +35,7 @@ use Rattle.parser.specs.declared.Parsed.{Parsed}
 use Rattle.parser.specs.declared.Parsed.the-variants.{Read, Refused}
 use Rattle.parser.proofs.Outcomes.{answers-given}
 use Rattle.verdict_line.specs.Texts.{twoTexts}
-use Rattle.verdict_line.specs.Code.{SheetRead, refuses, reads}
+use Rattle.verdict_line.specs.inner.Code.{SheetRead, refuses, reads}
 
 -- the first text: p is the answer of `whole_text`
 module _ (t : List ℕ) (p : TextPiece) (told : textOf t p ≡ wholeText t) where

@@ -1,12 +1,11 @@
 -- What a line says of the words of two texts' automata (demand 3).
 use Prim.Native.Nat.{ℕ, _+_, _≤_}
 use mathlib.Core.List.{List}
-use mathlib.Core.Logic.{_↔_}
 use mathlib.Core.Path.{_≡_, refl, _∙_, ap, subst}
 use native.Mathlib.Omega.{arith}
 use borrow.Author.Tests.{le-ltb}
 use lib.ListN.{length, drop}
-use Rattle.automata.specs.Automaton.{Automaton, Word}
+use Rattle.automata.specs.Automaton.{Automaton}
 use Rattle.automata.specs.WellFormed.{WellFormed}
 use Rattle.grammar.specs.Grammar.{found, mark}
 use Rattle.refusal.specs.Answer.{Answer, given}
@@ -15,16 +14,11 @@ use Rattle.parser.specs.Pattern.{Reading, parse}
 use Rattle.parser.proofs.Outcomes.{answers-given}
 use Rattle.equality.specs.Forced.{Two, states}
 use Rattle.equality.specs.Verdict.{Equal, Apart}
-use Rattle.equality.specs.Equality.{withFirst, withSecond, determinized, SameWords, ExactlyOne}
+use Rattle.equality.specs.Equality.{withFirst, withSecond, determinized}
 use Rattle.equality.proofs.Exact.{same-words, one-word, not-same}
 use Rattle.verdict_line.specs.Texts.{twoTexts, withFirstText, withSecondText, onTexts, comparedTexts}
 use Rattle.verdict_line.specs.Line.{Line, refuses, same, differs, sameLine, differLine}
-
--- a line on the automata A and B, whose determinizations have `most` states together: `same` just when they accept the same words, and else
--- `differ` with a short word that exactly one of them accepts
-pub record Says (low high : ℕ) (A B : Automaton) (most : ℕ) (bytes : List ℕ) : Type 0 where
-  pub alike : ((joins : ℕ) × (bytes ≡ sameLine joins)) ↔ SameWords low high A B
-  pub different : (SameWords low high A B → ⊥) → (w : List ℕ) × (bytes ≡ differLine w) × Word low high w × ExactlyOne A B w × (length w + 2 ≤ most)
+use Rattle.verdict_line.specs.Says.{Says}
 
 module _ (low high : ℕ) (A B : Automaton) (well-a : WellFormed A) (well-b : WellFormed B) (D E : Automaton) (is-d : determinize low high A ≡ given D) (is-e : determinize low high B ≡ given E) where
   abbrev two : Two

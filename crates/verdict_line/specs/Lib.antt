@@ -1,4 +1,5 @@
 -- The line that the program `verdict` prints: the two texts, their automata, and the bytes.
 pub mod Texts
 pub mod Line
-pub mod Code
+pub mod inner
+pub mod Says

@@ -9,7 +9,7 @@ ghost use Rattle.parser.specs.Pattern.{parse};
 ghost use Rattle.equality.specs.Equality.{Judged};
 ghost use Rattle.verdict_line.specs.Texts.{twoTexts, withSecondText, withFirstText, comparedTexts};
 ghost use Rattle.verdict_line.specs.Line.{Printed};
-ghost use Rattle.verdict_line.specs.Code.{secondOf, SheetRead};
+ghost use Rattle.verdict_line.specs.inner.Code.{secondOf, SheetRead};
 use equality::Verdict;
 use grammar::Cursor;
 use grammar::TextPiece;

@@ -5,7 +5,7 @@ ghost use lib.ListN.{length};
 ghost use Rattle.decimal.specs.Decimal.{digits};
 ghost use Rattle.lists.specs.Written.{Written};
 ghost use Rattle.verdict_line.specs.Line.{sameLine, differLine, refusedLine};
-ghost use Rattle.verdict_line.specs.Code.{lineOf, Short};
+ghost use Rattle.verdict_line.specs.inner.Code.{lineOf, Short};
 use equality::Verdict;
 
 // `same` and the joins.

@@ -8,12 +8,13 @@ use lib.ListN.{length, getD, drop, drop-of-length-le}
 use Rattle.refusal.specs.declared.InputRefusal.{InputRefusal}
 use Rattle.refusal.specs.Answer.{refused, given}
 use Rattle.refusal.specs.Number.{inputNumber}
-use Rattle.sets.specs.Sets.{Set, Canon, isEmpty}
-use Rattle.sets.specs.BitSet.{setAt}
+use Rattle.sets.specs.Sets.{Set, isEmpty}
+use Rattle.sets.specs.inner.Members.{Canon}
+use Rattle.sets.specs.inner.BitSet.{setAt}
 use Rattle.sets.proofs.Sets.{empty-yes}
 use Rattle.sheets.specs.declared.Checked.{Checked}
 use Rattle.sheets.specs.declared.Checked.the-variants.{Accepted, Refused}
-use Rattle.sheets.specs.Accepted
+use Rattle.sheets.specs.inner.Accepted
 use Rattle.sheets.specs.Checked.{checkedNumber}
 use Rattle.sheets.specs.Fault.{fault}
 use Rattle.sheets.specs.Sheet.{stateCount, read}
@@ -22,12 +23,14 @@ use Rattle.sheets.proofs.Checking.{sheet-passed, sheet-refused}
 use Rattle.sheets.proofs.Meaning.{read-well}
 use Rattle.utf8.specs.declared.Step.{Step}
 use Rattle.utf8.specs.declared.Step.the-variants.{Point, End, Malformed}
-use Rattle.utf8.specs.Utf8.{end, front, Decoded, malformed, points, cons, decode, wellformed, stepAt}
+use Rattle.utf8.specs.Utf8.{end, front, Decoded, malformed, points, cons, decode}
+use Rattle.utf8.specs.inner.Steps.{wellformed, stepAt}
 use Rattle.utf8.proofs.Decode.{decode-end, end-decode, malformed-decode, point-decode, point-within, point-less}
 use Rattle.utf8.proofs.Wellformed.{wellformed-points, point-wellformed}
 use Rattle.words.specs.Simulation.{step, simulate, startSet, kindOf, kind}
-use Rattle.words.specs.Gather.{Tables}
-use Rattle.words.specs.Acceptance.{acceptsWords, textAnswer, acceptsText, pointsOf}
+use Rattle.words.specs.inner.Gather.{Tables}
+use Rattle.words.specs.Acceptance.{acceptsWords, textAnswer, acceptsText}
+use Rattle.words.specs.inner.Acceptance.{pointsOf}
 use Rattle.words.proofs.Closures.{closure-canon}
 use Rattle.words.proofs.Epsilons.{fresh}
 use Rattle.words.proofs.Reading.{simulate-nothing, read-canon}

@@ -13,7 +13,8 @@ use Rattle.lists.specs.Lists.{any, tabulate}
 use Rattle.lists.proofs.Lists.{any-out, any-in, tabulate-at}
 use Rattle.lists.proofs.Tests.{test, or-cases, or-left, or-right, and-both, and-parts}
 use Rattle.automata.specs.Automaton.{Transition, Automaton, Run, stay, skip, read, InBounds}
-use Rattle.sets.specs.Sets.{Set, has, pick, Canon}
+use Rattle.sets.specs.Sets.{Set, has, pick}
+use Rattle.sets.specs.inner.Members.{Canon}
 use Rattle.sets.specs.Closure.{through, closed}
 use Rattle.sets.proofs.Sets.{picked, pick-out, pick-canon}
 use Rattle.sets.proofs.Rounds.{through-canon}

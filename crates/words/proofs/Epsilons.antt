@@ -15,23 +15,25 @@ use Rattle.lists.proofs.Lists.{any-out, tabulate-ext}
 use Rattle.lists.proofs.Parts.{part-all}
 use Rattle.lists.proofs.Tests.{test, true-same, and-parts}
 use Rattle.automata.specs.Automaton.{Transition, InBounds}
-use Rattle.automata.specs.Records.{readRecords, recordAt}
+use Rattle.automata.specs.Records.{readRecords}
+use Rattle.automata.specs.inner.Records.{recordAt}
 use Rattle.automata.proofs.Records.{records-at, records-end, part-record}
-use Rattle.sets.specs.Sets.{has, Canon}
-use Rattle.sets.specs.BitSet.{setAt, entries}
+use Rattle.sets.specs.Sets.{has}
+use Rattle.sets.specs.inner.Members.{Canon}
+use Rattle.sets.specs.inner.BitSet.{setAt, entries}
 use Rattle.sets.specs.Closure.{closed}
-use Rattle.sets.specs.Words.{insertAt}
-use Rattle.sets.specs.Rows.{RowsBelow, ClosedTo}
+use Rattle.sets.specs.inner.Words.{insertAt}
+use Rattle.sets.specs.inner.Rows.{RowsBelow, ClosedTo}
 use Rattle.sets.proofs.Sets.{has-pick, pick-ext, pick-canon, has-nil, wide}
 use Rattle.sets.proofs.BitSet.{at-canon, fresh-at}
 use Rattle.sets.proofs.Stores.{inserted, insert-other, length-insert}
-use Rattle.sheets.specs.Accepted.{Accepted}
+use Rattle.sheets.specs.inner.Accepted.{Accepted}
 use Rattle.sheets.specs.Sheet.{stateCount, recordsAt, read}
 use Rattle.sheets.proofs.Meaning.{read-well}
 use Rattle.sheets.proofs.Named.{named-from, named-to, named-next, sheet-named}
 use Rattle.words.specs.Simulation.{isEpsilon, epsilonRow, closures}
-use Rattle.words.specs.Gather.{withAll}
-use Rattle.words.specs.Epsilons.{Fresh, SelvesAdded, withEpsilons, EpsilonsAdded, EpsilonsLeft}
+use Rattle.words.specs.inner.Gather.{withAll}
+use Rattle.words.specs.inner.Epsilons.{Fresh, SelvesAdded, withEpsilons, EpsilonsAdded, EpsilonsLeft}
 use Rattle.words.proofs.Gather.{all-none, all-cons, all-skip, all-one}
 
 eqb-comm : (a b : ℕ) → eqb a b ≡ eqb b a

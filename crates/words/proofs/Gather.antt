@@ -13,20 +13,22 @@ use Rattle.lists.specs.Lists.{_∈_, any}
 use Rattle.lists.proofs.Lists.{any-ext, keep-in}
 use Rattle.lists.proofs.Tests.{test}
 use Rattle.automata.specs.Automaton.{Transition, holds, rangesOf}
-use Rattle.automata.specs.Records.{readRecords, recordAt}
+use Rattle.automata.specs.Records.{readRecords}
+use Rattle.automata.specs.inner.Records.{recordAt}
 use Rattle.automata.proofs.Records.{records-at, records-end}
 use Rattle.ranges.specs.Missing.{Sorted}
 use Rattle.ranges.proofs.Runs.{rangesIn, ranges-at}
 use Rattle.ranges.proofs.SortedCuts.{sorted-above}
-use Rattle.sets.specs.Sets.{Set, has, pick, Canon}
-use Rattle.sets.specs.BitSet.{setAt}
-use Rattle.sets.specs.Words.{unionAt}
+use Rattle.sets.specs.Sets.{Set, has, pick}
+use Rattle.sets.specs.inner.Members.{Canon}
+use Rattle.sets.specs.inner.BitSet.{setAt}
+use Rattle.sets.specs.inner.Words.{unionAt}
 use Rattle.sets.proofs.Sets.{has-pick, pick-ext}
 use Rattle.sets.proofs.BitSet.{at-canon}
 use Rattle.sets.proofs.Stores.{unioned}
-use Rattle.sheets.specs.Runs.{Named}
+use Rattle.sheets.specs.inner.Runs.{Named}
 use Rattle.sheets.proofs.Named.{named-target}
-use Rattle.words.specs.Gather.{withAll, takes, gathered}
+use Rattle.words.specs.inner.Gather.{withAll, takes, gathered}
 
 or-assoc : (a b c : Bool) → (a || (b || c)) ≡ ((a || b) || c)
 or-assoc true b c = refl

@@ -12,12 +12,13 @@ use lib.Dec.{eqb, leb}
 use lib.ListN.{getD, length}
 use Rattle.lists.proofs.Tests.{test, or-cases, or-left, or-right}
 use Rattle.automata.specs.Automaton.{Automaton}
-use Rattle.sets.specs.Sets.{Set, has, Canon, membersFrom, nextMember}
-use Rattle.sets.specs.BitSet.{setAt}
+use Rattle.sets.specs.Sets.{Set, has}
+use Rattle.sets.specs.inner.Members.{Canon, membersFrom, nextMember}
+use Rattle.sets.specs.inner.BitSet.{setAt}
 use Rattle.sets.proofs.Sets.{has-below}
 use Rattle.sets.proofs.BitSet.{at-canon}
 use Rattle.sets.proofs.Members.{visit-start, visit-has, visit-next, from-end}
-use Rattle.sheets.specs.Accepted.{Accepted}
+use Rattle.sheets.specs.inner.Accepted.{Accepted}
 use Rattle.sheets.specs.Sheet.{stateCount, read}
 use Rattle.sheets.proofs.Words.{accept-at}
 use Rattle.words.specs.Simulation.{least, kindOf}

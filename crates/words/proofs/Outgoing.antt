@@ -15,7 +15,8 @@ use Rattle.automata.specs.Automaton.{Transition, Automaton, holds, leaving, ran
 use Rattle.automata.specs.Records.{readRecords, writeRecords}
 use Rattle.automata.specs.WellFormed.{Lex, Before, WellFormed}
 use Rattle.automata.proofs.Records.{read-write}
-use Rattle.sets.specs.Sets.{Set, has, Canon, membersFrom, nextMember}
+use Rattle.sets.specs.Sets.{Set, has}
+use Rattle.sets.specs.inner.Members.{Canon, membersFrom, nextMember}
 use Rattle.sets.proofs.Sets.{no-member, pick-out, has-mem}
 use Rattle.sets.proofs.Members.{from-end, visit-start, visit-next, next-above}
 use Rattle.ranges.specs.Cuts.{nextCut}

@@ -9,19 +9,20 @@ use lib.ListN.{length, getD, drop, drop-of-length-le}
 use lib.Seq.{sets}
 use Rattle.lists.proofs.Parts.{drop-at}
 use Rattle.automata.specs.Automaton.{Automaton}
-use Rattle.sets.specs.Sets.{Set, Canon, isEmpty}
-use Rattle.sets.specs.BitSet.{setAt, entries}
-use Rattle.sets.specs.Words.{putAt}
+use Rattle.sets.specs.Sets.{Set, isEmpty}
+use Rattle.sets.specs.inner.Members.{Canon}
+use Rattle.sets.specs.inner.BitSet.{setAt, entries}
+use Rattle.sets.specs.inner.Words.{putAt}
 use Rattle.sets.proofs.Sets.{empty-yes}
 use Rattle.sets.proofs.BitSet.{entry-at}
 use Rattle.sets.proofs.Stores.{put-same}
-use Rattle.sheets.specs.Accepted.{Accepted}
-use Rattle.sheets.specs.Runs.{startsOf}
+use Rattle.sheets.specs.inner.Accepted.{Accepted}
+use Rattle.sheets.specs.inner.Runs.{startsOf}
 use Rattle.sheets.specs.Sheet.{stateCount, read}
 use Rattle.sheets.proofs.Meaning.{read-well}
 use Rattle.sheets.proofs.Runs.{starts-indexed}
 use Rattle.words.specs.Simulation.{closures, closure, step, simulate, startSet}
-use Rattle.words.specs.Gather.{Tables}
+use Rattle.words.specs.inner.Gather.{Tables}
 use Rattle.words.proofs.Outgoing.{step-nil}
 use Rattle.words.proofs.Stepping.{step-canon}
 

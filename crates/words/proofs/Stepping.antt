@@ -18,20 +18,21 @@ use Rattle.automata.proofs.Records.{read-write}
 use Rattle.ranges.specs.Cuts.{nextCut}
 use Rattle.ranges.specs.Missing.{Sorted}
 use Rattle.ranges.proofs.Sorting.{leaving-sorted}
-use Rattle.sets.specs.Sets.{Set, has, pick, Canon, membersFrom, nextMember}
-use Rattle.sets.specs.BitSet.{setAt}
-use Rattle.sets.specs.Words.{clearAt}
+use Rattle.sets.specs.Sets.{Set, has, pick}
+use Rattle.sets.specs.inner.Members.{Canon, membersFrom, nextMember}
+use Rattle.sets.specs.inner.BitSet.{setAt}
+use Rattle.sets.specs.inner.Words.{clearAt}
 use Rattle.sets.proofs.Sets.{has-pick, pick-ext, pick-canon, mem-has, has-mem, has-nil, has-below, wide}
 use Rattle.sets.proofs.BitSet.{at-canon, entry-at}
 use Rattle.sets.proofs.Stores.{cleared}
 use Rattle.sets.proofs.Members.{visit-start, visit-has, visit-next, from-end}
-use Rattle.sheets.specs.Runs.{Named, RunAt}
+use Rattle.sheets.specs.inner.Runs.{Named, RunAt}
 use Rattle.sheets.specs.Sheet.{stateCount, read}
 use Rattle.sheets.proofs.Meaning.{read-well}
 use Rattle.sheets.proofs.Named.{run-named}
 use Rattle.sheets.proofs.Runs.{run-at}
 use Rattle.words.specs.Simulation.{closure, outgoing, step}
-use Rattle.words.specs.Gather.{takes, reaches, gathered, Tables, withReached, withAll}
+use Rattle.words.specs.inner.Gather.{takes, reaches, gathered, Tables, withReached, withAll}
 use Rattle.words.proofs.Visiting.{member-here, member-later}
 use Rattle.words.proofs.Outgoing.{member-cut-begins, member-cut-next, member-cut-ended}
 use Rattle.words.proofs.Gather.{all-none, all-cons, all-one}

@@ -3,8 +3,8 @@ use Prim.Native.Nat.{ℕ, _+_, _-_, _<_}
 use mathlib.Core.List.{List}
 use mathlib.Core.Path.{_≡_}
 use native.Mathlib.Omega.{arith}
-use Rattle.sets.specs.Sets.{nextMember}
-use Rattle.sets.specs.BitSet.{setAt}
+use Rattle.sets.specs.inner.Members.{nextMember}
+use Rattle.sets.specs.inner.BitSet.{setAt}
 use Rattle.sets.proofs.BitSet.{at-canon}
 use Rattle.sets.proofs.Members.{visit-here, next-above}
 

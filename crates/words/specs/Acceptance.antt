@@ -1,7 +1,7 @@
 -- Acceptance of words and of text (document 01, "Closures and words").
 -- The answer is a refusal's number, or the accept word that the states at the word's end give: 0 where it is not accepted.
 use Prim.Native.Nat.{ℕ}
-use mathlib.Core.List.{List, []}
+use mathlib.Core.List.{List}
 use Rattle.automata.specs.Automaton.{Automaton}
 use Rattle.refusal.specs.Answer.{Answer, refused, given}
 use Rattle.refusal.specs.Number.{inputNumber}
@@ -33,8 +33,3 @@ answerOf (Refused r) = refused (inputNumber r)
 abbrev pub acceptanceNumber : Acceptance → ℕ
 acceptanceNumber (Kind k) = 0
 acceptanceNumber (Refused r) = inputNumber r
-
--- the code points of a text that is not malformed
-unfoldable pub pointsOf : Decoded → List ℕ
-pointsOf malformed = []
-pointsOf (points w) = w

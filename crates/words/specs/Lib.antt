@@ -1,6 +1,5 @@
 -- Closures, steps and acceptance.
 pub mod Simulation
 pub mod Kinds
-pub mod Gather
-pub mod Epsilons
 pub mod Acceptance
+pub mod inner

@@ -2,7 +2,7 @@
 use native.Mathlib.Omega.{arith}
 use borrow.Author.Needs.{needs}
 use lib.ListN.{length-set}
-use Rattle.buckets.specs.Buckets.{entered}
+use Rattle.buckets.specs.inner.Buckets.{entered}
 use Rattle.buckets.proofs.enter.Statement.{statement}
 use Rattle.buckets.proofs.enter.Tie as tie
 

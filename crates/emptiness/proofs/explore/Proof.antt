@@ -1,7 +1,7 @@
 -- `explore` meets its contract: the states before `head` have had their transitions followed.
 use Prim.Native.Nat.{_-_}
 use Rattle.sheets.specs.Sheet.{read}
-use Rattle.emptiness.specs.Queue.{Searched}
+use Rattle.emptiness.specs.inner.Queue.{Searched}
 use Rattle.emptiness.proofs.Search.{searchLaws, search-run, search-next}
 use Rattle.emptiness.proofs.explore.Statement.{statement}
 use Rattle.emptiness.proofs.explore.Tie as tie

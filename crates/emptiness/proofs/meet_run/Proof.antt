@@ -2,8 +2,8 @@
 use Prim.Native.Nat.{_-_, _≤_}
 use lib.ListN.{length, drop}
 use Rattle.automata.specs.Records.{readRecords}
-use Rattle.sheets.specs.Runs.{Named}
-use Rattle.emptiness.specs.Queue.{Left}
+use Rattle.sheets.specs.inner.Runs.{Named}
+use Rattle.emptiness.specs.inner.Queue.{Left}
 use Rattle.emptiness.proofs.Queue.{runLaws}
 use Rattle.emptiness.proofs.meet_run.Statement.{statement}
 use Rattle.emptiness.proofs.meet_run.Tie as tie

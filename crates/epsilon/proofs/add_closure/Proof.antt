@@ -2,10 +2,10 @@
 use Prim.Native.Nat.{_-_}
 use mathlib.Core.List.{_++_}
 use mathlib.Core.Path.{_≡_}
-use Rattle.output.specs.Gathering.{Rest}
-use Rattle.output.specs.Ordered.{recordsIn}
-use Rattle.sets.specs.Sets.{membersFrom, nextMember}
-use Rattle.sets.specs.BitSet.{setAt}
+use Rattle.output.specs.inner.Gathering.{Rest}
+use Rattle.output.specs.inner.Ordered.{recordsIn}
+use Rattle.sets.specs.inner.Members.{membersFrom, nextMember}
+use Rattle.sets.specs.inner.BitSet.{setAt}
 use Rattle.sheets.specs.Sheet.{read}
 use Rattle.epsilon.specs.Eliminate.{rangesFrom, closureRanges}
 use Rattle.epsilon.proofs.Gathering.{closureLaws}

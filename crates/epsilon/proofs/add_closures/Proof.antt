@@ -3,7 +3,7 @@ use Prim.Native.Nat.{_-_, _≤_}
 use mathlib.Core.List.{flatMap}
 use lib.ListN.{drop}
 use Rattle.automata.specs.Automaton.{states}
-use Rattle.output.specs.Gathering.{Rest}
+use Rattle.output.specs.inner.Gathering.{Rest}
 use Rattle.sheets.specs.Sheet.{stateCount, read}
 use Rattle.epsilon.specs.Eliminate.{closureRanges}
 use Rattle.epsilon.proofs.Gathering.{allLaws}

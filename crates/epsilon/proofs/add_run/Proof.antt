@@ -3,8 +3,8 @@ use Prim.Native.Nat.{_-_, _≤_}
 use mathlib.Core.List.{_++_}
 use lib.ListN.{length, drop}
 use Rattle.automata.specs.Records.{readRecords}
-use Rattle.output.specs.Gathering.{Rest}
-use Rattle.output.specs.Ordered.{recordsIn}
+use Rattle.output.specs.inner.Gathering.{Rest}
+use Rattle.output.specs.inner.Ordered.{recordsIn}
 use Rattle.epsilon.specs.Eliminate.{movedTo}
 use Rattle.epsilon.proofs.Gathering.{runLaws}
 use Rattle.epsilon.proofs.add_run.Statement.{statement}

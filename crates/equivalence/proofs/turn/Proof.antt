@@ -1,7 +1,7 @@
 -- `turn` meets its contract: the rows before `j` and `k` have equal triggers, whose targets are joined.
 use Prim.Native.Nat.{_-_}
 use lib.ListN.{length}
-use Rattle.equivalence.specs.Walking.{pairsOf}
+use Rattle.equivalence.specs.inner.Walking.{pairsOf}
 use Rattle.equivalence.proofs.Comparing.{Comparing, turning}
 use Rattle.equivalence.proofs.turn.Statement.{statement}
 use Rattle.equivalence.proofs.turn.Tie as tie

@@ -1,6 +1,6 @@
 -- `walk_pairs` meets its contract: the pairs before `head` do not differ, and what they lead to is joined.
 use Prim.Native.Nat.{_-_}
-use Rattle.equivalence.specs.Walking.{pairsOf, Going}
+use Rattle.equivalence.specs.inner.Walking.{pairsOf, Going}
 use Rattle.equivalence.proofs.Going.{going, walk-in-a, walk-in-b, walk-rejects, walk-run-a, walk-run-b, walk-turn, walk-lacks, walk-next}
 use Rattle.equivalence.proofs.walk_pairs.Statement.{statement}
 use Rattle.equivalence.proofs.walk_pairs.Tie as tie

@@ -2,7 +2,8 @@
 use Prim.Native.Nat.{_+_, _-_, _≤_}
 use mathlib.Core.Path.{_≡_}
 use lib.ListN.{drop}
-use Rattle.labels.specs.Labels.{labelPlace, readLabels, sameLabel}
+use Rattle.labels.specs.Labels.{readLabels, sameLabel}
+use Rattle.labels.specs.inner.Places.{labelPlace}
 use Rattle.lists.specs.Index.{index}
 use Rattle.labels.proofs.Finding.{findLaws}
 use Rattle.labels.proofs.find.Statement.{statement}

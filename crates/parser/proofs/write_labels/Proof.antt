@@ -2,7 +2,7 @@
 use Prim.Native.Nat.{_-_, _≤_}
 use Rattle.labels.specs.Labels.{writeEntries}
 use Rattle.lists.specs.Written.{Written}
-use Rattle.parser.specs.Names.{namesIn}
+use Rattle.parser.specs.inner.Names.{namesIn}
 use Rattle.parser.proofs.Labelling.{labelLaws}
 use Rattle.parser.proofs.write_labels.Statement.{statement}
 use Rattle.parser.proofs.write_labels.Tie as tie

@@ -7,7 +7,7 @@ use native.Mathlib.Omega.{arith}
 use borrow.Author.Needs.{needs}
 use lib.ListN.{length, set, length-set}
 use lib.Seq.{sets}
-use Rattle.ranges.specs.Missing.{gap, spanWords}
+use Rattle.ranges.specs.inner.Missing.{gap, spanWords}
 use Rattle.ranges.proofs.Scanned.{gap-some, gap-none}
 use Rattle.ranges.proofs.add_gap.Statement.{statement}
 use Rattle.ranges.proofs.add_gap.Tie as tie

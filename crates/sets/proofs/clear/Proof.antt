@@ -1,6 +1,6 @@
 -- `clear` meets its contract.
 use borrow.Author.Needs.{needs}
-use Rattle.sets.specs.Words.{clearAt}
+use Rattle.sets.specs.inner.Words.{clearAt}
 use Rattle.sets.proofs.clear.Statement.{statement}
 use Rattle.sets.proofs.clear.Tie as tie
 

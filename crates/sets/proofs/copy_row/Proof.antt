@@ -1,6 +1,6 @@
 -- `copy_row` meets its contract.
 use borrow.Author.Needs.{needs}
-use Rattle.sets.specs.Words.{putAt}
+use Rattle.sets.specs.inner.Words.{putAt}
 use Rattle.sets.proofs.copy_row.Statement.{statement}
 use Rattle.sets.proofs.copy_row.Tie as tie
 

@@ -1,8 +1,8 @@
 -- `first_in` meets its contract: no member stands in the words passed.
 use Prim.Native.Nat.{_*_, _-_, _≤_}
 use mathlib.Core.Path.{_≡_}
-use Rattle.sets.specs.Sets.{nextMember}
-use Rattle.sets.specs.BitSet.{setAt}
+use Rattle.sets.specs.inner.Members.{nextMember}
+use Rattle.sets.specs.inner.BitSet.{setAt}
 use Rattle.sets.proofs.Scan.{scanLaws}
 use Rattle.sets.proofs.first_in.Statement.{statement}
 use Rattle.sets.proofs.first_in.Tie as tie

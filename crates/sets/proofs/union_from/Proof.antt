@@ -1,6 +1,6 @@
 -- `union_from` meets its contract.
 use borrow.Author.Needs.{needs}
-use Rattle.sets.specs.Words.{unionAt}
+use Rattle.sets.specs.inner.Words.{unionAt}
 use Rattle.sets.proofs.union_from.Statement.{statement}
 use Rattle.sets.proofs.union_from.Tie as tie
 

@@ -1,6 +1,6 @@
 -- `union_row` meets its contract.
 use borrow.Author.Needs.{needs}
-use Rattle.sets.specs.Words.{unionAt}
+use Rattle.sets.specs.inner.Words.{unionAt}
 use Rattle.sets.proofs.union_row.Statement.{statement}
 use Rattle.sets.proofs.union_row.Tie as tie
 

@@ -5,8 +5,8 @@ use lib.ListN.{length, drop}
 use Rattle.lists.specs.Lists.{all}
 use Rattle.automata.specs.Records.{readRecords}
 use Rattle.sheets.specs.Sheet.{read}
-use Rattle.sheets.specs.Runs.{Named}
-use Rattle.subautomaton.specs.Tables.{fitsIn}
+use Rattle.sheets.specs.inner.Runs.{Named}
+use Rattle.subautomaton.specs.inner.Tables.{fitsIn}
 use Rattle.subautomaton.proofs.Matching.{recordsLaws}
 use Rattle.subautomaton.proofs.are_covered.Statement.{statement}
 use Rattle.subautomaton.proofs.are_covered.Tie as tie

@@ -5,7 +5,7 @@ use lib.ListN.{drop}
 use Rattle.automata.specs.Automaton.{states}
 use Rattle.lists.specs.Lists.{any}
 use Rattle.sheets.specs.Sheet.{read}
-use Rattle.subautomaton.specs.Tables.{isHeld}
+use Rattle.subautomaton.specs.inner.Tables.{isHeld}
 use Rattle.subautomaton.proofs.Matching.{hasLaws}
 use Rattle.subautomaton.proofs.has_state.Statement.{statement}
 use Rattle.subautomaton.proofs.has_state.Tie as tie

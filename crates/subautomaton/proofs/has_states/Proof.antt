@@ -5,7 +5,7 @@ use lib.ListN.{drop}
 use Rattle.lists.specs.Lists.{all}
 use Rattle.automata.specs.Automaton.{states}
 use Rattle.sheets.specs.Sheet.{read}
-use Rattle.subautomaton.specs.Tables.{isHeldIn}
+use Rattle.subautomaton.specs.inner.Tables.{isHeldIn}
 use Rattle.subautomaton.proofs.Matching.{statesLaws}
 use Rattle.subautomaton.proofs.has_states.Statement.{statement}
 use Rattle.subautomaton.proofs.has_states.Tie as tie

@@ -4,9 +4,9 @@ use mathlib.Core.Path.{_≡_}
 use lib.ListN.{drop}
 use Rattle.automata.specs.Automaton.{states}
 use Rattle.lists.specs.Lists.{any}
-use Rattle.automata.specs.Records.{recordAt}
+use Rattle.automata.specs.inner.Records.{recordAt}
 use Rattle.sheets.specs.Sheet.{read}
-use Rattle.subautomaton.specs.Tables.{fitsFrom}
+use Rattle.subautomaton.specs.inner.Tables.{fitsFrom}
 use Rattle.subautomaton.proofs.Loops.{some-next}
 use Rattle.subautomaton.proofs.Matching.{inLaws}
 use Rattle.subautomaton.proofs.is_covered.Statement.{statement}

@@ -1,8 +1,9 @@
 -- `number_labels` meets its contract: the first `i` labels have their numbers.
 use Prim.Native.Nat.{_-_, _≤_}
 use mathlib.Core.Path.{_≡_}
-use Rattle.labels.specs.Labels.{labelPlace, readLabels}
-use Rattle.subautomaton.specs.Tables.{Numbered}
+use Rattle.labels.specs.Labels.{readLabels}
+use Rattle.labels.specs.inner.Places.{labelPlace}
+use Rattle.subautomaton.specs.inner.Tables.{Numbered}
 use Rattle.subautomaton.proofs.Numbering.{numberLaws}
 use Rattle.subautomaton.proofs.number_labels.Statement.{statement}
 use Rattle.subautomaton.proofs.number_labels.Tie as tie

@@ -3,9 +3,10 @@ use Prim.Native.Nat.{_-_, _≤_}
 use mathlib.Core.Path.{_≡_}
 use lib.ListN.{length, drop}
 use Rattle.lists.specs.Lists.{any}
-use Rattle.automata.specs.Records.{recordAt, readRecords}
-use Rattle.sheets.specs.Runs.{Named}
-use Rattle.subautomaton.specs.Tables.{fits}
+use Rattle.automata.specs.Records.{readRecords}
+use Rattle.automata.specs.inner.Records.{recordAt}
+use Rattle.sheets.specs.inner.Runs.{Named}
+use Rattle.subautomaton.specs.inner.Tables.{fits}
 use Rattle.subautomaton.proofs.Matching.{runLaws}
 use Rattle.subautomaton.proofs.run_covers.Statement.{statement}
 use Rattle.subautomaton.proofs.run_covers.Tie as tie

@@ -3,7 +3,7 @@ use Prim.Native.Nat.{_-_, _≤_}
 use mathlib.Core.Path.{_≡_}
 use borrow.Author.Needs.{needs}
 use lib.ListN.{length, drop}
-use Rattle.utf8.specs.Utf8.{wellformed}
+use Rattle.utf8.specs.inner.Steps.{wellformed}
 use Rattle.utf8.proofs.Wellformed.{wellformedLoop}
 use Rattle.utf8.proofs.is_wellformed.Statement.{statement}
 use Rattle.utf8.proofs.is_wellformed.Tie as tie

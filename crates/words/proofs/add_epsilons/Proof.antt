@@ -3,8 +3,8 @@ use Prim.Native.Nat.{_-_, _≤_}
 use mathlib.Core.Path.{_≡_}
 use lib.ListN.{length, drop}
 use Rattle.automata.specs.Records.{readRecords}
-use Rattle.sheets.specs.Runs.{Named}
-use Rattle.words.specs.Epsilons.{EpsilonsLeft}
+use Rattle.sheets.specs.inner.Runs.{Named}
+use Rattle.words.specs.inner.Epsilons.{EpsilonsLeft}
 use Rattle.words.proofs.Epsilons.{epsilonsLaws}
 use Rattle.words.proofs.add_epsilons.Statement.{statement}
 use Rattle.words.proofs.add_epsilons.Tie as tie

@@ -2,7 +2,7 @@
 use Prim.Native.Nat.{_-_, _≤_}
 use mathlib.Core.Path.{_≡_}
 use lib.ListN.{length}
-use Rattle.words.specs.Epsilons.{SelvesAdded}
+use Rattle.words.specs.inner.Epsilons.{SelvesAdded}
 use Rattle.words.proofs.Epsilons.{selfLaws}
 use Rattle.words.proofs.add_selves.Statement.{statement}
 use Rattle.words.proofs.add_selves.Tie as tie

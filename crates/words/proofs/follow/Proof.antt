@@ -8,9 +8,9 @@ use Rattle.ranges.specs.Cuts.{nextCut}
 use Rattle.ranges.specs.Missing.{Sorted}
 use Rattle.ranges.proofs.Runs.{rangesIn}
 use Rattle.ranges.proofs.SortedCuts.{sorted-skip, sorted-next, cut-skip, cut-below, cut-holds, cut-above, cut-ended}
-use Rattle.sheets.specs.Runs.{Named}
+use Rattle.sheets.specs.inner.Runs.{Named}
 use Rattle.sheets.proofs.Named.{named-next}
-use Rattle.words.specs.Gather.{gathered}
+use Rattle.words.specs.inner.Gather.{gathered}
 use Rattle.words.proofs.Gather.{targetLaws, run-skip, run-below, run-holds, run-above, run-ended}
 use Rattle.words.proofs.follow.Statement.{statement}
 use Rattle.words.proofs.follow.Tie as tie

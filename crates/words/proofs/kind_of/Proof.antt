@@ -1,8 +1,8 @@
 -- `kind_of` meets its contract: `kind`, with the accept words of the members from `q` on, gives the least.
 use Prim.Native.Nat.{_-_}
 use mathlib.Core.Path.{_≡_}
-use Rattle.sets.specs.Sets.{membersFrom, nextMember}
-use Rattle.sets.specs.BitSet.{setAt}
+use Rattle.sets.specs.inner.Members.{membersFrom, nextMember}
+use Rattle.sets.specs.inner.BitSet.{setAt}
 use Rattle.sheets.specs.Sheet.{read}
 use Rattle.words.specs.Simulation.{kindOf}
 use Rattle.words.specs.Simulation

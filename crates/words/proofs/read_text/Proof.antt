@@ -3,11 +3,12 @@ use Prim.Native.Nat.{_-_, _≤_}
 use mathlib.Core.Bool.{true}
 use mathlib.Core.Path.{_≡_}
 use lib.ListN.{length, drop}
-use Rattle.sets.specs.Sets.{Canon}
-use Rattle.sets.specs.BitSet.{setAt}
+use Rattle.sets.specs.inner.Members.{Canon}
+use Rattle.sets.specs.inner.BitSet.{setAt}
 use Rattle.sheets.specs.Sheet.{stateCount, read}
-use Rattle.utf8.specs.Utf8.{decode, wellformed}
-use Rattle.words.specs.Acceptance.{pointsOf}
+use Rattle.utf8.specs.Utf8.{decode}
+use Rattle.utf8.specs.inner.Steps.{wellformed}
+use Rattle.words.specs.inner.Acceptance.{pointsOf}
 use Rattle.words.specs.Simulation.{simulate}
 use Rattle.words.proofs.Answers.{textLaws}
 use Rattle.words.proofs.read_text.Statement.{statement}

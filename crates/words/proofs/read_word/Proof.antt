@@ -2,8 +2,8 @@
 use Prim.Native.Nat.{_-_, _≤_}
 use mathlib.Core.Path.{_≡_}
 use lib.ListN.{length, drop}
-use Rattle.sets.specs.Sets.{Canon}
-use Rattle.sets.specs.BitSet.{setAt}
+use Rattle.sets.specs.inner.Members.{Canon}
+use Rattle.sets.specs.inner.BitSet.{setAt}
 use Rattle.sheets.specs.Sheet.{stateCount, read}
 use Rattle.words.specs.Simulation.{simulate}
 use Rattle.words.proofs.Reading.{readLaws}

@@ -2,11 +2,11 @@
 use Prim.Native.Nat.{_-_}
 use mathlib.Core.Path.{_≡_}
 use lib.ListN.{length}
-use Rattle.sets.specs.Sets.{membersFrom, nextMember}
-use Rattle.sets.specs.BitSet.{setAt}
+use Rattle.sets.specs.inner.Members.{membersFrom, nextMember}
+use Rattle.sets.specs.inner.BitSet.{setAt}
 use Rattle.ranges.specs.Cuts.{nextCut}
 use Rattle.sheets.specs.Sheet.{read}
-use Rattle.words.specs.Gather.{withReached}
+use Rattle.words.specs.inner.Gather.{withReached}
 use Rattle.words.specs.Simulation
 use Rattle.words.proofs.Stepping.{stepLaws}
 use Rattle.words.proofs.step.Statement.{statement}

@@ -3,9 +3,9 @@ use Prim.Native.Nat.{_-_, _*_, _≤_, _<_}
 use mathlib.Core.Path.{_≡_}
 use borrow.Author.Needs.{needs}
 use lib.ListN.{length}
-use Rattle.sets.specs.BitSet.{entries}
+use Rattle.sets.specs.inner.BitSet.{entries}
 use Rattle.sheets.specs.Sheet.{stateCount, read}
-use Rattle.determinize.specs.Notes.{Canonical}
+use Rattle.determinize.specs.inner.Notes.{Canonical}
 use Rattle.determinize.proofs.Queued.{Exploring, explore-begins, start-canonical, explore-few, explore-bounded, explore-canonical, explore-next, explore-over, explore-ended}
 use Rattle.determinize.proofs.exploring.explore.Statement.{statement}
 use Rattle.determinize.proofs.exploring.explore.Tie as tie

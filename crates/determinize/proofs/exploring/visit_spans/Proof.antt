@@ -3,9 +3,9 @@ use Prim.Native.Nat.{_+_, _-_, _≤_, _<_}
 use mathlib.Core.Path.{_≡_}
 use borrow.Author.Needs.{needs}
 use lib.ListN.{length}
-use Rattle.sets.specs.BitSet.{setAt, entries}
+use Rattle.sets.specs.inner.BitSet.{setAt, entries}
 use Rattle.sheets.specs.Sheet.{stateCount, read}
-use Rattle.determinize.specs.Notes.{Canonical}
+use Rattle.determinize.specs.inner.Notes.{Canonical}
 use Rattle.determinize.proofs.Placing.{cut-less, cut-counts, cut-most}
 use Rattle.determinize.proofs.Visits.{Visiting, visit-begins, visit-next, visit-over, visit-ended, canonical-next}
 use Rattle.determinize.proofs.exploring.visit_spans.Statement.{statement}

@@ -5,7 +5,7 @@ use mathlib.Core.Path.{_≡_}
 use borrow.Author.Needs.{needs}
 use lib.ListN.{length}
 use Rattle.lists.specs.Written.{Written}
-use Rattle.sets.specs.BitSet.{entries}
+use Rattle.sets.specs.inner.BitSet.{entries}
 use Rattle.sheets.specs.Sheet.{read}
 use Rattle.words.specs.Simulation.{kindOf}
 use Rattle.determinize.proofs.Sections.{acceptLaws, accepts-next}

@@ -4,8 +4,8 @@ use mathlib.Core.Path.{_≡_, refl, _∙_}
 use native.Mathlib.Omega.{arith}
 use lib.ListN.{getD, length, length-set}
 use lib.Seq.{drop-set-lt}
-use Rattle.equality.specs.Walking.{trail}
-use Rattle.equality.specs.Code.{queueOf}
+use Rattle.equality.specs.inner.Walking.{trail}
+use Rattle.equality.specs.inner.Code.{queueOf}
 use Rattle.equality.proofs.Spelling.{Spelling, spell-start, spell-inside, spell-next, spell-done}
 use borrow.Author.Needs.{needs}
 use Rattle.equality.proofs.pairs.spell.Statement.{statement}

@@ -1,8 +1,8 @@
 -- `turn` meets its contract: the rows before `j` are done, and of row `j` the records before `k`.
 use Prim.Native.Nat.{_-_}
 use native.Mathlib.Omega.{arith}
-use Rattle.dsu.specs.Sets.{setsOf}
-use Rattle.equality.specs.Code.{pairsOf}
+use Rattle.dsu.specs.inner.Lent.{setsOf}
+use Rattle.equality.specs.inner.Code.{pairsOf}
 use Rattle.equality.proofs.Turning.{Turning, turning, turn-accept-a, turn-accept-b, turn-join, turn-small, turn-push, turn-had, turn-put, turn-row, turn-done, turn-differ}
 use borrow.Author.Needs.{needs}
 use Rattle.equality.proofs.pairs.turn.Statement.{statement}

@@ -1,6 +1,6 @@
 -- `walk` meets its contract: the starts differ, or they are joined in fresh sets and the queue decides.
 use mathlib.Core.Path.{refl}
-use Rattle.dsu.specs.Sets.{setsOf}
+use Rattle.dsu.specs.inner.Lent.{setsOf}
 use Rattle.equality.proofs.Going.{walk-first, walk-begin}
 use Rattle.equality.proofs.Joining.{begin-join, begin-law}
 use borrow.Author.Needs.{needs}

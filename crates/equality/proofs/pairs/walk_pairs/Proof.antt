@@ -3,7 +3,7 @@ use Prim.Native.Nat.{_-_}
 use mathlib.Core.Path.{_≡_, ap, _∙_}
 use native.Mathlib.Omega.{arith}
 use lib.ListN.{length}
-use Rattle.equality.specs.Code.{pairsOf, Going}
+use Rattle.equality.specs.inner.Code.{pairsOf, Going}
 use Rattle.equality.proofs.Going.{going, walk-few, walk-run-a, walk-run-b, walk-spell, walk-differs, walk-same}
 use Rattle.equality.proofs.pairs.walk_pairs.Statement.{statement}
 use Rattle.equality.proofs.pairs.walk_pairs.Tie as tie

@@ -3,8 +3,8 @@ use Prim.Native.Nat.{_-_}
 use mathlib.Core.Path.{_≡_}
 use lib.ListN.{length}
 use Rattle.grammar.specs.Grammar.{nextNames}
-use Rattle.parser.specs.Accepts.{markAll}
-use Rattle.parser.specs.Names.{namesIn}
+use Rattle.parser.specs.inner.Accepts.{markAll}
+use Rattle.parser.specs.inner.Names.{namesIn}
 use Rattle.parser.proofs.Marking.{marksLaws, marks-next}
 use Rattle.parser.proofs.accepts.mark_next.Statement.{statement}
 use Rattle.parser.proofs.accepts.mark_next.Tie as tie

@@ -5,7 +5,7 @@ use lib.ListN.{length}
 use Rattle.grammar.specs.Grammar.{transitions}
 use Rattle.labels.specs.Labels.{sameLabel}
 use Rattle.search.specs.Search.{meet}
-use Rattle.parser.specs.Names.{Table, namesIn}
+use Rattle.parser.specs.inner.Names.{Table, namesIn}
 use Rattle.parser.specs.Pattern.{namesOf}
 use Rattle.parser.specs.inner.Places.{movesAt}
 use Rattle.parser.proofs.Collecting.{collectLaws, collect-next, collect-full}

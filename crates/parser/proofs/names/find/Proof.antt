@@ -1,7 +1,7 @@
 -- `find` meets its contract: the names that the walk has passed are other ones.
 use mathlib.Core.List.{map}
 use Rattle.buckets.proofs.Walking.{Walk}
-use Rattle.parser.specs.Names.{hashOf, namesIn, isName}
+use Rattle.parser.specs.inner.Names.{hashOf, namesIn, isName}
 use Rattle.parser.proofs.Finding.{findLaws}
 use Rattle.parser.proofs.names.find.Statement.{statement}
 use Rattle.parser.proofs.names.find.Tie as tie

@@ -2,7 +2,7 @@
 use Prim.Native.Nat.{_-_, _<_}
 use mathlib.Core.Path.{_≡_}
 use lib.ListN.{length, drop}
-use Rattle.parser.specs.Names.{hashFrom, hashOf}
+use Rattle.parser.specs.inner.Names.{hashFrom, hashOf}
 use Rattle.parser.proofs.Finding.{hashLaws}
 use Rattle.parser.proofs.names.hash.Statement.{statement}
 use Rattle.parser.proofs.names.hash.Tie as tie

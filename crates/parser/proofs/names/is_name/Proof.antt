@@ -1,6 +1,6 @@
 -- `is_name` meets its contract: the bytes of the name are compared.
 use borrow.Author.Needs.{needs}
-use Rattle.parser.specs.Names.{isName}
+use Rattle.parser.specs.inner.Names.{isName}
 use Rattle.parser.proofs.names.is_name.Statement.{statement}
 use Rattle.parser.proofs.names.is_name.Tie as tie
 

@@ -3,7 +3,7 @@ use native.Mathlib.Omega.{arith}
 use mathlib.Core.Path.{_∙_}
 use borrow.Author.Needs.{needs}
 use lib.ListN.{length-set}
-use Rattle.parser.specs.Names.{stored}
+use Rattle.parser.specs.inner.Names.{stored}
 use Rattle.parser.proofs.names.put.Statement.{statement}
 use Rattle.parser.proofs.names.put.Tie as tie
 

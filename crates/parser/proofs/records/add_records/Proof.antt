@@ -4,8 +4,8 @@ use mathlib.Core.List.{map}
 use mathlib.Core.Path.{_≡_}
 use lib.ListN.{length}
 use Rattle.grammar.specs.Grammar.{transitions}
-use Rattle.output.specs.Gathering.{Rest}
-use Rattle.parser.specs.Names.{namesIn}
+use Rattle.output.specs.inner.Gathering.{Rest}
+use Rattle.parser.specs.inner.Names.{namesIn}
 use Rattle.parser.specs.Pattern.{transitionOf}
 use Rattle.parser.specs.inner.Places.{movesAt}
 use Rattle.parser.proofs.Recording.{recordLaws}

@@ -2,9 +2,9 @@
 use Prim.Native.Nat.{_-_, _≤_}
 use lib.ListN.{drop}
 use Rattle.sheets.specs.Sheet.{read}
-use Rattle.output.specs.Gathering.{Rest}
+use Rattle.output.specs.inner.Gathering.{Rest}
 use Rattle.product.specs.Product.{transitionsFrom, placeIn}
-use Rattle.product.specs.Tables.{tableOf}
+use Rattle.product.specs.inner.Tables.{tableOf}
 use Rattle.product.proofs.Adding.{pairsLaws, pairs-over, pairs-next}
 use Rattle.product.proofs.Blocking.{within-left, within-right}
 use Rattle.product.proofs.Queueing.{queued-room}

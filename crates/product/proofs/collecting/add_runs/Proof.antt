@@ -3,10 +3,10 @@ use Prim.Native.Nat.{_-_, _≤_}
 use mathlib.Core.List.{_++_}
 use lib.ListN.{length, drop}
 use Rattle.automata.specs.Records.{readRecords}
-use Rattle.output.specs.Ordered.{recordsIn}
-use Rattle.output.specs.Gathering.{Rest}
-use Rattle.sheets.specs.Runs.{Named}
-use Rattle.product.specs.Tables.{tableOf, links}
+use Rattle.output.specs.inner.Ordered.{recordsIn}
+use Rattle.output.specs.inner.Gathering.{Rest}
+use Rattle.sheets.specs.inner.Runs.{Named}
+use Rattle.product.specs.inner.Tables.{tableOf, links}
 use Rattle.product.proofs.Adding.{runsLaws, runs-over, runs-next}
 use Rattle.product.proofs.collecting.add_runs.Statement.{statement}
 use Rattle.product.proofs.collecting.add_runs.Tie as tie

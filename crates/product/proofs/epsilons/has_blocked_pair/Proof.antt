@@ -5,7 +5,7 @@ use lib.ListN.{drop}
 use Rattle.lists.specs.Lists.{any}
 use Rattle.sheets.specs.Sheet.{read}
 use Rattle.product.specs.Product.{blockedAt}
-use Rattle.product.specs.Tables.{tableOf}
+use Rattle.product.specs.inner.Tables.{tableOf}
 use Rattle.product.proofs.Blocking.{searchLaws}
 use Rattle.product.proofs.epsilons.has_blocked_pair.Statement.{statement}
 use Rattle.product.proofs.epsilons.has_blocked_pair.Tie as tie

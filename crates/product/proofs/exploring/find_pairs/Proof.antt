@@ -6,7 +6,7 @@ use Rattle.search.specs.Search.{table}
 use Rattle.search.proofs.Queue as Search
 use Rattle.sheets.specs.Sheet.{stateCount, read}
 use Rattle.product.specs.Product.{pairs}
-use Rattle.product.specs.Tables.{tableOf, Queued, Within}
+use Rattle.product.specs.inner.Tables.{tableOf, Queued, Within}
 use Rattle.product.proofs.Finding.{findLaws, begin-queue, begin-within, find-next, find-within}
 use Rattle.product.proofs.exploring.find_pairs.Statement.{statement}
 use Rattle.product.proofs.exploring.find_pairs.Tie as tie

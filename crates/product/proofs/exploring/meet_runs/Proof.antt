@@ -3,8 +3,8 @@ use Prim.Native.Nat.{_-_, _≤_}
 use mathlib.Core.Path.{_≡_}
 use lib.ListN.{length, drop}
 use Rattle.automata.specs.Records.{readRecords}
-use Rattle.sheets.specs.Runs.{Named}
-use Rattle.product.specs.Tables.{Queued, targets}
+use Rattle.sheets.specs.inner.Runs.{Named}
+use Rattle.product.specs.inner.Tables.{Queued, targets}
 use Rattle.product.proofs.Meeting.{runsLaws, runs-next}
 use Rattle.product.proofs.Queueing.{metWith}
 use Rattle.product.proofs.exploring.meet_runs.Statement.{statement}

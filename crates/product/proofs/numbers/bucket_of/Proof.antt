@@ -1,6 +1,6 @@
 -- `bucket_of` meets its contract: no number on the way is too large.
 use borrow.Author.Needs.{needs}
-use Rattle.product.specs.Tables.{bucketOf}
+use Rattle.product.specs.inner.Tables.{bucketOf}
 use Rattle.product.proofs.numbers.bucket_of.Statement.{statement}
 use Rattle.product.proofs.numbers.bucket_of.Tie as tie
 

@@ -1,7 +1,7 @@
 -- `find_pair` meets its contract: the words that the walk has passed are other ones.
 use Prim.Native.Nat.{_≤_}
 use Rattle.buckets.proofs.Walking.{Walk}
-use Rattle.product.specs.Tables.{bucketOf, bucketsOf}
+use Rattle.product.specs.inner.Tables.{bucketOf, bucketsOf}
 use Rattle.product.proofs.Numbering.{isWord, findLaws}
 use Rattle.product.proofs.numbers.find_pair.Statement.{statement}
 use Rattle.product.proofs.numbers.find_pair.Tie as tie

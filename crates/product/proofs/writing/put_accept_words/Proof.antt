@@ -6,7 +6,7 @@ use lib.ListN.{length}
 use Rattle.lists.specs.Written.{Written}
 use Rattle.sheets.specs.Sheet.{read}
 use Rattle.product.specs.Product.{acceptOf}
-use Rattle.product.specs.Tables.{tableOf}
+use Rattle.product.specs.inner.Tables.{tableOf}
 use Rattle.product.proofs.Sections.{wordsLaws}
 use Rattle.product.proofs.writing.put_accept_words.Statement.{statement}
 use Rattle.product.proofs.writing.put_accept_words.Tie as tie

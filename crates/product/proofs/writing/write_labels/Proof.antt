@@ -4,7 +4,7 @@ use mathlib.Core.List.{map}
 use Rattle.lists.specs.Written.{Written}
 use Rattle.labels.specs.Labels.{writeEntries}
 use Rattle.product.specs.Product.{labelOf}
-use Rattle.product.specs.Tables.{tableOf}
+use Rattle.product.specs.inner.Tables.{tableOf}
 use Rattle.product.proofs.Sections.{labelsLaws}
 use Rattle.product.proofs.writing.write_labels.Statement.{statement}
 use Rattle.product.proofs.writing.write_labels.Tie as tie

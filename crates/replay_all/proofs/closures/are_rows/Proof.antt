@@ -3,7 +3,7 @@ use Prim.Native.Nat.{_≤_, _-_}
 use mathlib.Core.Path.{_≡_}
 use lib.ListN.{drop}
 use borrow.Author.Needs.{needs}
-use Rattle.sets.specs.BitSet.{entries}
+use Rattle.sets.specs.inner.BitSet.{entries}
 use Rattle.replay_all.specs.Rows.{areRows}
 use Rattle.replay_all.proofs.Rows.{rowsLaws}
 use Rattle.replay_all.proofs.closures.are_rows.Statement.{statement}

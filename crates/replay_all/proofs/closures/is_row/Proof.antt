@@ -5,8 +5,8 @@ use native.Mathlib.Omega.{arith}
 use borrow.Author.Needs.{needs}
 use lib.ListN.{length, drop}
 use Rattle.labels.specs.Labels.{sameLabel}
-use Rattle.sets.specs.BitSet.{setAt}
-use Rattle.sets.specs.Sets.{membersFrom}
+use Rattle.sets.specs.inner.BitSet.{setAt}
+use Rattle.sets.specs.inner.Members.{membersFrom}
 use Rattle.replay_all.proofs.Rows.{row-begun, row-short, row-other, row-next, row-skip, row-ended}
 use Rattle.replay_all.proofs.closures.is_row.Statement.{statement}
 use Rattle.replay_all.proofs.closures.is_row.Tie as tie

@@ -2,7 +2,7 @@
 use Prim.Native.Nat.{_-_, _≤_}
 use mathlib.Core.Path.{_≡_}
 use lib.ListN.{length}
-use Rattle.sets.specs.Words.{visitRows}
+use Rattle.sets.specs.inner.Words.{visitRows}
 use Rattle.sets.proofs.Rounds.{roundLaws}
 use Rattle.sets.proofs.closure.round.Statement.{statement}
 use Rattle.sets.proofs.closure.round.Tie as tie

@@ -3,7 +3,7 @@ use Prim.Native.Nat.{_-_, _≤_}
 use mathlib.Core.Path.{_≡_}
 use borrow.Author.Needs.{needs}
 use lib.ListN.{length}
-use Rattle.sets.specs.Rows.{ClosedTo}
+use Rattle.sets.specs.inner.Rows.{ClosedTo}
 use Rattle.sets.proofs.Closing.{closureLaws, closed-round, closed-skip}
 use Rattle.sets.proofs.closure.warshall.Statement.{statement}
 use Rattle.sets.proofs.closure.warshall.Tie as tie

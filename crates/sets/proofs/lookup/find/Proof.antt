@@ -3,7 +3,7 @@ use Prim.Native.Nat.{_+_, _-_, _≤_}
 use mathlib.Core.Path.{_≡_}
 use lib.ListN.{drop}
 use Rattle.lists.specs.Index.{index, same}
-use Rattle.sets.specs.BitSet.{setAt, entries}
+use Rattle.sets.specs.inner.BitSet.{setAt, entries}
 use Rattle.sets.proofs.Steps.{findLaws, find-next}
 use Rattle.sets.proofs.lookup.find.Statement.{statement}
 use Rattle.sets.proofs.lookup.find.Tie as tie

@@ -4,8 +4,9 @@ use mathlib.Core.Path.{_≡_}
 use native.Mathlib.Omega.{arith}
 use lib.ListN.{length, take, drop}
 use Rattle.automata.specs.Records.{readRecords}
-use Rattle.sheets.specs.Runs.{below, startsBelow}
-use Rattle.sheets.specs.Sheet.{stateCount, recordCount, recordsAt}
+use Rattle.sheets.specs.inner.Runs.{below, startsBelow}
+use Rattle.sheets.specs.Sheet.{stateCount, recordsAt}
+use Rattle.sheets.specs.inner.Accepted.{recordCount}
 use Rattle.sheets.proofs.Runs.{startsLaws, starts-within, starts-next}
 use Rattle.sheets.proofs.reading.run_starts.Statement.{statement}
 use Rattle.sheets.proofs.reading.run_starts.Tie as tie

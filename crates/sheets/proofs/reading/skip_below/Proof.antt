@@ -2,7 +2,7 @@
 use Prim.Native.Nat.{_*_, _≤_, _-_}
 use lib.ListN.{length}
 use Rattle.automata.specs.Records.{readRecords}
-use Rattle.sheets.specs.Runs.{below}
+use Rattle.sheets.specs.inner.Runs.{below}
 use Rattle.sheets.proofs.Below.{skips}
 use Rattle.sheets.proofs.reading.skip_below.Statement.{statement}
 use Rattle.sheets.proofs.reading.skip_below.Tie as tie

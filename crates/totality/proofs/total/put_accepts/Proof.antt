@@ -4,7 +4,7 @@ use mathlib.Core.List.{map}
 use mathlib.Core.Path.{_≡_}
 use lib.ListN.{length, take}
 use Rattle.lists.specs.Written.{Written}
-use Rattle.totality.specs.Merging.{acceptWord}
+use Rattle.totality.specs.inner.Merging.{acceptWord}
 use Rattle.totality.proofs.Writing.{acceptsLaws}
 use Rattle.totality.proofs.total.put_accepts.Statement.{statement}
 use Rattle.totality.proofs.total.put_accepts.Tie as tie

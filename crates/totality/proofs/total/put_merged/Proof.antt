@@ -4,7 +4,7 @@ use mathlib.Core.Path.{_≡_}
 use borrow.Author.Needs.{needs}
 use lib.ListN.{length, drop}
 use Rattle.automata.specs.Records.{readRecords, writeRecords}
-use Rattle.totality.specs.Merging.{readSpans, Mergeable, merged, Whole}
+use Rattle.totality.specs.inner.Merging.{readSpans, Mergeable, merged, Whole}
 use Rattle.lists.proofs.Left.{Left}
 use Rattle.totality.proofs.Merging.{mergeLaws, merge-whole, merge-mergeable, hole-next}
 use Rattle.totality.proofs.total.put_merged.Statement.{statement}

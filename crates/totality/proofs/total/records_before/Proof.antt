@@ -3,7 +3,7 @@ use Prim.Native.Nat.{_+_, _*_, _-_, _≤_}
 use mathlib.Core.Path.{_≡_}
 use lib.ListN.{length, drop}
 use Rattle.automata.specs.Records.{readRecords}
-use Rattle.totality.specs.Merging.{leading}
+use Rattle.totality.specs.inner.Merging.{leading}
 use Rattle.totality.proofs.Merging.{leadingLaws}
 use Rattle.totality.proofs.total.records_before.Statement.{statement}
 use Rattle.totality.proofs.total.records_before.Tie as tie

@@ -1,0 +1,4 @@
+-- What only inner contracts cite.
+pub mod Gathering
+pub mod Ordered
+pub mod Sorting

@@ -1,0 +1,75 @@
+-- What the code holds of the table of pairs: a queue in which a pair is one word, and the buckets by which a pair is found in it.
+use Prim.Native.Nat.{ℕ, _+_, _*_, _/_, _%_, _≤_, _<_}
+use mathlib.Core.Bool.{true, false, cond}
+use mathlib.Core.List.{List, _∷_, _++_, map}
+use mathlib.Core.Path.{_≡_}
+use lib.Dec.{ltb}
+use lib.ListN.{length, take}
+use Rattle.lists.specs.Lists.{_∈_, any, Distinct}
+use Rattle.automata.specs.Automaton.{Transition, Automaton, hasEpsilon}
+use Rattle.automata.specs.WellFormed.{mostStates}
+use Rattle.buckets.specs.inner.Buckets.{Entered}
+use Rattle.search.specs.Search.{meet, Found, over, found, table}
+use Rattle.automata.specs.Pairs.{Pair, samePair}
+use Rattle.product.specs.Product.{jointsOf, pairs, transitionOf, placeIn, blockedAt}
+
+-- the pair of states of a word
+abbrev pub pairOf : ℕ → Pair
+pairOf c = record { left = c / 256; right = c % 256 }
+
+-- the table of the first n words of the queue
+unfoldable pub tableOf : List ℕ → ℕ → List Pair
+tableOf queue n = map pairOf (take n queue)
+
+-- the entries for which the queue has room: one more than there may be
+unfoldable pub capped : List Pair → List Pair
+capped T = take 257 T
+
+-- the bucket of a word, and those of the first n words of the queue
+unfoldable pub bucketOf : ℕ → ℕ
+bucketOf c = (37 * (c / 256) + c % 256) % 256
+
+unfoldable pub bucketsOf : List ℕ → ℕ → List ℕ
+bucketsOf queue n = map bucketOf (take n queue)
+
+-- the first n words of the queue are different pairs, and each is in the bucket of its word, unless there are 257
+pub record Queued (queue t : List ℕ) (n : ℕ) : Type 0 where
+  pub room : length queue ≡ 257
+  pub long : length t ≡ 512
+  pub few : n ≤ 257
+  pub distinct : Distinct (tableOf queue n)
+  pub found : n ≤ 256 → Entered (bucketsOf queue n) t
+
+-- the table T, and then the pairs ps were met, as far as there is room
+pub record Met (T ps : List Pair) (queue t : List ℕ) (n : ℕ) : Type 0 where
+  pub queued : Queued queue t n
+  pub table : tableOf queue n ≡ capped (meet samePair ps T)
+
+-- the pairs to which ranges among ds and es that meet lead
+unfoldable pub targets : List Transition → List Transition → List Pair
+targets ds es = map (λ j. j .to) (jointsOf ds es)
+
+-- pairs of a state below n and one below m
+pub record Within (n m : ℕ) (T : List Pair) : Type 0 where
+  pub states : (p : Pair) → p ∈ T → (p .left < n) × (p .right < m)
+
+-- the table of a queue of n pairs
+unfoldable pub foundIn : List ℕ → ℕ → Found Pair
+foundIn queue n = cond (ltb 256 n) over (found (tableOf queue n))
+
+-- the transitions of pair i of the table by the ranges among ds and es that meet
+unfoldable pub links : List Pair → ℕ → List Transition → List Transition → List Transition
+links T i ds es = map (transitionOf (placeIn T) i) (jointsOf ds es)
+
+-- no epsilon stands behind a range
+pub record EpsilonFirst (es : List Transition) : Type 0 where
+  pub first : hasEpsilon es ≡ true → hasEpsilon (take 1 es) ≡ true
+
+-- the words of a sheet of n states with these accept words and the words of its records, whose start is 0
+abbrev pub sheetWords : List ℕ → ℕ → List ℕ → List ℕ
+sheetWords accept n records = 1 ∷ 0 ∷ n ∷ (accept ++ (length records / 5 ∷ records))
+
+-- the table of all pairs that are reached, among which none is blocked
+pub record Whole (A B : Automaton) (T : List Pair) : Type 0 where
+  pub all : table (pairs A B) mostStates ≡ found T
+  pub free : any (blockedAt A B) T ≡ false

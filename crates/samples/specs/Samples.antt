@@ -1,0 +1,55 @@
+-- The samples of document 01: sheets, their determinizations, and two of these side by side.
+use Prim.Native.Nat.{ℕ}
+use mathlib.Core.List.{List, [], _∷_}
+use Rattle.automata.specs.Automaton.{Transition, Automaton}
+use Rattle.automata.specs.WellFormed.{lastSymbol}
+use Rattle.equality.specs.Forced.{Two}
+use Rattle.determinize.specs.Partition.{Part}
+use Rattle.ranges.specs.Span.{Span}
+use Rattle.sets.specs.Sets.{Set}
+
+-- a range from p to q
+abbrev pub range : ℕ → ℕ → ℕ → ℕ → Transition
+range p a b q = record { from = p; kind = 1; first = a; last = b; to = q }
+
+-- A is `p -> q [0, 9]`, B is `s -> t [0, 4]; s -> u [5, 9]`, C is `p -> q [0, 8]`
+abbrev pub A : List ℕ
+A = 1 ∷ 0 ∷ 2 ∷ 0 ∷ 1 ∷ 1 ∷ 0 ∷ 1 ∷ 0 ∷ 9 ∷ 1 ∷ []
+
+abbrev pub B : List ℕ
+B = 1 ∷ 0 ∷ 3 ∷ 0 ∷ 1 ∷ 1 ∷ 2 ∷ 0 ∷ 1 ∷ 0 ∷ 4 ∷ 1 ∷ 0 ∷ 1 ∷ 5 ∷ 9 ∷ 2 ∷ []
+
+abbrev pub C : List ℕ
+C = 1 ∷ 0 ∷ 2 ∷ 0 ∷ 1 ∷ 1 ∷ 0 ∷ 1 ∷ 0 ∷ 8 ∷ 1 ∷ []
+
+-- states 0, 1, 2, (0, 9) from 0 to 1 and to 2, only 1 accepting
+abbrev pub O : List ℕ
+O = 1 ∷ 0 ∷ 3 ∷ 0 ∷ 1 ∷ 0 ∷ 2 ∷ 0 ∷ 1 ∷ 0 ∷ 9 ∷ 1 ∷ 0 ∷ 1 ∷ 0 ∷ 9 ∷ 2 ∷ []
+
+-- the determinizations of A and B
+abbrev pub DA : Automaton
+DA = record {
+  size = 3;
+  start = 0;
+  accept = 0 ∷ 1 ∷ 0 ∷ [];
+  transitions = range 0 0 9 1 ∷ range 0 10 lastSymbol 2 ∷ range 1 0 lastSymbol 2 ∷ range 2 0 lastSymbol 2 ∷ [];
+}
+
+abbrev pub DB : Automaton
+DB = record {
+  size = 4;
+  start = 0;
+  accept = 0 ∷ 1 ∷ 1 ∷ 0 ∷ [];
+  transitions = range 0 0 4 1 ∷ range 0 5 9 2 ∷ range 0 10 lastSymbol 3 ∷ range 1 0 lastSymbol 3 ∷ range 2 0 lastSymbol 3 ∷ range 3 0 lastSymbol 3 ∷ [];
+}
+
+-- these two side by side, over all symbols
+abbrev pub both : Two
+both = record { one = DA; two = DB; low = 0; high = lastSymbol }
+
+-- a span of symbols, and a part with its targets
+abbrev pub span : ℕ → ℕ → Span
+span a b = record { low = a; high = b }
+
+abbrev pub part : ℕ → ℕ → Set → Part
+part a b S = record { low = a; high = b; targets = S }

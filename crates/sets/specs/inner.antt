@@ -1,0 +1,5 @@
+-- What only inner contracts cite.
+pub mod BitSet
+pub mod Rows
+pub mod Words
+pub mod Members

@@ -1,0 +1,54 @@
+-- The runs of the states: where the records of each state begin.
+use Prim.Native.Nat.{ℕ, suc, _+_, _-_, _*_, _≤_, _<_}
+use mathlib.Core.List.{List}
+use mathlib.Core.Path.{_≡_}
+use lib.Dec.{ltb}
+use lib.ListN.{length, getD, take, drop}
+use lib.Seq.{sets}
+use Rattle.lists.specs.Lists.{_∈_, keep, tabulate, Ascending}
+use Rattle.automata.specs.Automaton.{Transition, leaving}
+use Rattle.automata.specs.Records.{writeRecords}
+use Rattle.automata.specs.WellFormed.{mostStates, mostTransitions}
+use Rattle.sheets.specs.Sheet.{stateCount, recordsAt, read}
+use Rattle.sheets.specs.inner.Accepted.{recordCount, Accepted}
+
+-- how many of the transitions leave a state below q
+unfoldable pub below : ℕ → List Transition → ℕ
+below q es = length (keep (λ e. ltb (e .from) q) es)
+
+-- for each state, and one past the last, the number of its first record
+unfoldable pub startsOf : List ℕ → List ℕ
+startsOf s = tabulate (suc (stateCount s)) (λ q. below q (read s .transitions))
+
+-- old, with the first q entries of that table at its front
+unfoldable pub startsBelow : List ℕ → List ℕ → ℕ → List ℕ
+startsBelow s old q = sets old 0 (tabulate q (λ p. below p (read s .transitions)))
+
+-- the states that the transitions leave ascend
+abbrev pub Rising : List Transition → Type 0
+Rising es = Ascending (λ d e. d .from ≤ e .from) es
+
+-- starts is, at its front, the table `startsOf` of the sheet s
+pub record Indexed (s starts : List ℕ) : Type 0 where
+  pub long : stateCount s < length starts
+  pub at : (q : ℕ) → q ≤ stateCount s → getD starts q 0 ≡ below q (read s .transitions)
+
+-- an accepted sheet and where the runs of its states begin
+pub record Ready (s starts : List ℕ) : Type 0 where
+  pub accepted : Accepted s
+  pub indexed : Indexed s starts
+
+-- the states that the transitions name are below 256
+pub record Named (es : List Transition) : Type 0 where
+  pub froms : (e : Transition) → e ∈ es → e .from < mostStates
+  pub tos : (e : Transition) → e ∈ es → e .to < mostStates
+
+-- the records of state q stand in s where starts says
+pub record RunAt (s starts : List ℕ) (q : ℕ) : Type 0 where
+  pub known : q + 1 < length starts
+  pub few-states : stateCount s ≤ mostStates
+  pub few-records : recordCount s ≤ mostTransitions
+  pub whole : length s ≡ recordsAt s + 5 * recordCount s
+  pub ordered : getD starts q 0 ≤ getD starts (q + 1) 0
+  pub within : getD starts (q + 1) 0 ≤ recordCount s
+  pub words : take (recordsAt s + 5 * getD starts (q + 1) 0 - (recordsAt s + 5 * getD starts q 0)) (drop (recordsAt s + 5 * getD starts q 0) s) ≡ writeRecords (leaving (read s) q)

@@ -1,0 +1,36 @@
+-- What the code of the operations is told by.
+use Prim.Native.Nat.{ℕ}
+use mathlib.Core.Bool.{Bool, true}
+use mathlib.Core.List.{List, [], _∷_, _++_}
+use Rattle.automata.specs.Automaton.{Automaton}
+use Rattle.labels.specs.Forms.{sinkLabel}
+use Rattle.output.specs.Output.{Pattern, roomFirst, labelsFirst}
+use Rattle.refusal.specs.Answer.{Answer, refused, given}
+use Rattle.refusal.specs.Number.{numberOf}
+use Rattle.sheets.specs.Checked.{sheetFirst}
+use Rattle.sheets.specs.Sheet.{stateCount}
+use Rattle.totality.specs.declared.Inputs.{Inputs}
+use Rattle.totality.specs.declared.Inputs.the-variants as inputs
+use Rattle.totality.specs.inner.Merging.{turned}
+use Rattle.totality.specs.Totality.{totalized, flipped}
+
+-- the same with acceptance flipped, or not
+unfoldable pub turnedPattern : Bool → ℕ → ℕ → Automaton → List (List ℕ) → Pattern
+turnedPattern flip lo hi A ls = record { automaton = turned flip (totalized lo hi A); labels = ls ++ sinkLabel ∷ [] }
+
+-- the automaton itself with acceptance flipped
+unfoldable pub flippedPattern : Automaton → List (List ℕ) → Pattern
+flippedPattern A ls = record { automaton = flipped A; labels = ls }
+
+-- 20, the sheet's fault, the labels' fault, or else the answer a
+unfoldable pub inputsFirst : {X : Type 0} → List ℕ → List ℕ → List ℕ → List ℕ → Answer X → Answer X
+inputsFirst s b o l a = roomFirst o l (sheetFirst s (labelsFirst (stateCount s) b a))
+
+-- no refusal
+abbrev pub passed : Answer Bool
+passed = given true
+
+-- the answer of the code that checks the inputs
+abbrev pub inputsOf : Inputs → Answer Bool
+inputsOf inputs.Good = passed
+inputsOf (inputs.Refused r) = refused (numberOf r)
