@@ -1,4 +1,4 @@
--- The model: all that has to be believed of automata and their words.
+-- The model: automata, words, runs and acceptance.
 pub mod Automaton
 pub mod Deterministic
 pub mod Pairs

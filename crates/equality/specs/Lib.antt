@@ -1,4 +1,4 @@
--- Exact equality: deterministic automata read step by step, the smallest equivalence, the walk over pairs, and the verdict.
+-- Exact equality: deterministic automata read step by step, the smallest equivalence, and the verdict.
 pub mod Successors
 pub mod Forced
 pub mod Verdict

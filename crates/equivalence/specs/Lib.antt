@@ -1,4 +1,4 @@
--- `is_equivalent`: triggers, its definition, and what its code holds of pairs of states.
+-- `is_equivalent`: triggers, and its definition.
 pub mod Triggers
 pub mod Equivalent
 pub mod inner

@@ -1,4 +1,4 @@
--- The definitions of label lists that the contracts cite.
+-- Label lists, and the labels that operations make.
 pub mod Labels
 pub mod Forms
 pub mod Checked

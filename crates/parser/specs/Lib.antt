@@ -1,4 +1,4 @@
--- What a text means, and the tables that the code fills.
+-- What a text means, and what `parse_automaton` answers.
 pub mod Pattern
 pub mod Parsed
 pub mod Moves

@@ -1,4 +1,4 @@
--- The product of two automata, what pairs of states reach, and what the code holds of them.
+-- The product of two automata, and what pairs of states reach.
 pub mod Product
 pub mod Reached
 pub mod inner

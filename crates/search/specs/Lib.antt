@@ -1,2 +1,2 @@
--- Search in a graph: the table that a queue makes, and what is reached.
+-- Search in a graph: the table that a queue makes.
 pub mod Search

@@ -1,4 +1,4 @@
--- Sets of states: the lists, the words that hold them, and closures.
+-- Sets of states as lists, and closures.
 pub mod Sets
 pub mod Closure
 pub mod inner

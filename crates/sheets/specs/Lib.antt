@@ -1,4 +1,4 @@
--- The sheet: what it means, its faults, and the runs of its states.
+-- The sheet: what it means, and its faults.
 pub mod Sheet
 pub mod Fault
 pub mod Checked

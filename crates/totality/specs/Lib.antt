@@ -1,4 +1,4 @@
--- Totality and complement: the operations on automata, their answers, and what their code is told by.
+-- Totality and complement: the operations on automata, and their answers.
 pub mod Totality
 pub mod Answers
 pub mod inner

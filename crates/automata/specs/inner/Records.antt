@@ -1,4 +1,4 @@
--- A record at a place of a list of words.
+-- For inner contracts. A record at a place of a list of words.
 use Prim.Native.Nat.{ℕ, _+_}
 use mathlib.Core.List.{List}
 use lib.ListN.{getD}

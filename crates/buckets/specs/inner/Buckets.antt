@@ -1,4 +1,4 @@
--- A table of buckets: the numbers 0, 1, .. below the length of bs are entered, and number j is in the bucket that stands at j in bs.
+-- For inner contracts. A table of buckets: the numbers 0, 1, .. below the length of bs are entered, and number j is in the bucket that stands at j in bs.
 use Prim.Native.Nat.{ℕ, zero, suc, _+_, _≤_, _<_}
 use mathlib.Core.Bool.{Bool, cond}
 use mathlib.Core.List.{List}

@@ -1,4 +1,4 @@
--- What the first pass of the code keeps: the sets met so far in a table of words, and a note of each transition. A note is the transition's
+-- For inner contracts. What the first pass of the code keeps: the sets met so far in a table of words, and a note of each transition. A note is the transition's
 -- record, but the number of the sink isn't known before the table is finished: 256 stands for it.
 use Prim.Native.Nat.{ℕ, suc, _+_, _*_, _≤_, _<_}
 use mathlib.Core.Bool.{cond}

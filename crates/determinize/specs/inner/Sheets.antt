@@ -1,4 +1,4 @@
--- What the code of determinizing an accepted sheet is told by: the sheet of a finished table, and its answer with the output.
+-- For inner contracts. What the code of determinizing an accepted sheet is told by: the sheet of a finished table, and its answer with the output.
 use Prim.Native.Nat.{ℕ, suc}
 use mathlib.Core.List.{List, [], _∷_, _++_, map}
 use lib.ListN.{length}

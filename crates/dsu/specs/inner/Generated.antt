@@ -1,4 +1,4 @@
--- Two classes made one, and the equivalence that pairs of numbers generate.
+-- For inner contracts. Two classes made one, and the equivalence that pairs of numbers generate.
 use Prim.Native.Nat.{ℕ, suc, _+_, _<_}
 use mathlib.Core.Path.{_≡_}
 use Rattle.dsu.specs.Classes.{Classes, Joined}

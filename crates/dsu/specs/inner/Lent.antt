@@ -1,4 +1,4 @@
--- Join sets whose arrays are lent.
+-- For inner contracts. Join sets whose arrays are lent.
 use Prim.Native.Nat.{ℕ, _<_}
 use mathlib.Core.List.{List}
 use Rattle.dsu.specs.declared.DSU.{DSU}

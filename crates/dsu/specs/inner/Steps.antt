@@ -1,4 +1,4 @@
--- What the inner functions ask and give.
+-- For inner contracts. What the inner functions ask and give.
 use Prim.Native.Nat.{ℕ, _≤_, _<_}
 use mathlib.Core.Bool.{cond}
 use mathlib.Core.List.{List}

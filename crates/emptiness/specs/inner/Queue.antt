@@ -1,4 +1,4 @@
--- What the search keeps: the states that were met, as a set of bits and in a queue, which is an array with two indices.
+-- For inner contracts. What the search keeps: the states that were met, as a set of bits and in a queue, which is an array with two indices.
 use Prim.Native.Nat.{ℕ, _≤_, _<_}
 use mathlib.Core.Bool.{Bool, true}
 use mathlib.Core.List.{List, []}

@@ -1,4 +1,4 @@
--- What the code has in its local memory, and what its inner functions assume.
+-- For inner contracts. What the code has in its local memory, and what its inner functions assume.
 use Prim.Native.Nat.{ℕ, _≤_}
 use mathlib.Core.List.{List}
 use mathlib.Core.Path.{_≡_}

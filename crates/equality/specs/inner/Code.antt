@@ -1,4 +1,4 @@
--- What the functions of the walk ask and give.
+-- For inner contracts. What the functions of the walk ask and give.
 use Prim.Native.Nat.{ℕ, _+_, _*_, _≤_, _<_}
 use mathlib.Core.List.{List, [], _∷_}
 use mathlib.Core.Path.{_≡_}

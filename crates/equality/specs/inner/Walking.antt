@@ -1,4 +1,4 @@
--- What holds while the walk goes on. The pairs met so far stand in a queue; each but the first keeps the pair that it was met from, and the symbol.
+-- For inner contracts. What holds while the walk goes on. The pairs met so far stand in a queue; each but the first keeps the pair that it was met from, and the symbol.
 use Prim.Native.Nat.{ℕ, _+_, _<_, _≤_}
 use mathlib.Core.List.{List, [], _∷_}
 use mathlib.Core.Path.{_≡_}

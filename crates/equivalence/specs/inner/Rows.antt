@@ -1,4 +1,4 @@
--- Transitions in order stand in rows of one trigger each: the first of each row.
+-- For inner contracts. Transitions in order stand in rows of one trigger each: the first of each row.
 use Prim.Native.Nat.{ℕ, _+_, _<_, _≤_}
 use mathlib.Core.Bool.{cond}
 use mathlib.Core.List.{List, [], _∷_}

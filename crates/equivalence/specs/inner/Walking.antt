@@ -1,4 +1,4 @@
--- What the code holds of pairs of states: a queue of pairs, and the sets that they are joined in. The states of the second automaton
+-- For inner contracts. What the code holds of pairs of states: a queue of pairs, and the sets that they are joined in. The states of the second automaton
 -- are counted behind the n1 states of the first.
 use Prim.Native.Nat.{ℕ, _+_, _<_, _≤_}
 use mathlib.Core.Bool.{Bool, true, false}

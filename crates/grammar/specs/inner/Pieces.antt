@@ -1,4 +1,4 @@
--- What the answers of the pieces stand for.
+-- For inner contracts. What the answers of the pieces stand for.
 use Rattle.grammar.specs.Grammar.{Found, nothing, found, Mark, mark, Ends, nextNames}
 use mathlib.Core.List.{List, _∷_}
 use Prim.Native.Nat.{ℕ}

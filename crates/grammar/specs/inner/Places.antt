@@ -1,4 +1,4 @@
--- What stands in a text, as the code knows it.
+-- For inner contracts. What stands in a text, as the code knows it.
 use Prim.Native.Nat.{ℕ, _-_, _≤_, _<_}
 use mathlib.Core.List.{List}
 use lib.ListN.{length}

@@ -1,4 +1,4 @@
--- Where the labels of an accepted list stand.
+-- For inner contracts. Where the labels of an accepted list stand.
 use Prim.Native.Nat.{ℕ, zero, suc, _+_}
 use mathlib.Core.List.{List}
 use mathlib.Core.Path.{_≡_}

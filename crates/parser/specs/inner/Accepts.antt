@@ -1,4 +1,4 @@
--- The accept words that the code fills.
+-- For inner contracts. The accept words that the code fills.
 use Prim.Native.Nat.{ℕ}
 use mathlib.Core.Bool.{cond}
 use mathlib.Core.List.{List, [], _∷_}

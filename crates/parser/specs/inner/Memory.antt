@@ -1,4 +1,4 @@
--- Memory that is lent blank.
+-- For inner contracts. Memory that is lent blank.
 use Prim.Native.Nat.{ℕ}
 use mathlib.Core.List.{List}
 use mathlib.Core.Path.{_≡_}

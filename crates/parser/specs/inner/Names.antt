@@ -1,4 +1,4 @@
--- The table of names that the code fills: where each stands in the text, and the buckets by which it is found.
+-- For inner contracts. The table of names that the code fills: where each stands in the text, and the buckets by which it is found.
 use Prim.Native.Nat.{ℕ, _+_, _*_, _%_, _≤_, _<_}
 use mathlib.Core.Bool.{Bool}
 use mathlib.Core.List.{List, [], _∷_, map}

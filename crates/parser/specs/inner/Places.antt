@@ -1,4 +1,4 @@
--- What a text means by the places of its parts, which is how the code has them. The names of the states are given by its table.
+-- For inner contracts. What a text means by the places of its parts, which is how the code has them. The names of the states are given by its table.
 use Prim.Native.Nat.{ℕ}
 use mathlib.Core.List.{List, map}
 use Rattle.automata.specs.Automaton.{Transition}

@@ -1,4 +1,4 @@
--- The records of the transitions as a sheet has them.
+-- For inner contracts. The records of the transitions as a sheet has them.
 use Prim.Native.Nat.{ℕ, _≤_}
 use mathlib.Core.List.{List}
 use mathlib.Core.Path.{_≡_}

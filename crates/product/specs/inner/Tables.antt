@@ -1,4 +1,4 @@
--- What the code holds of the table of pairs: a queue in which a pair is one word, and the buckets by which a pair is found in it.
+-- For inner contracts. What the code holds of the table of pairs: a queue in which a pair is one word, and the buckets by which a pair is found in it.
 use Prim.Native.Nat.{ℕ, _+_, _*_, _/_, _%_, _≤_, _<_}
 use mathlib.Core.Bool.{true, false, cond}
 use mathlib.Core.List.{List, _∷_, _++_, map}

@@ -1,4 +1,4 @@
--- What the code of `missing_ranges` writes.
+-- For inner contracts. What the code of `missing_ranges` writes.
 use Prim.Native.Nat.{ℕ, suc, _-_, min, max}
 use mathlib.Core.Bool.{cond}
 use mathlib.Core.List.{List, [], _∷_, _++_}

@@ -1,4 +1,4 @@
--- A set of states as the code holds it: bits of words, 64 a word, four words from the place o of a table of words on.
+-- For inner contracts. A set of states as the code holds it: bits of words, 64 a word, four words from the place o of a table of words on.
 use Prim.Native.Nat.{ℕ, _+_, _*_, _/_, _%_, _^_}
 use mathlib.Core.Bool.{Bool}
 use mathlib.Core.List.{List}

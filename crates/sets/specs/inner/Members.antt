@@ -1,4 +1,4 @@
--- The members of a set one after the other, and sets of states below a number.
+-- For inner contracts. The members of a set one after the other, and sets of states below a number.
 use Prim.Native.Nat.{ℕ}
 use mathlib.Core.Path.{_≡_}
 use lib.Dec.{leb}

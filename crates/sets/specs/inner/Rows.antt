@@ -1,4 +1,4 @@
--- What holds of a table's rows while they are closed.
+-- For inner contracts. What holds of a table's rows while they are closed.
 use Prim.Native.Nat.{ℕ, _+_, _*_, _<_}
 use mathlib.Core.Bool.{Bool, _||_}
 use mathlib.Core.List.{List}

@@ -1,4 +1,4 @@
--- What the code does to the words of a table.
+-- For inner contracts. What the code does to the words of a table.
 use Prim.Native.Nat.{ℕ, zero, suc, _+_, _*_, _/_, _%_, _^_}
 use mathlib.Core.Bool.{cond}
 use mathlib.Core.List.{List}

@@ -1,4 +1,4 @@
--- What it says of a sheet that it has no fault, as facts that a proof reads by their names.
+-- For inner contracts. What it says of a sheet that it has no fault, as facts that a proof reads by their names.
 use Prim.Native.Nat.{ℕ, _+_, _*_, _≤_, _<_}
 use mathlib.Core.Path.{_≡_}
 use mathlib.Core.Bool.{true}

@@ -1,4 +1,4 @@
--- The runs of the states: where the records of each state begin.
+-- For inner contracts. The runs of the states: where the records of each state begin.
 use Prim.Native.Nat.{ℕ, suc, _+_, _-_, _*_, _≤_, _<_}
 use mathlib.Core.List.{List}
 use mathlib.Core.Path.{_≡_}

@@ -1,4 +1,4 @@
--- What the code holds: for each state the number of the first label of the second automaton that is the state's, and tests by these numbers.
+-- For inner contracts. What the code holds: for each state the number of the first label of the second automaton that is the state's, and tests by these numbers.
 use Prim.Native.Nat.{ℕ, _<_}
 use mathlib.Core.Bool.{Bool, _&&_, _||_}
 use mathlib.Core.List.{List, []}

@@ -1,4 +1,4 @@
--- What the code of the operations is told by.
+-- For inner contracts. What the code of the operations is told by.
 use Prim.Native.Nat.{ℕ}
 use mathlib.Core.Bool.{Bool, true}
 use mathlib.Core.List.{List, [], _∷_, _++_}

@@ -1,4 +1,4 @@
--- What the code of totalizing is told by: spans as pairs of words, records and holes that can be merged, accept words, and the tables of a sheet.
+-- For inner contracts. What the code of totalizing is told by: spans as pairs of words, records and holes that can be merged, accept words, and the tables of a sheet.
 use Prim.Native.Nat.{ℕ, suc, _+_, _*_, _≤_, _<_}
 use mathlib.Core.Bool.{Bool, true, false, cond}
 use mathlib.Core.List.{List, [], _∷_, _++_, map}

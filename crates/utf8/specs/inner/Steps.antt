@@ -1,4 +1,4 @@
--- What the code answers at a place of a text.
+-- For inner contracts. What the code answers at a place of a text.
 use Prim.Native.Nat.{ℕ, _+_}
 use mathlib.Core.Bool.{Bool, true, false}
 use mathlib.Core.List.{List}

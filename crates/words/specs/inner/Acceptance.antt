@@ -1,4 +1,4 @@
--- The code points that the code reads.
+-- For inner contracts. The code points that the code reads.
 use Prim.Native.Nat.{ℕ}
 use mathlib.Core.List.{List, []}
 use Rattle.utf8.specs.Utf8.{Decoded, malformed, points}

@@ -1,4 +1,4 @@
--- What the code of the closures does to its table of rows, before Warshall's rounds.
+-- For inner contracts. What the code of the closures does to its table of rows, before Warshall's rounds.
 use Prim.Native.Nat.{ℕ, _*_, _≤_, _<_}
 use mathlib.Core.Bool.{_||_}
 use mathlib.Core.List.{List, []}

@@ -1,4 +1,4 @@
--- What the code of a step gathers: the closures of the targets of transitions, in a set that it holds in four words.
+-- For inner contracts. What the code of a step gathers: the closures of the targets of transitions, in a set that it holds in four words.
 use Prim.Native.Nat.{ℕ, _*_}
 use mathlib.Core.Bool.{Bool, _&&_, _||_}
 use mathlib.Core.List.{List}
