@@ -3,7 +3,6 @@ use Prim.Native.Nat.{ℕ, _<_}
 use mathlib.Core.List.{List}
 use lib.ListN.{length}
 use Rattle.lists.specs.Lists.{_∈_, Distinct}
-pub use Rattle.lists.specs.Index.{Decides}
 use Rattle.search.specs.Search.{Graph}
 
 pub data Reached {X : Type 0} (G : Graph X) : X → Type 0 where
