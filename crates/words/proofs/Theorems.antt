@@ -125,16 +125,9 @@ module _ (s w : List ℕ) (r : Acceptance) (call : answerOf r ≡ acceptsWords s
       let p = sheet-fault s (given (kind (read s) w)) n l (λ e. let z : _≡_ {A = ℕ} 0 1 = cc in omega arith) in
       (λ e. p .0 (sym call ∙ number-refused r n l .0 e), λ e. number-refused r n l .1 (call ∙ p .1 e))
 
--- no code points encode to a text exactly where it is malformed
-text-malformed : (t : List ℕ) → (decode t ≡ malformed) ↔ ((ps : List ℕ) → Encoded t ps → ⊥)
-text-malformed t = (
-  λ e ps c. let z : malformed ≡ points ps = sym e ∙ decode-exact t ps .1 c in let y : _≡_ {A = ℕ} 0 1 = cc in omega arith,
-  λ n. go (decode t) refl n,
-)
-  where
-    go : (d : Decoded) → decode t ≡ d → ((ps : List ℕ) → Encoded t ps → ⊥) → d ≡ malformed
-    go malformed e n = refl
-    go (points ps) e n = absurd (n ps (decode-exact t ps .0 e))
+-- no code points encode to a malformed text
+malformed-none : (t : List ℕ) → decode t ≡ malformed → (ps : List ℕ) → Encoded t ps → ⊥
+malformed-none t e ps c = let z : malformed ≡ points ps = sym e ∙ decode-exact t ps .1 c in let y : _≡_ {A = ℕ} 0 1 = cc in omega arith
 
 -- the contract of `accepts_text`: r is its answer
 module _ (s t : List ℕ) (r : Acceptance) (call : answerOf r ≡ acceptsText s t) where
@@ -148,7 +141,7 @@ module _ (s t : List ℕ) (r : Acceptance) (call : answerOf r ≡ acceptsText s 
   text = go (decode t) refl
     where
       go : (d : Decoded) → decode t ≡ d → Text
-      go malformed e = bad (ap (textAnswer (read s)) e) (text-malformed t .0 e)
+      go malformed e = bad (ap (textAnswer (read s)) e) (malformed-none t e)
       go (points ps) e = good ps (ap (textAnswer (read s)) e) (decode-exact t ps .0 e)
 
   text-kind : (k : ℕ) → r ≡ Kind k → (fault s ≡ 0) × ((ps : List ℕ) × Encoded t ps × (kind (read s) ps ≡ k))
