@@ -14,7 +14,7 @@ use Rattle.automata.specs.WellFormed.{lastSymbol}
 use Rattle.equality.specs.Forced.{Two}
 use Rattle.equality.specs.Successors.{successor, stateAfter, acceptAfter}
 use Rattle.equality.specs.Verdict.{Equal, Apart}
-use Rattle.equality.proofs.Theorems.{one-word, not-same}
+use Rattle.equality.proofs.Exact.{one-word, not-same}
 use Rattle.refusal.specs.Answer.{Answer, given}
 use Rattle.sheets.specs.Sheet.{read}
 use Rattle.verdict_line.specs.Line.{Line, same, differs, sameLine, differLine}

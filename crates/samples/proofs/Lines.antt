@@ -55,10 +55,10 @@ well-c : WellFormed (read C)
 well-c = read-well C (accepted C (no-fault .2))
 
 -- document 01's lines are allowed
-pub may-print-same-4 : Line (comparedTexts 0 lastSymbol (text-a ++ text-b)) (sameLine 4)
+pub may-print-same-4 : Line (comparedTexts 0 lastSymbol (text-a ++ 32 ∷ text-b)) (sameLine 4)
 may-print-same-4 = allowed-same-4 _ (are-compared .0)
 
-pub may-print-differ-9 : Line (comparedTexts 0 lastSymbol (text-a ++ text-c)) (differLine (9 ∷ []))
+pub may-print-differ-9 : Line (comparedTexts 0 lastSymbol (text-a ++ 32 ∷ text-c)) (differLine (9 ∷ []))
 may-print-differ-9 = allowed-differ-9 _ (are-compared .1)
 
 -- and no others

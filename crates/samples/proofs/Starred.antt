@@ -72,8 +72,8 @@ pub starred :
     × (DB .size ≡ 4)
     × Classes (Forced both) (states both) 3
     -- the program `verdict` may print `same 4` for the texts of A and B, and `differ 9` for those of A and C
-    × Line (comparedTexts 0 lastSymbol (text-a ++ text-b)) (sameLine 4)
-    × Line (comparedTexts 0 lastSymbol (text-a ++ text-c)) (differLine (9 ∷ []))
+    × Line (comparedTexts 0 lastSymbol (text-a ++ 32 ∷ text-b)) (sameLine 4)
+    × Line (comparedTexts 0 lastSymbol (text-a ++ 32 ∷ text-c)) (differLine (9 ∷ []))
     -- A and B are the same with 4 joins, whatever buffer is lent; A and C differ, and the word is 9
     × ((o o′ : List ℕ) (r : Verdict) → 510 ≤ length o → Judged (compared 0 lastSymbol A B o) o o′ r → r ≡ Same 4)
     × ((o o′ : List ℕ) (r : Verdict) → 510 ≤ length o → Judged (compared 0 lastSymbol A C o) o o′ r → (r ≡ Different 1) × (take 1 o′ ≡ 9 ∷ []))
