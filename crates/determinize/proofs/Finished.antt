@@ -19,7 +19,7 @@ use Rattle.search.proofs.Reached as graph
 use Rattle.search.proofs.Queue
 use Rattle.sets.specs.Sets.{Set, isEmpty}
 use Rattle.sets.proofs.Sets.{has-nil, empty-yes, empty-no}
-use Rattle.lists.proofs.Index.{same-decides}
+use Rattle.lists.proofs.Index.{Decides, same-decides}
 use Rattle.sets.proofs.Tables.{In}
 use Rattle.words.specs.Simulation.{step, simulate, startSet}
 use Rattle.words.proofs.Closures.{closure-complete}
@@ -34,7 +34,7 @@ module _ (lo hi : ℕ) (A : Automaton) where
   abbrev G : Graph Set
   G = subsets lo hi A
 
-  decides : graph.Decides (G .same)
+  decides : Decides (G .same)
   unfolding subsets
   decides = same-decides
 

@@ -9,6 +9,7 @@ use native.Mathlib.Omega.{arith}
 use borrow.Author.Tests.{eq-eqb, eqb-true, not-true, not-false}
 use lib.Dec.{eqb}
 use lib.ListN.{length, getD, length-append, length-map}
+use Rattle.lists.proofs.Index.{Decides}
 use Rattle.lists.specs.Lists.{_∈_, keep, tabulate}
 use Rattle.lists.proofs.Lists.{any-out, keep-in, keep-out, tabulate-at, length-tabulate}
 use Rattle.lists.proofs.Every.{flat-in, flat-out}
@@ -44,7 +45,7 @@ unfolding targets targetsWith
 targets-in {ds} {es} {d} {e} m n s = flat-in (targetsWith es) m (map-in (λ (e : Transition). record { left = d .to; right = e .to }) (keep-in (sameTrigger d) n (trigger-passes s)))
 
 module _ (A B : Automaton) where
-  pub pairs-decides : Search.Decides (pairs A B .same)
+  pub pairs-decides : Decides (pairs A B .same)
   unfolding pairs
   pairs-decides = pair-decides
 

@@ -3,6 +3,7 @@ use Prim.Native.Nat.{ℕ}
 use mathlib.Core.Logic.{_↔_}
 use mathlib.Core.Path.{_≡_, _∙_, ap}
 use native.Mathlib.Omega.{arith}
+use Rattle.lists.proofs.Index.{Decides}
 use Rattle.lists.proofs.Members.{map-in, map-out}
 use Rattle.automata.specs.Automaton.{Automaton}
 use Rattle.automata.specs.WellFormed.{mostStates}
@@ -16,7 +17,7 @@ use Rattle.product.specs.Reached.{Reached, start, step, ManyPairs}
 use Rattle.product.proofs.Joints.{from-out, from-in}
 
 module _ (A B : Automaton) where
-  pub pairs-decides : Search.Decides (pairs A B .same)
+  pub pairs-decides : Decides (pairs A B .same)
   unfolding pairs
   pairs-decides = pair-decides
 
