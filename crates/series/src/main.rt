@@ -2,7 +2,7 @@
 // second, as decimal numbers separated by blanks. Prints `accepted`, `not accepted`, `refused` and the refusal's number, or `unreadable`.
 //
 // Unreadable is input over 65,536 bytes or over 10,500 numbers on the first line, input with another byte than digits, blanks and the line
-// feeds that end the two lines, and a number over 4294967295. The second line may be empty, and its line feed may be missing.
+// feeds that end the two lines, and a number over 4294967295. The second line may be empty; where it is not, its line feed may be missing.
 mod tested;
 
 use libc::STDOUT_FILENO;
