@@ -18,7 +18,8 @@ use Rattle.equality.proofs.Successors.{accepts-after}
 use Rattle.output.specs.Output.{Pattern}
 use Rattle.product.specs.Product.{product, intersection}
 use Rattle.product.specs.Reached.{Blocked}
-use Rattle.product.proofs.Theorems.{product-words, product-wellformed, product-fits, product-written, product-read, product-given}
+use Rattle.product.proofs.Given.{given-fits}
+use Rattle.product.proofs.Theorems.{product-words, product-wellformed, product-written, product-read, product-given}
 use Rattle.refusal.specs.Answer.{given}
 use Rattle.ringmatch.specs.Reply.{Reply, replyBit}
 use Rattle.sheets.specs.Checked.{sheetFirst}
@@ -114,7 +115,7 @@ module _ (s : List ℕ) (f : fault s ≡ 0) (D : Automaton) (e : determinize 0 l
     answer-is = ap₂ intersection is-s is-t ∙ call-product ∙ is-p
 
     product-left : sheetOf (x .product) ≡ write (P .automaton)
-    product-left = sheet-left (x .product) _ (x .intersects) P answer-is (product-wellformed D (flipped E) P is-p (well s f D e)) (product-fits D (flipped E) P is-p)
+    product-left = sheet-left (x .product) _ (x .intersects) P answer-is (product-wellformed D (flipped E) P is-p (well s f D e)) (given-fits D (flipped E) P is-p)
 
     question-left : x .question .after ≡ replyBit (x .question .answer) (given (hasReachableAccepting (P .automaton)))
     question-left = x .asks ∙ ap (replyBit (x .question .answer)) (ap reachableAnswer product-left ∙ reached-answer P is-p)
