@@ -2,7 +2,6 @@
 use Prim.Native.Nat.{_-_}
 use mathlib.Core.Path.{_≡_}
 use lib.ListN.{length}
-use Rattle.grammar.specs.Grammar.{transitions}
 use Rattle.labels.specs.Labels.{sameLabel}
 use Rattle.search.specs.Search.{meet}
 use Rattle.parser.specs.inner.Names.{Table, namesIn}

@@ -3,7 +3,6 @@ use Prim.Native.Nat.{_-_}
 use mathlib.Core.List.{map}
 use mathlib.Core.Path.{_≡_}
 use lib.ListN.{length}
-use Rattle.grammar.specs.Grammar.{transitions}
 use Rattle.output.specs.inner.Gathering.{Rest}
 use Rattle.parser.specs.inner.Names.{namesIn}
 use Rattle.parser.specs.Pattern.{transitionOf}
