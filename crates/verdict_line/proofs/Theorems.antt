@@ -1,4 +1,6 @@
--- What a line says of the words of two texts' automata (demand 3).
+-- What is proved of the line of the program `verdict`:
+--   verdict-says: on two texts whose determinizations fit it is `same` exactly when their automata accept the same words, and otherwise `differ` with a
+--   short word that exactly one of them accepts (demand 3)
 use Prim.Native.Nat.{ℕ, _+_, _≤_}
 use mathlib.Core.List.{List}
 use mathlib.Core.Path.{_≡_, refl, _∙_, ap, subst}
