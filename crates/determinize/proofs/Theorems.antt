@@ -35,6 +35,7 @@ use Rattle.sets.specs.Sets.{Set, has, pick}
 use Rattle.sheets.specs.Checked.{sheetFirst}
 use Rattle.sheets.specs.Fault.{fault}
 use Rattle.sheets.specs.Sheet.{read, write}
+use Rattle.sheets.proofs.Decisions.{given-not}
 use Rattle.sheets.proofs.Accepted.{accepted}
 use Rattle.sheets.proofs.Meaning.{read-well, read-write-sheet, write-accepted, write-room}
 use Rattle.words.specs.Simulation.{closure, outgoing, step, simulate, startSet, kind}
@@ -327,15 +328,12 @@ module _ (s o l o′ l′ : List ℕ) (r : Made) (call : outputOf r o′ l′ �
         λ e.
             let (m, f, (P, h)) = c .0 e in
             let (D, q) = labelled-given (determinize 0 lastSymbol (read s)) P h in
-            let few : MoreThan 255 0 lastSymbol (read s) → ⊥ = λ n. refused-given q (refused-21 0 lastSymbol (read s) (well f .states) .1 n) in
-            (m, f, few, λ k. refused-given q (refused-22 0 lastSymbol (read s) (well f .states) .1 (few, k))),
+            let few : MoreThan 255 0 lastSymbol (read s) → ⊥ = λ n. given-not _ _ (sym q ∙ refused-21 0 lastSymbol (read s) (well f .states) .1 n) in
+            (m, f, few, λ k. given-not _ _ (sym q ∙ refused-22 0 lastSymbol (read s) (well f .states) .1 (few, k))),
         λ (m, f, n, k).
             let (D, q) = determinize-given 0 lastSymbol (read s) (well f .states) n k in
             c .1 (m, f, (pattern D, given-labelled (determinize 0 lastSymbol (read s)) D q)),
       )
-    where
-      refused-given : {D : Automaton} {n : ℕ} → determinize 0 lastSymbol (read s) ≡ given D → determinize 0 lastSymbol (read s) ≡ refused n → ⊥
-      refused-given {D} {n} p q = let x : given D ≡ refused n = sym p ∙ q in let z : _≡_ {A = ℕ} 0 1 = cc in omega arith
 
   -- a refusal leaves the outputs as they were
   pub determinize-unchanged : (madeNumber r ≡ 0 → ⊥) → Unchanged o l o′ l′

@@ -15,12 +15,13 @@ use Rattle.automata.proofs.Ordered.{inOrder-ascending}
 use Rattle.labels.specs.Labels.{labelsFault, readLabels}
 use Rattle.labels.proofs.Labels.{labels-read, length-read}
 use Rattle.output.specs.Output.{Pattern}
-use Rattle.output.proofs.Exact.{given-refused, transitions-given, transitions-number, transitions-22}
+use Rattle.output.proofs.Exact.{transitions-given, transitions-number, transitions-22}
 use Rattle.output.proofs.Left.{Writable}
 use Rattle.refusal.specs.Answer.{refused, given}
 use Rattle.sets.specs.Sets.{Set}
 use Rattle.sheets.specs.Fault.{fault}
 use Rattle.sheets.specs.Sheet.{stateCount, read}
+use Rattle.sheets.proofs.Decisions.{given-not}
 use Rattle.sheets.proofs.Accepted.{accepted}
 use Rattle.sheets.proofs.Meaning.{read-well}
 use Rattle.words.specs.Simulation.{closure, kindOf}
@@ -72,11 +73,11 @@ module _ (s b : List ℕ) where
 
   pub behind-22 : (eliminatedWith (read s) (readLabels b) ≡ refused 22) ↔ (mostTransitions < length (eliminated (read s) .transitions))
   unfolding eliminatedWith
-  behind-22 = transitions-22 (eliminated (read s)) (given result) given-refused
+  behind-22 = transitions-22 (eliminated (read s)) (given result) (given-not _ _)
 
   pub behind-other : (m : ℕ) → (m ≡ 22 → ⊥) → eliminatedWith (read s) (readLabels b) ≡ refused m → ⊥
   unfolding eliminatedWith
-  behind-other m other e = given-refused (transitions-number (eliminated (read s)) (given result) m other .0 e .1)
+  behind-other m other e = given-not _ _ (transitions-number (eliminated (read s)) (given result) m other .0 e .1)
 
   -- the result of an accepted sheet with accepted labels can be written
   pub result-writable : fault s ≡ 0 → labelsFault (stateCount s) b ≡ 0 → length (eliminated (read s) .transitions) ≤ mostTransitions → Writable result

@@ -23,10 +23,6 @@ use Rattle.output.specs.Made.{outputOf}
 use Rattle.output.specs.Output.{Pattern, outputs, roomFirst, labelsFirst, statesFirst, transitionsFirst}
 use Rattle.output.proofs.Left.{labels-given, labels-number, call-given, call-20, call-number}
 
--- what is given is not refused
-pub given-refused : {X : Type 0} {x : X} {m : ℕ} → given x ≡ refused m → ⊥
-given-refused e = let z : _≡_ {A = ℕ} 0 1 = cc in absurd (omega arith)
-
 -- an answer behind the refusal r, which is given where n is over k
 module _ {X : Type 0} (k n r : ℕ) (a : Answer X) where
   over-given : (x : X) → (cond (ltb k n) (refused r) a ≡ given x) ↔ ((n ≤ k) × (a ≡ given x))

@@ -34,13 +34,13 @@ use Rattle.output.specs.declared.Made.the-variants.{Lengths}
 use Rattle.output.specs.Left.{madeNumber, Room, Leaves, Unchanged}
 use Rattle.output.specs.Made.{outputOf}
 use Rattle.output.specs.Output.{Pattern, outputs, roomFirst}
-use Rattle.output.proofs.Exact.{given-refused}
 use Rattle.output.proofs.Left.{call-given, call-20, call-number, call-refused, call-leaves}
 use Rattle.refusal.specs.Answer.{refused, given}
 use Rattle.search.specs.Search.{found, over, table}
 use Rattle.search.proofs.Queue.{table-all}
 use Rattle.sheets.specs.Fault.{fault}
 use Rattle.sheets.specs.Sheet.{read, write}
+use Rattle.sheets.proofs.Decisions.{given-not}
 use Rattle.sheets.proofs.Accepted.{accepted}
 use Rattle.sheets.proofs.Meaning.{read-well, read-write-sheet, write-accepted}
 use Rattle.product.specs.Product.{built, blockedAt, labelOf, product, intersection}
@@ -180,9 +180,9 @@ module _ (a b o l o′ l′ : List ℕ) (r : Made) (call : outputOf r o′ l′ 
         λ h.
             let (k, x) = c .0 h in
             let (f, g, e) = sheets-given a b (product A B) (x .0) .0 (x .1) in
-            let pairs : ManyPairs mostStates A B → ⊥ = λ m. given-refused (sym e ∙ refused-21 A B .1 m) in
-            let free : Blocked A B → ⊥ = λ m. given-refused (sym e ∙ refused-7 A B .1 (pairs, m)) in
-            (k, f, g, pairs, free, λ m. given-refused (sym e ∙ refused-22 A B .1 (pairs, free, m))),
+            let pairs : ManyPairs mostStates A B → ⊥ = λ m. given-not _ _ (sym e ∙ refused-21 A B .1 m) in
+            let free : Blocked A B → ⊥ = λ m. given-not _ _ (sym e ∙ refused-7 A B .1 (pairs, m)) in
+            (k, f, g, pairs, free, λ m. given-not _ _ (sym e ∙ refused-22 A B .1 (pairs, free, m))),
         λ (k, f, g, i, j, m). let (P, e) = product-given A B i j m in c .1 (k, (P, sheets-given a b (product A B) P .1 (f, g, e))),
       )
 

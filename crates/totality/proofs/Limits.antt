@@ -17,12 +17,13 @@ use Rattle.output.specs.Made.{outputOf}
 use Rattle.output.specs.Output.{Pattern, outputs, roomFirst, labelsFirst, transitionsFirst}
 use Rattle.output.specs.declared.Made.{Made}
 use Rattle.output.specs.declared.Made.the-variants.{Lengths}
-use Rattle.output.proofs.Exact.{given-refused, states-given, states-number, states-21, transitions-given, transitions-number, transitions-22, inputs-given, checked-given, checked-20, checked-fault, checked-10, checked-number}
+use Rattle.output.proofs.Exact.{states-given, states-number, states-21, transitions-given, transitions-number, transitions-22, inputs-given, checked-given, checked-20, checked-fault, checked-10, checked-number}
 use Rattle.output.proofs.Left.{Writable, call-leaves}
 use Rattle.refusal.specs.Answer.{refused, given}
 use Rattle.sheets.specs.Checked.{sheetFirst}
 use Rattle.sheets.specs.Fault.{fault}
 use Rattle.sheets.specs.Sheet.{stateCount, read}
+use Rattle.sheets.proofs.Decisions.{given-not}
 use Rattle.sheets.proofs.Accepted.{accepted}
 use Rattle.sheets.proofs.Meaning.{read-well, read-fits}
 use Rattle.totality.specs.Answers.{limited, totalPattern, complementPattern}
@@ -40,7 +41,7 @@ module _ (P : Pattern) where
       record { few-states = h; few-transitions = transitions-given (P .automaton) (given P) Q .0 t .0 }
 
   only-22 : (m : ℕ) → (m ≡ 22 → ⊥) → transitionsFirst (P .automaton) (given P) ≡ refused m → ⊥
-  only-22 m other e = given-refused (transitions-number (P .automaton) (given P) m other .0 e .1)
+  only-22 m other e = given-not _ _ (transitions-number (P .automaton) (given P) m other .0 e .1)
 
   limited-21 : (limited P ≡ refused 21) ↔ (mostStates < P .automaton .size)
   unfolding limited
@@ -50,7 +51,7 @@ module _ (P : Pattern) where
   unfolding limited
   limited-22 =
       let p = states-number (P .automaton) (transitionsFirst (P .automaton) (given P)) 22 (λ z. omega arith) in
-      let q = transitions-22 (P .automaton) (given P) given-refused in
+      let q = transitions-22 (P .automaton) (given P) (given-not _ _) in
       (λ e. let (h, t) = p .0 e in (h, q .0 t), λ (h, l). p .1 (h, q .1 l))
 
   limited-other : (m : ℕ) → (m ≡ 21 → ⊥) → (m ≡ 22 → ⊥) → limited P ≡ refused m → ⊥

@@ -44,15 +44,15 @@ use Rattle.output.specs.declared.Made.the-variants.{Lengths}
 use Rattle.output.specs.Left.{madeNumber, Room, Leaves, Unchanged}
 use Rattle.output.specs.Made.{outputOf}
 use Rattle.output.specs.Output.{Pattern, outputs, roomFirst}
-use Rattle.output.proofs.Exact.{given-refused}
 use Rattle.output.proofs.Left.{call-refused}
 use Rattle.ranges.specs.Span.{OverlapFree}
 use Rattle.refusal.specs.Answer.{refused, given}
 use Rattle.refusal.specs.Decision.{decisionOf}
 use Rattle.refusal.specs.declared.Decision.{Decision}
-use Rattle.refusal.specs.declared.Decision.the-variants.{Is, Refused}
+use Rattle.refusal.specs.declared.Decision.the-variants.{Is}
 use Rattle.sheets.specs.Fault.{fault}
 use Rattle.sheets.specs.Sheet.{stateCount, read}
+use Rattle.sheets.proofs.Decisions.{call-is, given-not}
 use Rattle.sheets.proofs.Accepted.{accepted}
 use Rattle.sheets.proofs.Meaning.{read-well}
 use Rattle.sheets.proofs.Numbers.{sheet-given, sheet-fault}
@@ -97,15 +97,12 @@ module _ (s : List ℕ) (r : Decision) (call : decisionOf r ≡ isNfaAnswer 0 la
   decided : (t : Bool) → (r ≡ Is t) ↔ ((fault s ≡ 0) × (isNfa 0 lastSymbol (read s) ≡ t))
   unfolding isNfaAnswer
   decided t =
+      let c = call-is r (isNfaAnswer 0 lastSymbol s) call t in
       let p = sheet-given s (given (isNfa 0 lastSymbol (read s))) t in
-      (λ e. let (f, g) = p .0 (sym call ∙ ap decisionOf e) in (f, same g), λ (f, g). is r (call ∙ p .1 (f, ap given g)))
+      (λ e. let (f, g) = p .0 (c .0 e) in (f, same g), λ (f, g). c .1 (p .1 (f, ap given g)))
     where
       same : {x y : Bool} → given x ≡ given y → x ≡ y
       same e = cc
-
-      is : (r : Decision) → decisionOf r ≡ given t → r ≡ Is t
-      is (Is x) e = ap Is (same e)
-      is (Refused x) e = let z : _≡_ {A = ℕ} 0 1 = cc in absurd (omega arith)
 
   -- the answer is yes exactly where the sheet has no fault, and an epsilon, an overlap or a hole
   pub is-nfa-yes : (r ≡ Is true) ↔ ((fault s ≡ 0) × Unsettled 0 lastSymbol (read s))
@@ -132,7 +129,7 @@ module _ (s : List ℕ) (r : Decision) (call : decisionOf r ≡ isNfaAnswer 0 la
   pub is-nfa-refused : (m : ℕ) → 0 < m → (decisionOf r ≡ refused m) ↔ (fault s ≡ m)
   unfolding isNfaAnswer
   is-nfa-refused m l =
-      let p = sheet-fault s (given (isNfa 0 lastSymbol (read s))) m l given-refused in
+      let p = sheet-fault s (given (isNfa 0 lastSymbol (read s))) m l (given-not _ _) in
       (λ e. p .0 (sym call ∙ e), λ f. call ∙ p .1 f)
 
 -- the call of `totalize` on the sheet s with the labels b: r is its answer, o and l are the outputs before it, o′ and l′ after it
