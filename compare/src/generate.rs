@@ -1,5 +1,6 @@
 //! Inputs for comparisons, all drawn from one seeded generator of numbers.
 
+pub mod hostile;
 pub mod labels;
 pub mod pairs;
 pub mod patterns;

@@ -1,6 +1,6 @@
 //! Sheets: random ones of every size, ones at the limits, and damaged copies.
 
-use super::{Rng, damaged};
+use super::{Rng, damaged, hostile};
 use crate::sheet::{EPSILON, MAX_RECORDS, MAX_STATES, RANGE, Record, Sheet};
 
 /// Symbols at which something changes: in the sheets, in UTF-8, or in the machine's numbers.
@@ -269,6 +269,19 @@ pub fn faulty(rng: &mut Rng) -> Vec<u32> {
     }
 }
 
+/// Few states with many ranges, so that one set of states has over 64 of them.
+pub fn wide(rng: &mut Rng) -> Sheet {
+    match rng.below(4) {
+        0 => hostile::overlapping(rng.within(60, 120), rng.within(1, 120), &[2, 3], rng.one_in(2)),
+        1 => hostile::one_missing(rng.within(2, 20), rng.within(40, 120)),
+        _ => {
+            let (states, records) = (rng.within(1, 5), rng.within(60, 250));
+            let epsilons = *rng.pick(&[0, 20]);
+            random(rng, states, records, epsilons)
+        }
+    }
+}
+
 /// A sheet of any sort, with the name of the sort. Most are small, so that many can be tried.
 pub fn any(rng: &mut Rng) -> (&'static str, Vec<u32>) {
     match rng.below(100) {
@@ -288,6 +301,7 @@ pub fn any(rng: &mut Rng) -> (&'static str, Vec<u32>) {
             ("large", random(rng, states, records, epsilons).words())
         }
         73..77 => ("limit", limit(rng).words()),
+        77..80 => ("wide", wide(rng).words()),
         _ => ("faulty", faulty(rng)),
     }
 }

@@ -75,21 +75,21 @@ pub fn intersection(case: &str, a: &Sheet, b: &Sheet) {
 }
 
 pub fn totalize(case: &str, sheet: &Sheet) {
-    labelled("totalize", oracle::totalize, port::totalize(), case, sheet);
+    labelled("totalize", |a| oracle::totalize(a.clone()), port::totalize(), case, sheet);
 }
 
 pub fn complement(case: &str, sheet: &Sheet) {
-    labelled("complement", oracle::complement, port::complement(), case, sheet);
+    labelled("complement", |a| oracle::complement(a.clone()), port::complement(), case, sheet);
 }
 
 pub fn epsilon_eliminate(case: &str, sheet: &Sheet) {
-    let rust = |a: Automaton| a.epsilon_eliminate();
+    let rust = |a: &Automaton| a.epsilon_eliminate();
     labelled("epsilon_eliminate", rust, port::epsilon_eliminate(), case, sheet);
 }
 
 fn labelled(
     call: &str,
-    rust: impl Fn(Automaton) -> Automaton,
+    rust: impl Fn(&Automaton) -> Automaton,
     port: Option<port::Operation>,
     case: &str,
     sheet: &Sheet,
@@ -100,7 +100,7 @@ fn labelled(
     row(
         call,
         case,
-        || rust(a.clone()),
+        || rust(&a),
         port.map(|call| {
             move || {
                 call(
@@ -172,29 +172,37 @@ fn question(
 
 /// An automaton with itself.
 pub fn is_equivalent(case: &str, sheet: &Sheet) {
-    let a = oracle::automaton(sheet);
-    let sheet = sheet.words();
-    let mut answer = 0;
+    equivalence(case, sheet, sheet);
+}
+
+pub fn equivalence(case: &str, a: &Sheet, b: &Sheet) {
+    let (first, second) = (oracle::automaton(a), oracle::automaton(b));
+    let (a, b, mut answer) = (a.words(), b.words(), 0);
     row(
         "is_equivalent",
         case,
-        || oracle::is_equivalent(a.clone(), a.clone()),
-        port::is_equivalent().map(|call| move || call(&sheet, &sheet, &mut answer)),
+        || oracle::is_equivalent(first.clone(), second.clone()),
+        port::is_equivalent().map(|call| move || call(&a, &b, &mut answer)),
     );
 }
 
 /// An automaton with itself.
 pub fn is_subautomaton(case: &str, sheet: &Sheet) {
-    let a = oracle::automaton(sheet);
-    let labels = write_labels(&plain_labels(sheet.states()));
-    let sheet = sheet.words();
+    let labels = plain_labels(sheet.states());
+    inclusion(case, (sheet, &labels), (sheet, &labels));
+}
+
+/// Two sheets with their labels.
+pub fn inclusion(case: &str, a: (&Sheet, &[Vec<u8>]), b: (&Sheet, &[Vec<u8>])) {
+    let (first, second) = (oracle::labelled(a.0, a.1), oracle::labelled(b.0, b.1));
+    let (a, one) = (a.0.words(), write_labels(a.1));
+    let (b, two) = (b.0.words(), write_labels(b.1));
     let mut answer = 0;
     row(
         "is_subautomaton",
         case,
-        || oracle::is_subautomaton(a.clone(), a.clone()),
-        port::is_subautomaton()
-            .map(|call| move || call(&sheet, &labels, &sheet, &labels, &mut answer)),
+        || oracle::is_subautomaton(first.clone(), second.clone()),
+        port::is_subautomaton().map(|call| move || call(&a, &one, &b, &two, &mut answer)),
     );
 }
 

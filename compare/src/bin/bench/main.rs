@@ -4,12 +4,14 @@
 //! sheet and writes one. An operation of the original that takes its automata by value is given
 //! clones, and the cloning counts. Both are compiled optimised.
 //!
-//! `bench` prints all tables, `bench calls`, `bench growth` and `bench stack` one of them.
+//! `bench` prints all tables, `bench small`, `bench calls`, `bench growth`, `bench worst` and `bench stack` one of them; a second word
+//! leaves only the rows whose call or input has it.
 
 mod calls;
 mod growth;
 mod inputs;
 mod stack;
+mod worst;
 
 use std::collections::BTreeMap;
 use std::hint::black_box;
@@ -25,11 +27,17 @@ const RUNS: usize = 9;
 /// What one run should take at least.
 const RUN: Duration = Duration::from_millis(20);
 
+/// A call that takes longer is timed once.
+const LONG: Duration = Duration::from_millis(400);
+
 /// The median time of one call.
 fn time<T>(mut call: impl FnMut() -> T) -> Duration {
     let start = Instant::now();
     black_box(call());
     let once = start.elapsed().max(Duration::from_nanos(50));
+    if once > LONG {
+        return once;
+    }
     let repeats = (RUN.as_nanos() / once.as_nanos()).clamp(1, 1_000_000) as u32;
     let mut runs: Vec<Duration> = (0..RUNS)
         .map(|_| {
@@ -56,8 +64,35 @@ fn shown(time: Duration) -> String {
     format!("{value:.digits$} {unit}")
 }
 
+/// What the row before was about, with the original's and the port's time.
+struct Last {
+    row: String,
+    rust: Duration,
+    port: Duration,
+}
+
+static LAST: Mutex<Option<Last>> = Mutex::new(None);
+
+/// How the times grew since the row before, as exponents of the port and the original, where it was the same input of half the size.
+fn growth(row: String, rust: Duration, port: Duration) -> String {
+    let last =
+        LAST.lock().expect("no thread has failed").replace(Last { row: row.clone(), rust, port });
+    let exponent =
+        |now: Duration, before: Duration| (now.as_secs_f64() / before.as_secs_f64()).log2();
+    match last {
+        Some(last) if last.row == row => {
+            format!(" {:.1}, {:.1} |", exponent(port, last.port), exponent(rust, last.rust))
+        }
+        _ => " |".to_string(),
+    }
+}
+
 /// Times both and prints a row of the table. The port's closure answers the call's result.
 fn row<T>(call: &str, case: &str, rust: impl FnMut() -> T, port: Option<impl FnMut() -> u32>) {
+    let asked = env::args().nth(2).is_none_or(|part| call.contains(&part) || case.contains(&part));
+    if !asked {
+        return;
+    }
     let Some(mut port) = port else {
         println!("| `{call}` | {case} | not in the archive |");
         return;
@@ -73,19 +108,29 @@ fn row<T>(call: &str, case: &str, rust: impl FnMut() -> T, port: Option<impl FnM
     };
     let (rust, port) = (time(rust), time(port));
     let ratio = port.as_secs_f64() / rust.as_secs_f64();
-    println!("| `{call}` | {case}{refused} | {} | {} | {ratio:.2} |", shown(rust), shown(port));
+    let input: String = case.chars().filter(|c| !c.is_ascii_digit()).collect();
+    let growth = growth(format!("{call} {input}"), rust, port);
+    println!(
+        "| `{call}` | {case}{refused} | {} | {} | {ratio:.2} |{growth}",
+        shown(rust),
+        shown(port)
+    );
 }
 
 fn head(title: &str) {
-    println!("\n{title}\n\n| call | input | Rust | port | ratio |\n|---|---|---|---|---|");
+    println!(
+        "\n{title}\n\n| call | input | Rust | port | ratio | exponents |\n|---|---|---|---|---|---|"
+    );
 }
 
-/// The stack of each call, on the inputs of both tables.
+/// The stack of each call, on the inputs of all tables.
 fn stacks() {
     *DEPTHS.lock().expect("no thread has failed") = Some(BTreeMap::new());
     let measuring = || {
+        worst::small();
         inputs::all();
         growth::all();
+        worst::all();
     };
     let thread = thread::Builder::new().stack_size(stack::STACK).spawn(measuring);
     thread.expect("a thread can be started").join().expect("every call returns");
@@ -99,6 +144,10 @@ fn stacks() {
 fn main() {
     let only = env::args().nth(1);
     let asked = |table: &str| only.as_deref().is_none_or(|name| name == table);
+    if asked("small") {
+        head("Small patterns");
+        worst::small();
+    }
     if asked("calls") {
         head("Each call");
         inputs::all();
@@ -106,6 +155,10 @@ fn main() {
     if asked("growth") {
         head("Inputs that grow");
         growth::all();
+    }
+    if asked("worst") {
+        head("Worst cases");
+        worst::all();
     }
     if asked("stack") {
         stacks();
