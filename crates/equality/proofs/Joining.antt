@@ -43,21 +43,20 @@ abbrev withSets : Pairs → DSU → Pairs
 withSets w d = record { sets = d; queue = w .queue; made = w .made }
 
 -- the pair p, q offered: joined, and then put behind the others where it was not joined before
-module _ (w : Pairs) (n1 i p q : ℕ) (o : Offerable w n1 i p q) where
-  module _ (x : ℕ) (d : DSU) where
-    offer-old : JoinLaw (w .sets) d p (n1 + q) false → Offered w (withSets w d) n1 i x p q
-    offer-old (old v n e k) = had e (record { valid = v; is-n = n; few = o .sets .few; long = o .sets .long }) k refl refl
+module _ (w : Pairs) (n1 i p q : ℕ) (o : Offerable w n1 i p q) (x : ℕ) (d : DSU) where
+  offer-old : JoinLaw (w .sets) d p (n1 + q) false → Offered w (withSets w d) n1 i x p q
+  offer-old (old v n e k) = had e (record { valid = v; is-n = n; few = o .sets .few; long = o .sets .long }) k refl refl
 
-    offer-new : JoinLaw (w .sets) d p (n1 + q) true → (l : List ℕ) → Stored (w .queue) (w .made) i x p q l → Offered w (record { sets = d; queue = l; made = w .made + 1 }) n1 i x p q
-    offer-new (new v n merges) l z =
-        put (record { valid = v; is-n = n; few = o .sets .few; long = stored-long (w .queue) (w .made) i x p q (o .room) (o .sets .long) l z }) merges
-        (stored-pushed (w .queue) (w .made) i x p q (o .room) (o .sets .long) l z) refl
+  offer-new : JoinLaw (w .sets) d p (n1 + q) true → (l : List ℕ) → Stored (w .queue) (w .made) i x p q l → Offered w (record { sets = d; queue = l; made = w .made + 1 }) n1 i x p q
+  offer-new (new v n merges) l z =
+      put (record { valid = v; is-n = n; few = o .sets .few; long = stored-long (w .queue) (w .made) i x p q (o .room) (o .sets .long) l z }) merges
+      (stored-pushed (w .queue) (w .made) i x p q (o .room) (o .sets .long) l z) refl
 
-    module _ (fresh : Bool) (t : JoinLaw (w .sets) d p (n1 + q) fresh) where
-      pub offer-had : fresh ≡ false → Offered w (withSets w d) n1 i x p q
-      offer-had h = offer-old (rw h at t)
+  module _ (fresh : Bool) (t : JoinLaw (w .sets) d p (n1 + q) fresh) where
+    pub offer-had : fresh ≡ false → Offered w (withSets w d) n1 i x p q
+    offer-had h = offer-old (rw h at t)
 
-      pub offer-put : fresh ≡ true → (l : List ℕ) → Stored (w .queue) (w .made) i x p q l → Offered w (record { sets = d; queue = l; made = w .made + 1 }) n1 i x p q
-      offer-put h = offer-new (rw h at t)
+    pub offer-put : fresh ≡ true → (l : List ℕ) → Stored (w .queue) (w .made) i x p q l → Offered w (record { sets = d; queue = l; made = w .made + 1 }) n1 i x p q
+    offer-put h = offer-new (rw h at t)
 
 pub ruleset offering = (offer-had, offer-put, needs)

@@ -102,8 +102,8 @@ fn offer(
     made
 }
 
-// The successors of pair i, which has the records ra and rb, up to the first two that differ in acceptance: each two are offered. Record j
-// of ra is held against the records of rb from k on; the first that reaches beyond it is held against the next record of ra as well.
+// The successors of pair i, which has the records ra and rb, are offered, up to the first two that differ in acceptance. Record j of ra is
+// held against the records of rb from k on, up to the first that reaches beyond it; that one is held against the next record of ra too.
 fn turn(
     a: &[u32],
     b: &[u32],
