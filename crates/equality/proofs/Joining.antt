@@ -4,7 +4,8 @@ use mathlib.Core.Path.{_≡_, refl, subst, _∙_}
 use mathlib.Core.Bool.{Bool, true, false}
 use mathlib.Core.List.{List}
 use native.Mathlib.Omega.{arith}
-use lib.ListN.{length, set, replicate, length-set, length-replicate}
+use borrow.Author.Needs.{needs}
+use lib.ListN.{set, replicate, length-set, length-replicate}
 use Rattle.dsu.specs.declared.DSU.{DSU}
 use Rattle.dsu.specs.declared.Answer.{Answer}
 use Rattle.dsu.specs.inner.Generated.{Merges}
@@ -12,7 +13,7 @@ use Rattle.dsu.specs.Sets.{newOf}
 use Rattle.dsu.specs.Laws.{Valid, classOf, NewLaw}
 use Rattle.dsu.specs.inner.Lent.{JoinLaw, old, new}
 use Rattle.dsu.proofs.Laws.{new-law}
-use Rattle.equality.specs.inner.Code.{Pairs, Begun, Stored, withSets, Offered, had, put}
+use Rattle.equality.specs.inner.Code.{Pairs, Begun, Stored, Offerable, Offered, had, put}
 use Rattle.equality.proofs.Entries.{stored-long, stored-pushed}
 
 -- the starts joined
@@ -37,11 +38,25 @@ module _ (n1 n2 p q : ℕ) (few-one : n1 ≤ 256) (few-two : n2 ≤ 256) (p-in :
     made = refl;
   }
 
--- the pair p, q offered: joined, and then put behind the others where it was not joined before
-module _ (w : Pairs) (n1 i x p q : ℕ) (few : w .sets .n ≤ 512) (long : length (w .queue) ≡ 2560) (d : DSU) where
-  pub offer-had : JoinLaw (w .sets) d p (n1 + q) false → Offered w (withSets w d) n1 i x p q
-  offer-had (old v n e k) = had e (record { valid = v; is-n = n; few = few; long = long }) k refl refl
+-- w with other sets
+abbrev withSets : Pairs → DSU → Pairs
+withSets w d = record { sets = d; queue = w .queue; made = w .made }
 
-  pub offer-put : JoinLaw (w .sets) d p (n1 + q) true → w .made < 512 → (l : List ℕ) → Stored (w .queue) (w .made) i x p q l → Offered w (record { sets = d; queue = l; made = w .made + 1 }) n1 i x p q
-  offer-put (new v n merges) room l z =
-      put (record { valid = v; is-n = n; few = few; long = stored-long (w .queue) (w .made) i x p q room long l z }) merges (stored-pushed (w .queue) (w .made) i x p q room long l z) refl
+-- the pair p, q offered: joined, and then put behind the others where it was not joined before
+module _ (w : Pairs) (n1 i p q : ℕ) (o : Offerable w n1 i p q) (x : ℕ) (d : DSU) where
+  offer-old : JoinLaw (w .sets) d p (n1 + q) false → Offered w (withSets w d) n1 i x p q
+  offer-old (old v n e k) = had e (record { valid = v; is-n = n; few = o .sets .few; long = o .sets .long }) k refl refl
+
+  offer-new : JoinLaw (w .sets) d p (n1 + q) true → (l : List ℕ) → Stored (w .queue) (w .made) i x p q l → Offered w (record { sets = d; queue = l; made = w .made + 1 }) n1 i x p q
+  offer-new (new v n merges) l z =
+      put (record { valid = v; is-n = n; few = o .sets .few; long = stored-long (w .queue) (w .made) i x p q (o .room) (o .sets .long) l z }) merges
+      (stored-pushed (w .queue) (w .made) i x p q (o .room) (o .sets .long) l z) refl
+
+  module _ (fresh : Bool) (t : JoinLaw (w .sets) d p (n1 + q) fresh) where
+    pub offer-had : fresh ≡ false → Offered w (withSets w d) n1 i x p q
+    offer-had h = offer-old (rw h at t)
+
+    pub offer-put : fresh ≡ true → (l : List ℕ) → Stored (w .queue) (w .made) i x p q l → Offered w (record { sets = d; queue = l; made = w .made + 1 }) n1 i x p q
+    offer-put h = offer-new (rw h at t)
+
+pub ruleset offering = (offer-had, offer-put, needs)

@@ -1,6 +1,6 @@
 // The walk over pairs of states of two deterministic automata: the starts are joined, and pairs are met over the common ranges of their
-// records. Each pair joins two classes of states, so that there are fewer pairs than states; for each, every record of the one state is
-// held against every record of the other.
+// records. Each pair joins two classes of states, so that there are fewer pairs than states. Since the records of a state ascend, the two
+// runs of a pair are gone through side by side, and each step moves on in one of them.
 // The pairs stand in a queue of five words each: the first state, the second, the pair that it was met from, the symbol, and how many
 // symbols lead to it. The first pair was met from none.
 ghost use mathlib.Core.Path.{_≡_};
@@ -8,7 +8,7 @@ ghost use Prim.Native.Nat.{_+_, _*_, _≤_, _<_};
 ghost use lib.ListN.{length, getD};
 ghost use Rattle.automata.specs.inner.Records.{recordAt};
 ghost use Rattle.equality.specs.inner.Walking.{trail, Chained, Spelled};
-ghost use Rattle.equality.specs.inner.Code.{twoOf, FirstOf, queueOf, pairsOf, Stored, Ready, Saw, Going, Given};
+ghost use Rattle.equality.specs.inner.Code.{twoOf, FirstOf, queueOf, pairsOf, Stored, Offerable, Offered, Ready, Saw, Going, Given};
 ghost use Rattle.equality.specs.Verdict.{Decided};
 use crate::Verdict;
 use dsu::DSU;
@@ -78,8 +78,32 @@ fn spell(queue: &[u32; 2560], i: usize, x: u32, out: &mut [u32]) -> usize
     n
 }
 
-// The successors of pair i, which has the records ra and rb, up to the first two that differ in acceptance: joined, and put behind the
-// other pairs where they were not joined before. repr and size are the join sets of the n states of both.
+// The successors p and q of pair i under x: joined, and put behind the other pairs where they were not joined before. How many pairs there
+// are then. repr and size are the join sets of the n states of both automata, those of the second from n1 on.
+fn offer(
+    repr: &mut [u32; 512],
+    size: &mut [u32; 512],
+    queue: &mut [u32; 2560],
+    n: usize,
+    made: usize,
+    n1: usize,
+    i: usize,
+    x: u32,
+    p: u32,
+    q: u32,
+) -> usize
+    requires { ⌜ Offerable (pairsOf (now repr) (now size) (now queue) n made) n1 i p q ⌝ }
+    ensures { λ r. ⌜ Offered (pairsOf (now (repr .entry)) (now (size .entry)) (now (queue .entry)) n made) (pairsOf (now (repr .exit)) (now (size .exit)) (now (queue .exit)) n r) n1 i x p q ⌝ }
+{
+    if dsu::join_in(repr, size, n, p as usize, n1 + q as usize) {
+        push(queue, made, i, x, p, q);
+        return made + 1;
+    }
+    made
+}
+
+// The successors of pair i, which has the records ra and rb, are offered, up to the first two that differ in acceptance. Record j of ra is
+// held against the records of rb from k on, up to the first that reaches beyond it; that one is held against the next record of ra too.
 fn turn(
     a: &[u32],
     b: &[u32],
@@ -101,31 +125,33 @@ fn turn(
     let ca = ra.len() / 5;
     let cb = rb.len() / 5;
     let mut j: usize = 0;
+    let mut k: usize = 0;
     let seen = 'runs: loop {
         if ca <= j {
             break 'runs Seen::Alike;
         }
         let at_a = 5 * j;
-        let mut k: usize = 0;
-        while k < cb {
+        let last = ra[at_a + 3];
+        loop {
+            if cb <= k {
+                break 'runs Seen::Alike;
+            }
             let at_b = 5 * k;
             match first_common(&ra[at_a..at_a + 5], &rb[at_b..at_b + 5], low, high) {
-                First::Nothing => {
-                    k += 1;
-                }
+                First::Nothing => {}
                 First::Symbol(x) => {
                     let p = ra[at_a + 4];
                     let q = rb[at_b + 4];
                     if sheets::accept_word(a, p) != sheets::accept_word(b, q) {
                         break 'runs Seen::Differ(x);
                     }
-                    k += 1;
-                    if dsu::join_in(repr, size, n, p as usize, n1 + q as usize) {
-                        push(queue, made, i, x, p, q);
-                        made += 1;
-                    }
+                    made = offer(repr, size, queue, n, made, n1, i, x, p, q);
                 }
             }
+            if last < rb[at_b + 3] {
+                break;
+            }
+            k += 1;
         }
         j += 1;
     };

@@ -85,9 +85,14 @@ pub record Begun (n n1 p q : ℕ) (r : Pairs) : Type 0 where
 abbrev pub Stored : List ℕ → ℕ → ℕ → ℕ → ℕ → ℕ → List ℕ → Type 0
 Stored l made i x p q l′ = l′ ≡ sets l (5 * made) (p ∷ q ∷ i ∷ x ∷ (getD l (5 * i + 4) 0 + 1) ∷ [])
 
--- w with other sets
-abbrev pub withSets : Pairs → DSU → Pairs
-withSets w d = record { sets = d; queue = w .queue; made = w .made }
+-- there is room for the pair p, q, met from pair i
+pub record Offerable (w : Pairs) (n1 i p q : ℕ) : Type 0 where
+  pub sets : Sets w (w .sets .n)
+  pub first-in : p < w .sets .n
+  pub second-in : n1 + q < w .sets .n
+  pub room : w .made < 512
+  pub i-in : i < w .made
+  pub shallow : queue w .depth i ≤ i
 
 -- r is w where p and n1 + q were joined before; else they are now, and the pair is the last
 pub data Offered (w r : Pairs) (n1 i x p q : ℕ) : Type 0 where
