@@ -12,7 +12,7 @@ use Rattle.ranges.specs.Span.{intersectRanges, spanOf}
 use Rattle.ranges.specs.declared.Common.{Common}
 use Rattle.ranges.specs.declared.Common.the-variants.{Range, Nothing}
 use Rattle.product.specs.Product.{Joint, jointOf, jointsOf}
-use Rattle.sheets.proofs.Named.{named-to, named-next}
+use Rattle.product.proofs.Records.{run-to, run-left, run-rest}
 use Rattle.product.specs.inner.Tables.{tableOf, Queued, Met, targets}
 use Rattle.product.proofs.Joints.{joints-none-left, joints-none-right, joints-left, joints-right, joints-other-left, joints-other-right, joints-two}
 use Rattle.product.proofs.Queueing.{met-none, metWith, met-ended, met-full, met-next}
@@ -81,7 +81,7 @@ module _ (d run queue₀ : List ℕ) (n₀ : ℕ) (queue t : List ℕ) (n at : �
 pub run-begins : (d run queue : List ℕ) (n : ℕ) → metWith queue n (targets (recordAt d 0 ∷ []) (readRecords (drop 0 run))) ≡ metWith queue n (targets (recordAt d 0 ∷ []) (readRecords run))
 run-begins d run queue n = refl
 
-pub ruleset runLaws = (run-begins, run-ended, named-to, named-next, needs)
+pub ruleset runLaws = (run-begins, run-ended, run-to, run-left, run-rest, needs)
 
 -- the records of two runs, of which those of the first are left from a place on
 module _ (first second queue₀ : List ℕ) (n₀ : ℕ) (queue t : List ℕ) (n at : ℕ) (k : Queued queue t n)
@@ -106,4 +106,4 @@ module _ (first second queue₀ : List ℕ) (n₀ : ℕ) (queue t : List ℕ) (n
 pub runs-begins : (first second queue : List ℕ) (n : ℕ) → metWith queue n (targets (readRecords (drop 0 first)) (readRecords second)) ≡ metWith queue n (targets (readRecords first) (readRecords second))
 runs-begins first second queue n = refl
 
-pub ruleset runsLaws = (runs-begins, runs-ended, runs-full, named-to, named-next, needs)
+pub ruleset runsLaws = (runs-begins, runs-ended, runs-full, run-to, run-left, run-rest, needs)
