@@ -51,7 +51,7 @@ fn meet_record(d: &[u32], e: &[u32], queue: &mut [u32], t: &mut [u8], n: usize) 
     }
 }
 
-// The pairs to which the record d and those of the run lead are met.
+// The pairs to which the record d and those of the run lead are met. No record of the run meets d from the first on that starts behind it.
 fn meet_run(d: &[u32], run: &[u32], queue: &mut [u32], t: &mut [u8], n: usize) -> usize
     requires { ⌜ Queued (now queue) (now t) n × (length (now d) ≡ 5) × (recordAt (now d) 0 .to < length (now t) / 256) × RunTo 256 (readRecords (now run)) ⌝ }
     ensures { λ r. ⌜ Met (tableOf (now (queue .entry)) n) (targets (recordAt (now (d .entry)) 0 ∷ []) (readRecords (now (run .entry)))) (now (queue .exit)) (now (t .exit)) r ⌝ }
@@ -59,24 +59,30 @@ fn meet_run(d: &[u32], run: &[u32], queue: &mut [u32], t: &mut [u8], n: usize) -
     let mut m = n;
     let mut at: usize = 0;
     while 5 <= run.len() - at {
+        if d[3] < run[at + 2] {
+            return m;
+        }
         m = meet_record(d, &run[at..at + 5], queue, t, m);
         at += 5;
     }
     m
 }
 
-// The pairs to which the records of two runs lead are met, the first's outermost.
+// The pairs to which the records of two runs lead are met, the first's outermost. Records of the second run that end before a record of the first
+// starts are passed over for good, since later ones start no earlier.
 fn meet_runs(first: &[u32], second: &[u32], queue: &mut [u32], t: &mut [u8], n: usize) -> usize
     requires { ⌜ Queued (now queue) (now t) n × RunTo (length (now t) / 256) (readRecords (now first)) × RunTo 256 (readRecords (now second)) ⌝ }
     ensures { λ r. ⌜ Met (tableOf (now (queue .entry)) n) (targets (readRecords (now (first .entry))) (readRecords (now (second .entry)))) (now (queue .exit)) (now (t .exit)) r ⌝ }
 {
     let mut m = n;
+    let mut from: usize = 0;
     let mut at: usize = 0;
     while 5 <= first.len() - at {
         if 256 < m {
             return m;
         }
-        m = meet_run(&first[at..at + 5], second, queue, t, m);
+        from = crate::passing::pass_ended(second, from, first[at + 2]);
+        m = meet_run(&first[at..at + 5], &second[from..], queue, t, m);
         at += 5;
     }
     m

@@ -1,9 +1,9 @@
 -- For inner contracts. What the code holds of the table of pairs: a queue in which a pair is one word, and a table of the numbers of these words.
 use Prim.Native.Nat.{ℕ, _/_, _%_, _≤_, _<_}
-use mathlib.Core.Bool.{true, false, cond}
-use mathlib.Core.List.{List, _∷_, _++_, map}
+use mathlib.Core.Bool.{Bool, true, false, cond, not, _||_}
+use mathlib.Core.List.{List, [], _∷_, _++_, map}
 use mathlib.Core.Path.{_≡_}
-use lib.Dec.{ltb}
+use lib.Dec.{eqb, ltb}
 use lib.ListN.{length, getD, take}
 use Rattle.lists.specs.Lists.{_∈_, any, Ascending, Distinct}
 use Rattle.automata.specs.Automaton.{Transition, Automaton, hasEpsilon}
@@ -41,6 +41,15 @@ pub record Met (T ps : List Pair) (queue t : List ℕ) (n : ℕ) : Type 0 where
 pub record RunTo (k : ℕ) (es : List Transition) : Type 0 where
   pub tos : (e : Transition) → e ∈ es → e .to < k
   pub rises : Ascending (λ d e. d .first ≤ e .first) es
+
+-- a record that gives no joint with a range that starts at a or behind it: it is no range, or ends before a
+unfoldable pub ended : ℕ → Transition → Bool
+ended a e = not (eqb (e .kind) 1) || ltb (e .last) a
+
+-- the records from the first on that is not so
+unfoldable pub notEnded : ℕ → List Transition → List Transition
+notEnded a [] = []
+notEnded a (e ∷ es) = cond (ended a e) (notEnded a es) (e ∷ es)
 
 -- the pairs to which ranges among ds and es that meet lead
 unfoldable pub targets : List Transition → List Transition → List Pair

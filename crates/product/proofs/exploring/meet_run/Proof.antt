@@ -22,14 +22,15 @@ meet-run-spec =
     tie.close
     (tie.spec
     Inv-loop μ-loop (λ c. search runLaws) (λ c. search runLaws) (λ c. search runLaws) (λ c. search runLaws) (λ c. search runLaws)
-    (λ c. search runLaws) (λ c. search runLaws) (λ c κs. (search runLaws, search runLaws, search runLaws, search runLaws, search runLaws)) (λ c. search runLaws) (λ c. search runLaws)
-    (λ c. (
+    (λ c. search runLaws) (λ c. search runLaws) (λ c. search runLaws) (λ c. search runLaws) (λ c. search runLaws) (λ c. search runLaws)
+    (λ c. search runLaws) (λ c. search runLaws) (λ c. search runLaws)
+    (λ c κs. (search runLaws, search runLaws, search runLaws, search runLaws, search runLaws))
+    (λ c. search runLaws) (λ c. search runLaws)
+    (λ c. let l = c .before .before .before .before .before .before .before .before .before .before .before .before in let a = c .before .before .before .before .before .before .before .before .before .before .before .before .before .before .before .before .before .args in (
       search runLaws,
       search runLaws,
       c .before .before .before .before .meet-record .ensures .queued,
       search runLaws,
-      let l = c .before .before .before .before .before .before .before .before in let i = l .before .loop .inv in let a = c .before .before .before .before .before .before
-          .before .before .before .before .before .before .before .before .args in run-next (a .d .now) (a .run .now) _ _ _ _ _ (l .before .loop .at) (i .2) (i .4)
-          (l .loop-test .taken) _ _ _ (c .before .before .before .before .meet-record .ensures),
+      run-next (a .d .now) (a .run .now) _ _ _ _ _ (l .loop .at) (l .loop .inv .2) (l .loop .inv .4) (c .before .before .before .before .before .before .before .before .before .before .before .loop-test .taken) _ _ _ (c .before .before .before .before .meet-record .ensures),
     ))
     (λ c. search runLaws) (λ c. search runLaws) (λ c. search runLaws))
