@@ -22,9 +22,9 @@ use Rattle.automata.specs.Pairs.{Pair}
 use Rattle.product.specs.Product.{jointOf, jointsOf, jointsFrom, transitionOf, transitionsFrom, placeIn}
 use Rattle.product.specs.inner.Tables.{pairOf, tableOf, Queued, links}
 use Rattle.product.proofs.Joints.{joints-none-left, joints-none-right, joints-left, joints-right, joints-other-left, joints-other-right, joints-two}
-use Rattle.sheets.proofs.Named.{named-to, named-next, ready-run, ready-named}
-use Rattle.product.proofs.Queueing.{length-table, queued-room}
-use Rattle.product.proofs.Finding.{entry-at}
+use Rattle.sheets.proofs.Named.{ready-run}
+use Rattle.product.proofs.Records.{run-to, run-rest, ready-left, ready-right}
+use Rattle.product.proofs.Queueing.{length-table, entry-at, queued-room}
 
 -- two records d and e
 module _ (buf : List ℕ) (end : ℕ) (k : Open buf end) (T : List Pair) (i : ℕ) (d e : List ℕ) where
@@ -93,7 +93,7 @@ module _ (buf : List ℕ) (k : ℕ) (T : List Pair) (i : ℕ) (d run : List ℕ)
     pub run-next : next < 20480 → Rest m next (links T i (recordAt d 0 ∷ []) (readRecords (drop (at + 5) run))) es
     run-next o = rest-next buf k es _ _ run-parts m next s o
 
-pub ruleset runLaws = (run-begins, run-ended, named-to, named-next, needs)
+pub ruleset runLaws = (run-begins, run-ended, run-to, run-rest, needs)
 
 -- the records of two runs, of which those of the first are left from a place on
 pub runs-begins : (buf : List ℕ) (end : ℕ) (T : List Pair) (i : ℕ) (first second : List ℕ) → Open buf end
@@ -117,7 +117,7 @@ module _ (buf : List ℕ) (k : ℕ) (T : List Pair) (i : ℕ) (first second : Li
     pub runs-next : next < 20480 → Rest m next (links T i (readRecords (drop (at + 5) first)) (readRecords second)) es
     runs-next o = rest-next buf k es _ _ runs-parts m next s o
 
-pub ruleset runsLaws = (runs-begins, runs-ended, named-to, named-next, needs)
+pub ruleset runsLaws = (runs-begins, runs-ended, run-to, run-rest, needs)
 
 -- the transitions of a pair
 pub pair-links : (a b : List ℕ) (c : ℕ) (first second : List ℕ) → first ≡ writeRecords (leaving (read a) (c / 256)) → second ≡ writeRecords (leaving (read b) (c % 256))
@@ -128,7 +128,7 @@ pair-links a b c first second e f T i old buf end s =
     subst (λ (x : List Transition). Gathered buf end (old ++ x))
     (ap₂ (λ x y. links T i x y) (ap readRecords e ∙ read-write (leaving (read a) (c / 256))) (ap readRecords f ∙ read-write (leaving (read b) (c % 256)))) s
 
-pub ruleset pairLaws = (ready-run, ready-named, pair-links, needs)
+pub ruleset pairLaws = (ready-run, ready-left, ready-right, pair-links, needs)
 
 -- the transitions of the pairs from i on are left
 pub pairs-begin : (A B : Automaton) (buf : List ℕ) (T : List Pair) → length buf ≡ 20480 → Rest buf 0 (transitionsFrom (placeIn T) A B 0 (drop 0 T)) (transitionsFrom (placeIn T) A B 0 T)

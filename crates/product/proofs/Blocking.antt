@@ -27,8 +27,7 @@ use Rattle.sheets.proofs.Named.{ready-run}
 use Rattle.automata.specs.Pairs.{Pair}
 use Rattle.product.specs.Product.{isNone, blocked, blockedAt}
 use Rattle.product.specs.inner.Tables.{pairOf, tableOf, Within, EpsilonFirst}
-use Rattle.product.proofs.Finding.{entry-at, entry-in}
-use Rattle.product.proofs.Queueing.{length-table}
+use Rattle.product.proofs.Queueing.{length-table, entry-at, entry-in}
 
 -- in a run an epsilon comes before the ranges
 before-epsilon : (q : ℕ) (d e : Transition) → d .from ≡ q → e .from ≡ q → Before d e → e .kind ≡ 0 → d .kind ≡ 0

@@ -1,5 +1,5 @@
 -- Finding the pairs: the laws by which the queue's loop is proved.
-use Prim.Native.Nat.{ℕ, zero, suc, _+_, _/_, _%_, _≤_, _<_}
+use Prim.Native.Nat.{ℕ, zero, suc, _+_, _*_, _/_, _%_, _≤_, _<_}
 use mathlib.Core.List.{List, [], _∷_, List·Memᴰ·head, List·Memᴰ·tail, List·Memᴰ·cases-cons, List·Memᴰ·not-nil}
 use mathlib.Core.Logic.{⊎-elim}
 use mathlib.Core.Path.{_≡_, sym, _∙_, ap, ap₂, subst}
@@ -8,9 +8,8 @@ use native.Mathlib.Omega.{arith}
 use borrow.Author.Needs.{needs}
 use borrow.Author.Tests.{lt-ltb, le-ltb}
 use lib.ListN.{getD, length, take}
-use lib.Seq.{getD-take, length-take-le}
 use Rattle.lists.specs.Lists.{_∈_}
-use Rattle.lists.proofs.Members.{at-in, map-out}
+use Rattle.lists.proofs.Members.{map-out}
 use Rattle.automata.specs.Automaton.{Automaton, InBounds, leaving}
 use Rattle.automata.specs.Records.{readRecords, writeRecords}
 use Rattle.automata.specs.WellFormed.{mostStates}
@@ -21,23 +20,14 @@ use Rattle.search.proofs.Queue.{queue, queue-begin, queue-step, queue-end, queu
 use Rattle.sheets.specs.inner.Runs.{RunAt, Ready}
 use Rattle.sheets.specs.Sheet.{stateCount, read}
 use Rattle.sheets.proofs.Meaning.{read-well}
-use Rattle.sheets.proofs.Named.{ready-run, ready-named}
+use Rattle.sheets.proofs.Named.{ready-run}
+use Rattle.product.proofs.Records.{ready-left, ready-right}
 use Rattle.automata.specs.Pairs.{Pair, samePair}
 use Rattle.product.specs.Product.{Joint, jointsFrom, pairs}
 use Rattle.product.specs.inner.Tables.{pairOf, tableOf, capped, Queued, Met, targets, Within, foundIn}
 use Rattle.product.proofs.Joints.{from-out}
-use Rattle.product.proofs.Queueing.{length-table, queued-room}
-use Rattle.lists.proofs.Lists.{map-at}
+use Rattle.product.proofs.Queueing.{length-table, entry-at, entry-in, queued-room}
 use Rattle.product.proofs.Result.{startPair}
-
--- the pair with the number i
-pub entry-at : (words : List ℕ) (n i : ℕ) (d : Pair) → n ≤ length words → i < n → getD (tableOf words n) i d ≡ pairOf (getD words i 0)
-unfolding tableOf
-entry-at words n i d l h = map-at pairOf (take n words) i 0 d (rw (length-take-le n words l) h) ∙ ap pairOf (getD-take n words i 0 h)
-
-pub entry-in : (words : List ℕ) (n i : ℕ) → n ≤ length words → i < n → pairOf (getD words i 0) ∈ tableOf words n
-entry-in words n i l h =
-    subst (λ (p : Pair). p ∈ tableOf words n) (entry-at words n i (pairOf (getD words i 0)) l h) (at-in (tableOf words n) i (pairOf (getD words i 0)) (rw (length-table words n l) h))
 
 -- the pair at i
 module _ (a aruns b bruns : List ℕ) (ra : Ready a aruns) (rb : Ready b bruns) (words t : List ℕ) (n i : ℕ) (k : Queued words t n) (h : i < n)
@@ -59,7 +49,7 @@ visit-met a b c first second e f T words t m r =
     subst (λ (ps : List Pair). Met T ps words t m)
     (ap₂ (λ x y. targets x y) (ap readRecords e ∙ read-write (leaving (read a) (c / 256))) (ap readRecords f ∙ read-write (leaving (read b) (c % 256)))) r
 
-pub ruleset visitLaws = (visit-left, visit-right, ready-named, visit-met, needs)
+pub ruleset visitLaws = (visit-left, visit-right, ready-left, ready-right, visit-met, needs)
 
 take-out : {X : Type 0} (k : ℕ) (l : List X) (x : X) → x ∈ take k l → x ∈ l
 take-out zero l x m = elim m [ ]
@@ -83,8 +73,8 @@ module _ (a aruns b bruns : List ℕ) (ra : Ready a aruns) (rb : Ready b bruns) 
   abbrev graph : Graph Pair
   graph = pairs (read a) (read b)
 
-  pub start-left : getD a 1 0 < 256
-  start-left = omega (arith, ra .accepted .start, ra .accepted .few-states)
+  pub start-left : (t : List ℕ) → 256 * stateCount a ≤ length t → getD a 1 0 < length t / 256
+  start-left t l = omega (arith, ra .accepted .start)
 
   pub start-right : getD b 1 0 < 256
   start-right = omega (arith, rb .accepted .start, rb .accepted .few-states)

@@ -1,13 +1,13 @@
 -- The ranges that leave a pair and meet: each joint comes from two of them, and each two that share a symbol make one.
-use Prim.Native.Nat.{ℕ, _≤_, min, max}
-use mathlib.Core.Bool.{Bool, true, false, cond}
+use Prim.Native.Nat.{ℕ, _≤_, _<_, min, max}
+use mathlib.Core.Bool.{Bool, true, false, cond, not, _||_}
 use mathlib.Core.List.{List, [], _∷_, _++_, List·Memᴰ·head, List·Memᴰ·tail, List·Memᴰ·eq-of-singleton, List·Memᴰ·append-cases, Memᴰ·append-left, Memᴰ·append-right, append-assoc, append-nil}
 use mathlib.Core.Logic.{⊎-elim}
 use mathlib.Core.Option.{none, some}
 use mathlib.Core.Path.{_≡_, refl, sym, _∙_, ap, subst}
 use native.Mathlib.Omega.{arith}
-use borrow.Author.Tests.{le-leb, leb-true, eq-eqb, ne-eqb, eqb-true}
-use lib.Dec.{leb, eqb}
+use borrow.Author.Tests.{le-leb, lt-leb, leb-true, ltb-true, eq-eqb, ne-eqb, eqb-true}
+use lib.Dec.{leb, ltb, eqb}
 use lib.ListN.{length}
 use Rattle.lists.specs.Lists.{_∈_, keep}
 use Rattle.lists.proofs.Lists.{keep-in, keep-out, keep-append, length-keep}
@@ -16,6 +16,7 @@ use Rattle.ranges.specs.Span.{intersectRanges}
 use Rattle.automata.specs.Pairs.{Pair}
 use Rattle.product.specs.Product.{Joint, symbolsOf, jointOf, joint, jointsWith, joints, jointsOf, jointsFrom}
 use Rattle.product.specs.Reached.{Meet}
+use Rattle.product.specs.inner.Tables.{ended, notEnded}
 
 -- the joint of two ranges that meet
 abbrev pub jointBy : Transition → Transition → Joint
@@ -196,3 +197,61 @@ joints-other-right d e h = rw (ne-eqb (e .kind) 1 h) (joints-nothing (rangesOf (
 pub joints-two : (d e : Transition) → d .kind ≡ 1 → e .kind ≡ 1 → jointsOf (d ∷ []) (e ∷ []) ≡ jointOf (intersectRanges (symbolsOf d) (symbolsOf e)) (record { left = d .to; right = e .to })
 unfolding jointsOf rangesOf keep joints jointsWith joint
 joints-two d e h k = rw (eq-eqb (d .kind) 1 h, eq-eqb (e .kind) 1 k) (append-nil _ ∙ append-nil _)
+
+-- two ranges of which one ends before the other starts
+joint-apart : (d e : Transition) → min (d .last) (e .last) < max (d .first) (e .first) → joint d e ≡ []
+unfolding joint jointOf intersectRanges
+joint-apart d e h = rw (lt-leb _ _ h)
+
+-- no range of ds meets one of es, if all of these start behind them
+with-behind : (d : Transition) (es : List Transition) → ((e : Transition) → e ∈ es → d .last < e .first) → jointsWith d es ≡ []
+unfolding jointsWith
+with-behind d [] f = refl
+with-behind d (e ∷ es) f =
+    let h = f e (List·Memᴰ·head refl) in
+    rw (joint-apart d e (omega arith), with-behind d es (λ c m. f c (List·Memᴰ·tail m)))
+
+joints-apart : (ds es : List Transition) → ((d e : Transition) → d ∈ ds → e ∈ es → d .last < e .first) → joints ds es ≡ []
+unfolding joints
+joints-apart [] es f = refl
+joints-apart (d ∷ ds) es f = rw (with-behind d es (λ e m. f d e (List·Memᴰ·head refl) m), joints-apart ds es (λ c e m k. f c e (List·Memᴰ·tail m) k))
+
+pub joints-behind : (d : Transition) (es : List Transition) → ((e : Transition) → e ∈ es → d .last < e .first) → jointsOf (d ∷ []) es ≡ []
+unfolding jointsOf rangesOf
+joints-behind d es f =
+    joints-apart _ _
+    (λ c e m k.
+    let q : c ≡ d = List·Memᴰ·eq-of-singleton (keep-out (λ e. eqb (e .kind) 1) c (d ∷ []) m .0) in
+    rw q (f e (keep-out (λ e. eqb (e .kind) 1) e es k .0)))
+
+-- a range that ends before those of ds start gives nothing with them
+joints-past : (ds : List Transition) (e : Transition) (es : List Transition) → ((d : Transition) → d ∈ ds → e .last < d .first) → joints ds (e ∷ es) ≡ joints ds es
+unfolding joints jointsWith
+joints-past [] e es f = refl
+joints-past (d ∷ ds) e es f =
+    let h = f d (List·Memᴰ·head refl) in
+    rw (joint-apart d e (omega arith), joints-past ds e es (λ c m. f c (List·Memᴰ·tail m)))
+
+passed-one : (a : ℕ) (ds : List Transition) (e : Transition) (es : List Transition) → ((d : Transition) → d ∈ ds → a ≤ d .first) → ended a e ≡ true
+    → jointsOf ds (e ∷ es) ≡ jointsOf ds es
+unfolding ended jointsOf rangesOf keep
+passed-one a ds e es f h = go (eqb (e .kind) 1) refl h
+  where
+    go : (b : Bool) → eqb (e .kind) 1 ≡ b → (not b || ltb (e .last) a) ≡ true
+        → joints (rangesOf ds) (cond b (e ∷ rangesOf es) (rangesOf es)) ≡ joints (rangesOf ds) (rangesOf es)
+    go true k l =
+        let z : e .last < a = ltb-true _ _ l in
+        joints-past (rangesOf ds) e (rangesOf es) (λ d m. let y = f d (keep-out (λ e. eqb (e .kind) 1) d ds m .0) in omega arith)
+    go false k l = refl
+
+pub joints-passed : (a : ℕ) (ds es : List Transition) → ((d : Transition) → d ∈ ds → a ≤ d .first) → jointsOf ds es ≡ jointsOf ds (notEnded a es)
+unfolding notEnded
+joints-passed a ds [] f = refl
+joints-passed a ds (e ∷ es) f = go (ended a e) refl (joints-passed a ds es f)
+  where
+    past : ended a e ≡ true → jointsOf ds (e ∷ es) ≡ jointsOf ds es
+    past h = passed-one a ds e es f h
+
+    go : (b : Bool) → ended a e ≡ b → jointsOf ds es ≡ jointsOf ds (notEnded a es) → jointsOf ds (e ∷ es) ≡ jointsOf ds (cond b (notEnded a es) (e ∷ es))
+    go true h ih = past h ∙ ih
+    go false h ih = refl

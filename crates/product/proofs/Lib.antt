@@ -1,6 +1,7 @@
 -- The theory of the product, and the laws by which its code is proved.
 pub mod Joints
 pub mod Queueing
+pub mod Records
 pub mod Meeting
 pub mod Finding
 pub mod Numbering

@@ -6,14 +6,13 @@ use mathlib.Core.Path.{_≡_, refl, sym, _∙_, ap, subst}
 use native.Mathlib.Omega.{arith}
 use borrow.Author.Tests.{lt-ltb, le-ltb}
 use lib.Dec.{ltb}
-use lib.ListN.{length, take, replicate, length-replicate, getD-replicate}
+use lib.ListN.{length, take, replicate, length-replicate}
 use lib.Seq.{sets, length-take-le}
 use Rattle.lists.specs.Lists.{any, Distinct}
 use Rattle.lists.specs.Written.{Written}
 use Rattle.automata.specs.Automaton.{Automaton}
 use Rattle.automata.specs.Records.{writeRecords}
 use Rattle.automata.specs.WellFormed.{mostStates, mostTransitions}
-use Rattle.buckets.proofs.Entering.{entered-none}
 use Rattle.labels.specs.Labels.{writeLabels}
 use Rattle.output.specs.declared.Made.{Made}
 use Rattle.output.specs.declared.Made.the-variants as made
@@ -38,7 +37,7 @@ use Rattle.sheets.proofs.Checking.{sheet-passed, sheet-refused}
 use Rattle.sheets.proofs.Runs.{starts-indexed}
 use Rattle.automata.specs.Pairs.{Pair}
 use Rattle.product.specs.Product.{pairs, transitionsFrom, placeIn, acceptOf, built, blockedAt, labelOf, product, intersection}
-use Rattle.product.specs.inner.Tables.{tableOf, bucketsOf, Queued, Within, foundIn, sheetWords, Whole}
+use Rattle.product.specs.inner.Tables.{tableOf, Queued, Within, foundIn, sheetWords, Whole}
 use Rattle.product.proofs.Answers.{answer-over, answer-blocked, answer-many, answer-given}
 use Rattle.product.proofs.Queueing.{length-table, queued-room}
 
@@ -84,19 +83,20 @@ pub made-many : (out names : List ℕ) (A B : Automaton) → product A B ≡ ref
 made-many out names A B e = made-refused out names (State Transitions) (product A B) e
 
 -- the queue before any pair
-unmet : (n m : ℕ) → n ≡ 257 → m ≡ 512 → Queued (replicate n 0) (replicate m 0) 0
-unfolding tableOf bucketsOf
-unmet n m e f =
-    record {
-      room = length-replicate {A = ℕ} n 0 ∙ e;
-      long = length-replicate {A = ℕ} m 0 ∙ f;
-      few = omega arith;
-      distinct = Distinct.none;
-      found = λ l. entered-none (replicate m 0) (omega (arith, length-replicate {A = ℕ} m 0)) (λ i h. getD-replicate m i 0 0 (omega arith));
-    }
+unmet : (n : ℕ) (t : List ℕ) → n ≡ 257 → length t ≤ 65536 → Queued (replicate n 0) t 0
+unfolding tableOf
+unmet n t e l =
+    record { room = length-replicate {A = ℕ} n 0 ∙ e; bytes = l; few = omega arith; distinct = Distinct.none; numbered = λ f i h. absurd (omega arith) }
 
-pub fresh-queue : Queued (replicate 257 0) (replicate 512 0) 0
-fresh-queue = unmet 257 512 refl refl
+pub fresh-queue : (t : List ℕ) → length t ≤ 65536 → Queued (replicate 257 0) t 0
+fresh-queue t l = unmet 257 t refl l
+
+-- a table of numbers with a byte for each pair's word
+pub table-room : (s : List ℕ) (m : ℕ) → 256 * stateCount s ≤ m → 256 * stateCount s ≤ length {A = ℕ} (replicate m 0)
+table-room s m l = omega (arith, length-replicate {A = ℕ} m 0)
+
+pub table-bytes : (m : ℕ) → m ≤ 65536 → length {A = ℕ} (replicate m 0) ≤ 65536
+table-bytes m l = omega (arith, length-replicate {A = ℕ} m 0)
 
 -- the answers of the search
 module _ (A B : Automaton) (words : List ℕ) (n : ℕ) (e : foundIn words n ≡ table (pairs A B) mostStates) where

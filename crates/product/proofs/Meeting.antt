@@ -1,9 +1,10 @@
 -- Meeting the pairs to which records lead: the laws by which the loops over two runs are proved.
 use Prim.Native.Nat.{ℕ, _+_, _-_, _≤_, _<_}
 use mathlib.Core.List.{List, [], _∷_, _++_, map, map-append}
-use mathlib.Core.Path.{_≡_, refl, sym, _∙_, ap}
+use mathlib.Core.Path.{_≡_, refl, sym, _∙_, ap, subst}
 use borrow.Author.Needs.{needs}
 use lib.ListN.{getD, length, take, drop}
+use Rattle.lists.proofs.Parts.{part-all}
 use Rattle.automata.specs.Automaton.{Transition}
 use Rattle.automata.specs.Records.{readRecords}
 use Rattle.automata.specs.inner.Records.{recordAt}
@@ -12,8 +13,8 @@ use Rattle.ranges.specs.Span.{intersectRanges, spanOf}
 use Rattle.ranges.specs.declared.Common.{Common}
 use Rattle.ranges.specs.declared.Common.the-variants.{Range, Nothing}
 use Rattle.product.specs.Product.{Joint, jointOf, jointsOf}
-use Rattle.sheets.proofs.Named.{named-to, named-next}
-use Rattle.product.specs.inner.Tables.{tableOf, Queued, Met, targets}
+use Rattle.product.proofs.Records.{run-to, run-left, run-rest, joints-left-behind, joints-left-passed}
+use Rattle.product.specs.inner.Tables.{tableOf, Queued, Met, RunTo, notEnded, targets}
 use Rattle.product.proofs.Joints.{joints-none-left, joints-none-right, joints-left, joints-right, joints-other-left, joints-other-right, joints-two}
 use Rattle.product.proofs.Queueing.{met-none, metWith, met-ended, met-full, met-next}
 
@@ -45,13 +46,15 @@ module _ (queue t : List ℕ) (n : ℕ) (k : Queued queue t n) (d e : List ℕ) 
 
 pub ruleset recordLaws = (record-other-left, record-other-right, record-apart, record-met, needs)
 
-targets-none-left : (es : List Transition) → targets [] es ≡ []
+targets-none : (ds es : List Transition) → jointsOf ds es ≡ [] → targets ds es ≡ []
 unfolding targets
-targets-none-left es = rw (joints-none-left es)
+targets-none ds es h = rw h
+
+targets-none-left : (es : List Transition) → targets [] es ≡ []
+targets-none-left es = targets-none [] es (joints-none-left es)
 
 targets-none-right : (ds : List Transition) → targets ds [] ≡ []
-unfolding targets
-targets-none-right ds = rw (joints-none-right ds)
+targets-none-right ds = targets-none ds [] (joints-none-right ds)
 
 targets-left : (d : Transition) (ds es : List Transition) → targets (d ∷ ds) es ≡ targets (d ∷ []) es ++ targets ds es
 unfolding targets
@@ -69,6 +72,12 @@ module _ (d run queue₀ : List ℕ) (n₀ : ℕ) (queue t : List ℕ) (n at : �
       met-ended queue t n k (tableOf queue₀ n₀) _
       (ap (metWith queue n) (sym (ap (targets (recordAt d 0 ∷ [])) (records-end run at h) ∙ targets-none-right (recordAt d 0 ∷ []))) ∙ e ∙ unfold metWith in refl)
 
+  pub run-behind : RunTo 256 (readRecords (drop at run)) → 5 ≤ length run - at → getD d 3 0 < getD run (at + 2) 0
+      → Met (tableOf queue₀ n₀) (targets (recordAt d 0 ∷ []) (readRecords run)) queue t n
+  run-behind r h l =
+      met-ended queue t n k (tableOf queue₀ n₀) _
+      (ap (metWith queue n) (sym (targets-none (recordAt d 0 ∷ []) (readRecords (drop at run)) (joints-left-behind 256 d run at r h l))) ∙ e ∙ unfold metWith in refl)
+
   pub run-next : 5 ≤ length run - at → (queue′ t′ : List ℕ) (m : ℕ) → Met (tableOf queue n) (targets (recordAt d 0 ∷ []) (recordAt (take (at + 5 - at) (drop at run)) 0 ∷ [])) queue′ t′ m
       → metWith queue′ m (targets (recordAt d 0 ∷ []) (readRecords (drop (at + 5) run))) ≡ metWith queue₀ n₀ (targets (recordAt d 0 ∷ []) (readRecords run))
   run-next h queue′ t′ m r =
@@ -81,29 +90,38 @@ module _ (d run queue₀ : List ℕ) (n₀ : ℕ) (queue t : List ℕ) (n at : �
 pub run-begins : (d run queue : List ℕ) (n : ℕ) → metWith queue n (targets (recordAt d 0 ∷ []) (readRecords (drop 0 run))) ≡ metWith queue n (targets (recordAt d 0 ∷ []) (readRecords run))
 run-begins d run queue n = refl
 
-pub ruleset runLaws = (run-begins, run-ended, named-to, named-next, needs)
+pub ruleset runLaws = (run-begins, run-ended, run-behind, run-to, run-left, run-rest, needs)
 
--- the records of two runs, of which those of the first are left from a place on
-module _ (first second queue₀ : List ℕ) (n₀ : ℕ) (queue t : List ℕ) (n at : ℕ) (k : Queued queue t n)
-    (e : metWith queue n (targets (readRecords (drop at first)) (readRecords second)) ≡ metWith queue₀ n₀ (targets (readRecords first) (readRecords second))) where
+-- the records of two runs, of which those of the first are left from a place on, and of the second those that the first may still meet
+module _ (first second queue₀ : List ℕ) (n₀ : ℕ) (queue t : List ℕ) (n from at : ℕ) (k : Queued queue t n)
+    (e : metWith queue n (targets (readRecords (drop at first)) (readRecords (drop from second))) ≡ metWith queue₀ n₀ (targets (readRecords first) (readRecords second))) where
   pub runs-ended : length first - at < 5 → Met (tableOf queue₀ n₀) (targets (readRecords first) (readRecords second)) queue t n
   runs-ended h =
       met-ended queue t n k (tableOf queue₀ n₀) _
-      (ap (metWith queue n) (sym (ap (λ l. targets l (readRecords second)) (records-end first at h) ∙ targets-none-left (readRecords second))) ∙ e ∙ unfold metWith in refl)
+      (ap (metWith queue n) (sym (ap (λ l. targets l (readRecords (drop from second))) (records-end first at h) ∙ targets-none-left (readRecords (drop from second)))) ∙ e ∙ unfold metWith in refl)
 
   pub runs-full : 256 < n → Met (tableOf queue₀ n₀) (targets (readRecords first) (readRecords second)) queue t n
-  runs-full h = met-full queue t n k (tableOf queue₀ n₀) _ h (targets (readRecords (drop at first)) (readRecords second)) (e ∙ unfold metWith in refl)
+  runs-full h = met-full queue t n k (tableOf queue₀ n₀) _ h (targets (readRecords (drop at first)) (readRecords (drop from second))) (e ∙ unfold metWith in refl)
 
-  pub runs-next : 5 ≤ length first - at → (queue′ t′ : List ℕ) (m : ℕ) → Met (tableOf queue n) (targets (recordAt (take (at + 5 - at) (drop at first)) 0 ∷ []) (readRecords second)) queue′ t′ m
-      → metWith queue′ m (targets (readRecords (drop (at + 5) first)) (readRecords second)) ≡ metWith queue₀ n₀ (targets (readRecords first) (readRecords second))
-  runs-next h queue′ t′ m r =
-      met-next queue queue′ t′ n m _ _ r
-      ∙ ap (metWith queue n)
-      (ap (λ x. targets (x ∷ []) (readRecords second) ++ targets (readRecords (drop (at + 5) first)) (readRecords second)) (part-record first at)
-      ∙ sym (ap (λ l. targets l (readRecords second)) (records-at first at h) ∙ targets-left (recordAt first at) (readRecords (drop (at + 5) first)) (readRecords second)))
-      ∙ e
+  module _ (l : ℕ) (r : RunTo l (readRecords (drop at first))) (h : 5 ≤ length first - at) (next : ℕ)
+      (p : readRecords (drop next second) ≡ notEnded (getD first (at + 2) 0) (readRecords (drop from second))) where
+    passed : targets (readRecords (drop at first)) (readRecords (drop from second)) ≡ targets (readRecords (drop at first)) (readRecords (drop next second))
+    unfolding targets
+    passed = ap (map (λ (j : Joint). j .to)) (joints-left-passed l first at r h (readRecords (drop from second)) ∙ ap (jointsOf (readRecords (drop at first))) (sym p))
 
-pub runs-begins : (first second queue : List ℕ) (n : ℕ) → metWith queue n (targets (readRecords (drop 0 first)) (readRecords second)) ≡ metWith queue n (targets (readRecords first) (readRecords second))
+    pub runs-next : (queue′ t′ : List ℕ) (m : ℕ)
+        → Met (tableOf queue n) (targets (recordAt (take (at + 5 - at) (drop at first)) 0 ∷ []) (readRecords (take (length second - next) (drop next second)))) queue′ t′ m
+        → metWith queue′ m (targets (readRecords (drop (at + 5) first)) (readRecords (drop next second))) ≡ metWith queue₀ n₀ (targets (readRecords first) (readRecords second))
+    runs-next queue′ t′ m s =
+        met-next queue queue′ t′ n m _ _ (subst (λ es. Met (tableOf queue n) (targets (recordAt (take (at + 5 - at) (drop at first)) 0 ∷ []) es) queue′ t′ m) (ap readRecords (part-all next second)) s)
+        ∙ ap (metWith queue n)
+        (ap (λ x. targets (x ∷ []) (readRecords (drop next second)) ++ targets (readRecords (drop (at + 5) first)) (readRecords (drop next second))) (part-record first at)
+        ∙ sym (passed ∙ ap (λ l. targets l (readRecords (drop next second))) (records-at first at h)
+        ∙ targets-left (recordAt first at) (readRecords (drop (at + 5) first)) (readRecords (drop next second))))
+        ∙ e
+
+pub runs-begins : (first second queue : List ℕ) (n : ℕ)
+    → metWith queue n (targets (readRecords (drop 0 first)) (readRecords (drop 0 second))) ≡ metWith queue n (targets (readRecords first) (readRecords second))
 runs-begins first second queue n = refl
 
-pub ruleset runsLaws = (runs-begins, runs-ended, runs-full, named-to, named-next, needs)
+pub ruleset runsLaws = (runs-begins, runs-ended, runs-full, run-to, run-left, run-rest, needs)

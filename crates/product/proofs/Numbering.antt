@@ -1,56 +1,29 @@
--- Laws of the number of a pair: the walk through the bucket of its word.
-use Prim.Native.Nat.{ℕ, _+_, _-_, _*_, _/_, _%_, _≤_, _<_}
-use mathlib.Core.Bool.{Bool, true, false, true≢false}
+-- Laws of the number of a pair: the table names it, and the queue confirms it.
+use Prim.Native.Nat.{ℕ, _+_, _*_, _/_, _%_, _≤_, _<_}
+use mathlib.Core.Bool.{true, false}
 use mathlib.Core.List.{List}
 use mathlib.Core.Logic.{⊎-elim}
 use mathlib.Core.Path.{_≡_, sym, _∙_, ap}
 use native.Mathlib.Omega.{arith}
-use mir.Syntax.{w32}
+use mir.Syntax.{w8, w32, w64}
 use mir.Val.{Fits}
 use borrow.Author.Needs.{needs}
-use borrow.Author.Tests.{eq-eqb, ne-eqb, eqb-true, ltb-true, ltb-false}
-use lib.Dec.{ltb, eqb}
-use lib.ListN.{getD, length, take}
-use lib.Seq.{getD-take, length-take-le}
+use borrow.Author.Tests.{ltb-true, ltb-false}
+use lib.Dec.{ltb}
+use lib.ListN.{getD, length}
 use Rattle.lists.proofs.Tests.{test}
-use Rattle.buckets.specs.inner.Buckets.{inBucket}
-use Rattle.buckets.proofs.Walking.{Walk, walk-begin, walk-next, walk-less, walk-ended}
 use Rattle.search.proofs.Tables.{index-in, index-at, index-place}
 use Rattle.automata.specs.Pairs.{Pair, samePair}
 use Rattle.lists.proofs.Index.{index-le}
 use Rattle.product.specs.Product.{placeIn}
-use Rattle.product.specs.inner.Tables.{pairOf, tableOf, bucketOf, bucketsOf, Queued}
-use Rattle.product.proofs.Finding.{entry-at}
+use Rattle.product.specs.inner.Tables.{pairOf, tableOf, Queued}
 use Rattle.automata.proofs.Pairs.{pair-decides}
-use Rattle.product.proofs.Queueing.{length-table, length-buckets, bucket-low, bucket-less, queued-room, queued-long, word-pair}
-use Rattle.lists.proofs.Lists.{map-at}
+use Rattle.product.proofs.Queueing.{length-table, entry-at, queued-room, word-pair}
 
--- word j of the queue is c
-unfoldable pub isWord : List ℕ → ℕ → ℕ → Bool
-isWord queue c j = eqb (getD queue j 0) c
-
-bucket-at : (queue : List ℕ) (n j : ℕ) → n ≤ length queue → j < n → getD (bucketsOf queue n) j 0 ≡ bucketOf (getD queue j 0)
-unfolding bucketsOf
-bucket-at queue n j l h = map-at bucketOf (take n queue) j 0 0 (rw (length-take-le n queue l) h) ∙ ap bucketOf (getD-take n queue j 0 h)
-
--- the walk through the bucket of the word c, the first n words of the queue being entered
+-- the number of the word c among the first n words of the queue
 module _ (queue t : List ℕ) (n : ℕ) (k : Queued queue t n) (f : n ≤ 256) (c : ℕ) where
   inside : n ≤ length queue
   inside = queued-room queue t n k
-
-  count : length (bucketsOf queue n) ≡ n
-  count = length-buckets queue n inside
-
-  right-bucket : (j : ℕ) → j < length (bucketsOf queue n) → isWord queue c j ≡ true → inBucket (bucketsOf queue n) (bucketOf c) j ≡ true
-  unfolding isWord inBucket
-  right-bucket j h e = eq-eqb _ _ (bucket-at queue n j inside (omega (arith, count)) ∙ ap bucketOf (eqb-true _ _ e))
-
-  module _ (b : ℕ) (e : b ≡ bucketOf c) (i : ℕ) (q : i ≡ getD t b 0) where
-    pub find-begin : Walk (bucketsOf queue n) (bucketOf c) (isWord queue c) i
-    find-begin = rw (q, e) (walk-begin (bucketsOf queue n) t (bucketOf c) (isWord queue c) (k .found f) right-bucket (bucket-low c))
-
-    pub find-first : i ≤ n
-    find-first = omega (arith, find-begin .within, count)
 
   -- the word c at a place, and the place at which it is
   place : (j : ℕ) → j < n → getD queue j 0 ≡ c → j ≡ placeIn (tableOf queue n) (pairOf c)
@@ -67,35 +40,35 @@ module _ (queue t : List ℕ) (n : ℕ) (k : Queued queue t n) (f : n ≤ 256) (
       let y : getD queue (placeIn (tableOf queue n) (pairOf c)) 0 % 256 ≡ c % 256 = ap (λ (p : Pair). p .right) e in
       omega arith
 
-  module _ (i : ℕ) (low : i ≤ n) (w : Walk (bucketsOf queue n) (bucketOf c) (isWord queue c) i) where
-    pub find-none : i ≤ 0 → n ≡ placeIn (tableOf queue n) (pairOf c)
-    unfolding isWord
-    find-none l =
-        ⊎-elim
-        (λ (q : ltb (placeIn (tableOf queue n) (pairOf c)) n ≡ true).
-        let h : placeIn (tableOf queue n) (pairOf c) < n = ltb-true _ n q in
-        absurd (true≢false (sym (eq-eqb _ _ (word h)) ∙ walk-ended _ _ _ i w l (placeIn (tableOf queue n) (pairOf c)) (omega (arith, count)))))
-        (λ (q : ltb (placeIn (tableOf queue n) (pairOf c)) n ≡ false).
-        let h : n ≤ placeIn (tableOf queue n) (pairOf c) = ltb-false _ n q in
-        omega (arith, index-le samePair (pairOf c) (tableOf queue n), length-table queue n inside))
-        (test (ltb (placeIn (tableOf queue n) (pairOf c)) n))
+  -- the table names the place of each word of the queue
+  named : placeIn (tableOf queue n) (pairOf c) < n → getD t c 0 ≡ placeIn (tableOf queue n) (pairOf c)
+  named h = ap (λ x. getD t x 0) (sym (word h)) ∙ k .numbered f (placeIn (tableOf queue n) (pairOf c)) h
 
-    module _ (l : 0 < i) where
-      pub find-found : getD queue (i - 1) 0 ≡ c → i - 1 ≡ placeIn (tableOf queue n) (pairOf c)
-      find-found e = place (i - 1) (omega arith) e
+  none : (placeIn (tableOf queue n) (pairOf c) < n → ⊥) → n ≡ placeIn (tableOf queue n) (pairOf c)
+  none h =
+      ⊎-elim (λ (q : ltb (placeIn (tableOf queue n) (pairOf c)) n ≡ true). absurd (h (ltb-true _ n q)))
+      (λ (q : ltb (placeIn (tableOf queue n) (pairOf c)) n ≡ false).
+      let l : n ≤ placeIn (tableOf queue n) (pairOf c) = ltb-false _ n q in
+      omega (arith, index-le samePair (pairOf c) (tableOf queue n), length-table queue n inside))
+      (test (ltb (placeIn (tableOf queue n) (pairOf c)) n))
 
-      module _ (e : getD queue (i - 1) 0 ≡ c → ⊥) (q : ℕ) (m : q ≡ getD t (256 + (i - 1)) 0) where
-        pub find-next : Walk (bucketsOf queue n) (bucketOf c) (isWord queue c) q
-        unfolding isWord
-        find-next = rw m (walk-next _ t (bucketOf c) (isWord queue c) (k .found f) right-bucket i w l (ne-eqb _ c e))
+  pub find-past : n ≤ getD t c 0 → n ≡ placeIn (tableOf queue n) (pairOf c)
+  find-past l = none (λ h. omega (arith, named h))
 
-        pub find-less : q < i
-        find-less = omega (arith, m, walk-less _ t (bucketOf c) (isWord queue c) (k .found f) right-bucket i w l)
+  pub find-other : (getD queue (getD t c 0) 0 ≡ c → ⊥) → n ≡ placeIn (tableOf queue n) (pairOf c)
+  find-other o = none (λ h. o (ap (λ j. getD queue j 0) (named h) ∙ word h))
 
-        pub find-after : q ≤ n
-        find-after = omega (arith, find-less)
+  pub find-found : getD t c 0 < n → getD queue (getD t c 0) 0 ≡ c → getD t c 0 ≡ placeIn (tableOf queue n) (pairOf c)
+  find-found h e = place (getD t c 0) h e
 
-pub ruleset findLaws = (find-begin, find-first, find-none, find-found, find-next, find-less, find-after, bucket-less, queued-long, needs)
+-- a byte of the table as a place in the queue
+pub byte-fits : (t : List ℕ) (i : ℕ) → ((j : ℕ) → Fits w8 (getD t j 0)) → Fits w64 (getD t i 0)
+byte-fits t i f = record { fits = omega (arith, f i .fits) }
+
+pub byte-near : (queue t : List ℕ) (n i : ℕ) → Queued queue t n → getD t i 0 < n → getD t i 0 < length queue
+byte-near queue t n i k h = omega (arith, k .room, k .few)
+
+pub ruleset findLaws = (byte-fits, byte-near, find-past, find-other, find-found, queued-room, needs)
 
 -- the number of a pair
 module _ (queue t : List ℕ) (n : ℕ) (k : Queued queue t n) (f : n ≤ 256) (p q r : ℕ) (e : r ≡ placeIn (tableOf queue n) (pairOf (p * 256 + q))) where

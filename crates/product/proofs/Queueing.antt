@@ -1,42 +1,42 @@
--- A queue of pairs and the buckets of their words: what one pair more changes, and what is left to be met.
+-- A queue of pairs and the table of their numbers: what one pair more changes, and what is left to be met.
 use Prim.Native.Nat.{ℕ, _+_, _*_, _/_, _%_, _≤_, _<_}
+use mathlib.Core.Bool.{true, false}
 use mathlib.Core.List.{List, [], _∷_, _++_, map, map-append}
-use mathlib.Core.Path.{_≡_, sym, _∙_, ap}
+use mathlib.Core.Logic.{⊎-elim}
+use mathlib.Core.Path.{_≡_, refl, sym, _∙_, ap, subst}
 use native.Mathlib.Numerals.{add-one}
 use native.Mathlib.Omega.{arith}
 use borrow.Author.Needs.{needs}
-use lib.ListN.{length, take, set, length-set, length-append, length-map}
-use lib.Seq.{length-take-le, take-all, take-suc-set}
-use Rattle.lists.proofs.Members.{distinct-end}
-use Rattle.buckets.specs.inner.Buckets.{Entered, entered}
-use Rattle.buckets.proofs.Entering.{entered-next, length-entered}
+use borrow.Author.Tests.{ltb-true, ltb-false}
+use lib.Dec.{ltb}
+use lib.ListN.{getD, length, take, set, length-set, length-append, length-map}
+use lib.Seq.{getD-take, getD-set-same, getD-set-other, length-take-le, take-all, take-suc-set}
+use Rattle.lists.specs.Lists.{_∈_}
+use Rattle.lists.proofs.Lists.{map-at}
+use Rattle.lists.proofs.Members.{at-in, distinct-end}
+use Rattle.lists.proofs.Tests.{test}
 use Rattle.search.specs.Search.{meet}
 use Rattle.search.proofs.Tables.{add-known, add-new, meet-append, meet-full, meet-capped, index-lt}
 use Rattle.automata.specs.Pairs.{Pair, samePair}
 use Rattle.product.specs.Product.{placeIn}
-use Rattle.product.specs.inner.Tables.{pairOf, tableOf, capped, bucketOf, bucketsOf, Queued, Met}
+use Rattle.product.specs.inner.Tables.{pairOf, tableOf, capped, Queued, Met}
 use Rattle.automata.proofs.Pairs.{pair-decides}
 
 pub length-table : (queue : List ℕ) (n : ℕ) → n ≤ length queue → length (tableOf queue n) ≡ n
 unfolding tableOf
 length-table queue n h = length-map (take n queue) pairOf ∙ length-take-le n queue h
 
-pub length-buckets : (queue : List ℕ) (n : ℕ) → n ≤ length queue → length (bucketsOf queue n) ≡ n
-unfolding bucketsOf
-length-buckets queue n h = length-map (take n queue) bucketOf ∙ length-take-le n queue h
-
-pub bucket-low : (c : ℕ) → bucketOf c < 256
-unfolding bucketOf
-bucket-low c = omega arith
-
-pub bucket-less : (c b : ℕ) → b ≡ bucketOf c → b < 256
-bucket-less c b e = omega (arith, e, bucket-low c)
-
 pub queued-room : (queue t : List ℕ) (n : ℕ) → Queued queue t n → n ≤ length queue
 queued-room queue t n k = omega (arith, k .room, k .few)
 
-pub queued-long : (queue t : List ℕ) (n : ℕ) → Queued queue t n → 512 ≤ length t
-queued-long queue t n k = omega (arith, k .long)
+-- the pair with the number i
+pub entry-at : (words : List ℕ) (n i : ℕ) (d : Pair) → n ≤ length words → i < n → getD (tableOf words n) i d ≡ pairOf (getD words i 0)
+unfolding tableOf
+entry-at words n i d l h = map-at pairOf (take n words) i 0 d (rw (length-take-le n words l) h) ∙ ap pairOf (getD-take n words i 0 h)
+
+pub entry-in : (words : List ℕ) (n i : ℕ) → n ≤ length words → i < n → pairOf (getD words i 0) ∈ tableOf words n
+entry-in words n i l h =
+    subst (λ (p : Pair). p ∈ tableOf words n) (entry-at words n i (pairOf (getD words i 0)) l h) (at-in (tableOf words n) i (pairOf (getD words i 0)) (rw (length-table words n l) h))
 
 -- the pair of a word
 pub word-pair : (p q : ℕ) → q < 256 → pairOf (p * 256 + q) ≡ record { left = p; right = q }
@@ -84,36 +84,51 @@ module _ (queue t : List ℕ) (n p q : ℕ) (k : Queued queue t n) (hq : q < 256
       unfolding tableOf
       grown = ap (map pairOf) taken ∙ map-append pairOf (take n queue) _ ∙ ap (λ x. map pairOf (take n queue) ++ x ∷ []) (word-pair p q hq)
 
-      buckets : bucketsOf (set queue n (p * 256 + q)) (n + 1) ≡ bucketsOf queue n ++ bucketOf (p * 256 + q) ∷ []
-      unfolding bucketsOf
-      buckets = ap (map bucketOf) taken ∙ map-append bucketOf (take n queue) _
-
-      met : (u : List ℕ) → length u ≡ 512 → (n + 1 ≤ 256 → Entered (bucketsOf (set queue n (p * 256 + q)) (n + 1)) u)
+      met : (u : List ℕ) → length u ≡ length t → (n + 1 ≤ 256 → (i : ℕ) → i < n + 1 → getD u (getD (set queue n (p * 256 + q)) i 0) 0 ≡ i)
           → Met (tableOf queue n) (record { left = p; right = q } ∷ []) (set queue n (p * 256 + q)) u (n + 1)
       unfolding meet
       met u w f =
           record {
             queued = record {
               room = length-set queue n _ ∙ k .room;
-              long = w;
+              bytes = omega (arith, w, k .bytes);
               few = omega arith;
               distinct = rw grown (distinct-end (record { left = p; right = q }) (tableOf queue n) (k .distinct) (λ m. let near = index-lt samePair pair-decides (record { left = p; right = q }) m in omega (arith, far)));
-              found = f;
+              numbered = f;
             };
             table = grown ∙ sym (ap capped (add-new samePair (record { left = p; right = q }) (tableOf queue n) far)
                 ∙ capped-few _ (omega (arith, length-append (tableOf queue n) (record { left = p; right = q } ∷ []), count)));
           }
 
       pub pair-last : 256 ≤ n → Met (tableOf queue n) (record { left = p; right = q } ∷ []) (set queue n (p * 256 + q)) t (n + 1)
-      pair-last g = met t (k .long) (λ f. absurd (omega arith))
+      pair-last g = met t refl (λ f. absurd (omega arith))
 
-      module _ (g : n < 256) (b : ℕ) (o : b ≡ bucketOf (p * 256 + q)) where
-        pub pair-new : (u : List ℕ) → u ≡ entered t n b → Met (tableOf queue n) (record { left = p; right = q } ∷ []) (set queue n (p * 256 + q)) u (n + 1)
-        pair-new u r =
-            met u (rw r (length-entered t n b ∙ k .long))
-            (λ f. rw (r, buckets, o) (entered-next (bucketsOf queue n) t n (bucketOf (p * 256 + q)) (k .found l) (length-buckets queue n (omega (arith, k .room))) g (bucket-low (p * 256 + q))))
+      -- no word before the n-th is that of the pair
+      other : (i : ℕ) → i < n → getD queue i 0 ≡ p * 256 + q → ⊥
+      other i b e =
+          let m = entry-in queue n i (queued-room queue t n k) b in
+          let near = index-lt samePair pair-decides (record { left = p; right = q }) (rw (e, word-pair p q hq) at m) in
+          omega (arith, far, count)
 
-pub ruleset pairLaws = (pair-full, pair-known, pair-last, pair-new, bucket-less, queued-long, needs)
+      numbers : p < length t / 256 → (i : ℕ) → i < n + 1 → getD (set t (p * 256 + q) n) (getD (set queue n (p * 256 + q)) i 0) 0 ≡ i
+      numbers r i b =
+          ⊎-elim
+          (λ (z : ltb i n ≡ true).
+          let b = ltb-true i n z in
+          ap (λ x. getD (set t (p * 256 + q) n) x 0) (getD-set-other queue n i (p * 256 + q) 0 (λ e. omega arith))
+          ∙ getD-set-other t (p * 256 + q) (getD queue i 0) n 0 (other i b) ∙ k .numbered l i b)
+          (λ (z : ltb i n ≡ false).
+          let g = ltb-false i n z in
+          let e : i ≡ n = omega arith in
+          rw e
+          (ap (λ x. getD (set t (p * 256 + q) n) x 0) (getD-set-same queue n (p * 256 + q) 0 (omega (arith, k .room)))
+          ∙ getD-set-same t (p * 256 + q) n 0 (omega arith)))
+          (test (ltb i n))
+
+      pub pair-new : p < length t / 256 → Met (tableOf queue n) (record { left = p; right = q } ∷ []) (set queue n (p * 256 + q)) (set t (p * 256 + q) n) (n + 1)
+      pair-new r = met (set t (p * 256 + q) n) (length-set t (p * 256 + q) n) (λ f. numbers r)
+
+pub ruleset pairLaws = (pair-full, pair-known, pair-last, pair-new, needs)
 
 -- no pair, and pairs one after the other
 module _ (queue t : List ℕ) (n : ℕ) (k : Queued queue t n) where

@@ -1,7 +1,7 @@
 // The transitions of the pairs: gathered as they come, then put in order, equal ones once.
 ghost use mathlib.Core.List.{[], _∷_, _++_, map};
 ghost use mathlib.Core.Path.{_≡_};
-ghost use Prim.Native.Nat.{_≤_, _<_};
+ghost use Prim.Native.Nat.{_*_, _/_, _≤_, _<_};
 ghost use lib.ListN.{length, getD};
 ghost use Rattle.automata.specs.Records.{readRecords};
 ghost use Rattle.automata.specs.inner.Records.{recordAt};
@@ -9,13 +9,13 @@ ghost use Rattle.sheets.specs.Sheet.{stateCount, read};
 ghost use Rattle.output.specs.inner.Gathering.{Open, Gathered, Collected};
 ghost use Rattle.output.specs.inner.Ordered.{recordsIn};
 ghost use Rattle.product.specs.Product.{jointsFrom, transitionOf, transitionsFrom, placeIn};
-ghost use Rattle.sheets.specs.inner.Runs.{Named, Ready};
-ghost use Rattle.product.specs.inner.Tables.{pairOf, tableOf, Queued, Within, links};
+ghost use Rattle.sheets.specs.inner.Runs.{Ready};
+ghost use Rattle.product.specs.inner.Tables.{pairOf, tableOf, Queued, RunTo, Within, links};
 use ranges::Common;
 
 // The number of the pair of p and q among the first n of the queue, or n.
-fn number_of(queue: &[u32], t: &[usize], n: usize, p: u32, q: u32) -> u32
-    requires { ⌜ Queued (now queue) (now t) n × (n ≤ 256) × (p < 256) × (q < 256) ⌝ }
+fn number_of(queue: &[u32], t: &[u8], n: usize, p: u32, q: u32) -> u32
+    requires { ⌜ Queued (now queue) (now t) n × (n ≤ 256) × (p < length (now t) / 256) × (q < 256) ⌝ }
     ensures { λ r. ⌜ r ≡ placeIn (tableOf (now (queue .entry)) n) (record { left = p; right = q }) ⌝ }
 {
     crate::numbers::find_pair(queue, t, n, p * 256 + q) as u32
@@ -28,12 +28,12 @@ fn add_joint(
     e: &[u32],
     i: u32,
     queue: &[u32],
-    t: &[usize],
+    t: &[u8],
     n: usize,
     buf: &mut [u32],
     end: usize,
 ) -> usize
-    requires { ⌜ (length (now d) ≡ 5) × (length (now e) ≡ 5) × (recordAt (now d) 0 .to < 256) × (recordAt (now e) 0 .to < 256) × Queued (now queue) (now t) n × (n ≤ 256) × Open (now buf) end ⌝ }
+    requires { ⌜ (length (now d) ≡ 5) × (length (now e) ≡ 5) × (recordAt (now d) 0 .to < length (now t) / 256) × (recordAt (now e) 0 .to < 256) × Queued (now queue) (now t) n × (n ≤ 256) × Open (now buf) end ⌝ }
     ensures { λ r. ⌜ Gathered (now (buf .exit)) r (recordsIn (now (buf .entry)) 0 end ++ links (tableOf (now (queue .entry)) n) i (recordAt (now (d .entry)) 0 ∷ []) (recordAt (now (e .entry)) 0 ∷ [])) ⌝ }
 {
     if d[1] != 1 {
@@ -57,12 +57,12 @@ fn add_run(
     run: &[u32],
     i: u32,
     queue: &[u32],
-    t: &[usize],
+    t: &[u8],
     n: usize,
     buf: &mut [u32],
     end: usize,
 ) -> usize
-    requires { ⌜ (length (now d) ≡ 5) × (recordAt (now d) 0 .to < 256) × Named (readRecords (now run)) × Queued (now queue) (now t) n × (n ≤ 256) × Open (now buf) end ⌝ }
+    requires { ⌜ (length (now d) ≡ 5) × (recordAt (now d) 0 .to < length (now t) / 256) × RunTo 256 (readRecords (now run)) × Queued (now queue) (now t) n × (n ≤ 256) × Open (now buf) end ⌝ }
     ensures { λ r. ⌜ Gathered (now (buf .exit)) r (recordsIn (now (buf .entry)) 0 end ++ links (tableOf (now (queue .entry)) n) i (recordAt (now (d .entry)) 0 ∷ []) (readRecords (now (run .entry)))) ⌝ }
 {
     let mut k = end;
@@ -83,12 +83,12 @@ fn add_runs(
     second: &[u32],
     i: u32,
     queue: &[u32],
-    t: &[usize],
+    t: &[u8],
     n: usize,
     buf: &mut [u32],
     end: usize,
 ) -> usize
-    requires { ⌜ Named (readRecords (now first)) × Named (readRecords (now second)) × Queued (now queue) (now t) n × (n ≤ 256) × Open (now buf) end ⌝ }
+    requires { ⌜ RunTo (length (now t) / 256) (readRecords (now first)) × RunTo 256 (readRecords (now second)) × Queued (now queue) (now t) n × (n ≤ 256) × Open (now buf) end ⌝ }
     ensures { λ r. ⌜ Gathered (now (buf .exit)) r (recordsIn (now (buf .entry)) 0 end ++ links (tableOf (now (queue .entry)) n) i (readRecords (now (first .entry))) (readRecords (now (second .entry)))) ⌝ }
 {
     let mut k = end;
@@ -110,13 +110,13 @@ fn add_pair(
     b: &[u32],
     bruns: &[u32],
     queue: &[u32],
-    t: &[usize],
+    t: &[u8],
     n: usize,
     i: usize,
     buf: &mut [u32],
     end: usize,
 ) -> usize
-    requires { ⌜ Ready (now a) (now aruns) × Ready (now b) (now bruns) × Queued (now queue) (now t) n × (n ≤ 256) × (i < n) × (pairOf (getD (now queue) i 0) .left < stateCount (now a)) × (pairOf (getD (now queue) i 0) .right < stateCount (now b)) × Open (now buf) end ⌝ }
+    requires { ⌜ Ready (now a) (now aruns) × Ready (now b) (now bruns) × (256 * stateCount (now a) ≤ length (now t)) × Queued (now queue) (now t) n × (n ≤ 256) × (i < n) × (pairOf (getD (now queue) i 0) .left < stateCount (now a)) × (pairOf (getD (now queue) i 0) .right < stateCount (now b)) × Open (now buf) end ⌝ }
     ensures { λ r. ⌜ Gathered (now (buf .exit)) r (recordsIn (now (buf .entry)) 0 end ++ map (transitionOf (placeIn (tableOf (now (queue .entry)) n)) i) (jointsFrom (read (now (a .entry))) (read (now (b .entry))) (pairOf (getD (now (queue .entry)) i 0)))) ⌝ }
 {
     let c = queue[i];
@@ -139,11 +139,11 @@ fn add_pairs(
     b: &[u32],
     bruns: &[u32],
     queue: &[u32],
-    t: &[usize],
+    t: &[u8],
     n: usize,
     buf: &mut [u32],
 ) -> usize
-    requires { ⌜ Ready (now a) (now aruns) × Ready (now b) (now bruns) × Queued (now queue) (now t) n × (n ≤ 256) × Within (stateCount (now a)) (stateCount (now b)) (tableOf (now queue) n) × (length (now buf) ≡ 20480) ⌝ }
+    requires { ⌜ Ready (now a) (now aruns) × Ready (now b) (now bruns) × (256 * stateCount (now a) ≤ length (now t)) × Queued (now queue) (now t) n × (n ≤ 256) × Within (stateCount (now a)) (stateCount (now b)) (tableOf (now queue) n) × (length (now buf) ≡ 20480) ⌝ }
     ensures { λ r. ⌜ Gathered (now (buf .exit)) r (transitionsFrom (placeIn (tableOf (now (queue .entry)) n)) (read (now (a .entry))) (read (now (b .entry))) 0 (tableOf (now (queue .entry)) n)) ⌝ }
 {
     let mut end: usize = 0;
@@ -165,11 +165,11 @@ pub fn collect_pairs(
     b: &[u32],
     bruns: &[u32],
     queue: &[u32],
-    t: &[usize],
+    t: &[u8],
     n: usize,
     buf: &mut [u32],
 ) -> usize
-    requires { ⌜ Ready (now a) (now aruns) × Ready (now b) (now bruns) × Queued (now queue) (now t) n × (n ≤ 256) × Within (stateCount (now a)) (stateCount (now b)) (tableOf (now queue) n) × (length (now buf) ≡ 20480) ⌝ }
+    requires { ⌜ Ready (now a) (now aruns) × Ready (now b) (now bruns) × (256 * stateCount (now a) ≤ length (now t)) × Queued (now queue) (now t) n × (n ≤ 256) × Within (stateCount (now a)) (stateCount (now b)) (tableOf (now queue) n) × (length (now buf) ≡ 20480) ⌝ }
     ensures { λ r. ⌜ Collected (now (buf .exit)) r (transitionsFrom (placeIn (tableOf (now (queue .entry)) n)) (read (now (a .entry))) (read (now (b .entry))) 0 (tableOf (now (queue .entry)) n)) ⌝ }
 {
     let end = add_pairs(a, aruns, b, bruns, queue, t, n, buf);

@@ -1,7 +1,7 @@
-// Finding the pairs of states that ranges reach: a queue in which a pair is one word, and buckets by which a pair is found in it.
+// Finding the pairs of states that ranges reach: a queue in which a pair is one word, and a table of the numbers of these words.
 ghost use mathlib.Core.List.{[], _∷_};
 ghost use mathlib.Core.Path.{_≡_};
-ghost use Prim.Native.Nat.{_<_};
+ghost use Prim.Native.Nat.{_*_, _/_, _≤_, _<_};
 ghost use lib.ListN.{length, getD};
 ghost use Rattle.automata.specs.Records.{readRecords};
 ghost use Rattle.automata.specs.inner.Records.{recordAt};
@@ -9,13 +9,13 @@ ghost use Rattle.automata.specs.WellFormed.{mostStates};
 ghost use Rattle.search.specs.Search.{table};
 ghost use Rattle.sheets.specs.Sheet.{stateCount, read};
 ghost use Rattle.product.specs.Product.{pairs};
-ghost use Rattle.sheets.specs.inner.Runs.{Named, Ready};
-ghost use Rattle.product.specs.inner.Tables.{pairOf, tableOf, Queued, Met, targets, Within, foundIn};
+ghost use Rattle.sheets.specs.inner.Runs.{Ready};
+ghost use Rattle.product.specs.inner.Tables.{pairOf, tableOf, Queued, Met, RunTo, targets, Within, foundIn};
 use ranges::Common;
 
 // The pair of p and q gets the next number, if it has none and there is room. The number of pairs afterwards.
-fn meet_pair(queue: &mut [u32], t: &mut [usize], n: usize, p: u32, q: u32) -> usize
-    requires { ⌜ Queued (now queue) (now t) n × (p < 256) × (q < 256) ⌝ }
+fn meet_pair(queue: &mut [u32], t: &mut [u8], n: usize, p: u32, q: u32) -> usize
+    requires { ⌜ Queued (now queue) (now t) n × (p < length (now t) / 256) × (q < 256) ⌝ }
     ensures { λ r. ⌜ Met (tableOf (now (queue .entry)) n) (record { left = p; right = q } ∷ []) (now (queue .exit)) (now (t .exit)) r ⌝ }
 {
     if 256 < n {
@@ -29,14 +29,14 @@ fn meet_pair(queue: &mut [u32], t: &mut [usize], n: usize, p: u32, q: u32) -> us
     if 256 <= n {
         return n + 1;
     }
-    let h = crate::numbers::bucket_of(code);
-    buckets::enter(t, n, h);
+    let at = code as usize;
+    t[at] = n as u8;
     n + 1
 }
 
 // The pair to which the records d and e lead is met, if they are ranges that meet.
-fn meet_record(d: &[u32], e: &[u32], queue: &mut [u32], t: &mut [usize], n: usize) -> usize
-    requires { ⌜ Queued (now queue) (now t) n × (length (now d) ≡ 5) × (length (now e) ≡ 5) × (recordAt (now d) 0 .to < 256) × (recordAt (now e) 0 .to < 256) ⌝ }
+fn meet_record(d: &[u32], e: &[u32], queue: &mut [u32], t: &mut [u8], n: usize) -> usize
+    requires { ⌜ Queued (now queue) (now t) n × (length (now d) ≡ 5) × (length (now e) ≡ 5) × (recordAt (now d) 0 .to < length (now t) / 256) × (recordAt (now e) 0 .to < 256) ⌝ }
     ensures { λ r. ⌜ Met (tableOf (now (queue .entry)) n) (targets (recordAt (now (d .entry)) 0 ∷ []) (recordAt (now (e .entry)) 0 ∷ [])) (now (queue .exit)) (now (t .exit)) r ⌝ }
 {
     if d[1] != 1 {
@@ -51,32 +51,38 @@ fn meet_record(d: &[u32], e: &[u32], queue: &mut [u32], t: &mut [usize], n: usiz
     }
 }
 
-// The pairs to which the record d and those of the run lead are met.
-fn meet_run(d: &[u32], run: &[u32], queue: &mut [u32], t: &mut [usize], n: usize) -> usize
-    requires { ⌜ Queued (now queue) (now t) n × (length (now d) ≡ 5) × (recordAt (now d) 0 .to < 256) × Named (readRecords (now run)) ⌝ }
+// The pairs to which the record d and those of the run lead are met. No record of the run meets d from the first on that starts behind it.
+fn meet_run(d: &[u32], run: &[u32], queue: &mut [u32], t: &mut [u8], n: usize) -> usize
+    requires { ⌜ Queued (now queue) (now t) n × (length (now d) ≡ 5) × (recordAt (now d) 0 .to < length (now t) / 256) × RunTo 256 (readRecords (now run)) ⌝ }
     ensures { λ r. ⌜ Met (tableOf (now (queue .entry)) n) (targets (recordAt (now (d .entry)) 0 ∷ []) (readRecords (now (run .entry)))) (now (queue .exit)) (now (t .exit)) r ⌝ }
 {
     let mut m = n;
     let mut at: usize = 0;
     while 5 <= run.len() - at {
+        if d[3] < run[at + 2] {
+            return m;
+        }
         m = meet_record(d, &run[at..at + 5], queue, t, m);
         at += 5;
     }
     m
 }
 
-// The pairs to which the records of two runs lead are met, the first's outermost.
-fn meet_runs(first: &[u32], second: &[u32], queue: &mut [u32], t: &mut [usize], n: usize) -> usize
-    requires { ⌜ Queued (now queue) (now t) n × Named (readRecords (now first)) × Named (readRecords (now second)) ⌝ }
+// The pairs to which the records of two runs lead are met, the first's outermost. Records of the second run that end before a record of the first
+// starts are passed over for good, since later ones start no earlier.
+fn meet_runs(first: &[u32], second: &[u32], queue: &mut [u32], t: &mut [u8], n: usize) -> usize
+    requires { ⌜ Queued (now queue) (now t) n × RunTo (length (now t) / 256) (readRecords (now first)) × RunTo 256 (readRecords (now second)) ⌝ }
     ensures { λ r. ⌜ Met (tableOf (now (queue .entry)) n) (targets (readRecords (now (first .entry))) (readRecords (now (second .entry)))) (now (queue .exit)) (now (t .exit)) r ⌝ }
 {
     let mut m = n;
+    let mut from: usize = 0;
     let mut at: usize = 0;
     while 5 <= first.len() - at {
         if 256 < m {
             return m;
         }
-        m = meet_run(&first[at..at + 5], second, queue, t, m);
+        from = crate::passing::pass_ended(second, from, first[at + 2]);
+        m = meet_run(&first[at..at + 5], &second[from..], queue, t, m);
         at += 5;
     }
     m
@@ -89,11 +95,11 @@ fn visit_pair(
     b: &[u32],
     bruns: &[u32],
     queue: &mut [u32],
-    t: &mut [usize],
+    t: &mut [u8],
     n: usize,
     i: usize,
 ) -> usize
-    requires { ⌜ Ready (now a) (now aruns) × Ready (now b) (now bruns) × Queued (now queue) (now t) n × (i < n) × Within (stateCount (now a)) (stateCount (now b)) (tableOf (now queue) n) ⌝ }
+    requires { ⌜ Ready (now a) (now aruns) × Ready (now b) (now bruns) × (256 * stateCount (now a) ≤ length (now t)) × Queued (now queue) (now t) n × (i < n) × Within (stateCount (now a)) (stateCount (now b)) (tableOf (now queue) n) ⌝ }
     ensures { λ r. ⌜ Met (tableOf (now (queue .entry)) n) (pairs (read (now (a .entry))) (read (now (b .entry))) .next (pairOf (getD (now (queue .entry)) i 0))) (now (queue .exit)) (now (t .exit)) r ⌝ }
 {
     let c = queue[i];
@@ -113,9 +119,9 @@ pub fn find_pairs(
     b: &[u32],
     bruns: &[u32],
     queue: &mut [u32],
-    t: &mut [usize],
+    t: &mut [u8],
 ) -> usize
-    requires { ⌜ Ready (now a) (now aruns) × Ready (now b) (now bruns) × Queued (now queue) (now t) 0 ⌝ }
+    requires { ⌜ Ready (now a) (now aruns) × Ready (now b) (now bruns) × (256 * stateCount (now a) ≤ length (now t)) × Queued (now queue) (now t) 0 ⌝ }
     ensures { λ r. ⌜ Queued (now (queue .exit)) (now (t .exit)) r × Within (stateCount (now (a .entry))) (stateCount (now (b .entry))) (tableOf (now (queue .exit)) r) × (foundIn (now (queue .exit)) r ≡ table (pairs (read (now (a .entry))) (read (now (b .entry)))) mostStates) ⌝ }
 {
     let mut n = meet_pair(queue, t, 0, a[1], b[1]);

@@ -1,6 +1,7 @@
--- `intersect_ready` meets its contract: the three answers of the search.
+-- `intersect_ready` meets its contract: the small table is enough for 16 states of the first.
+use native.Mathlib.Omega.{arith}
 use borrow.Author.Needs.{needs}
-use Rattle.product.proofs.Making.{fresh-queue, found-over, found-blocked, found-whole}
+use Rattle.product.proofs.Making.{table-room, table-bytes}
 use Rattle.product.proofs.intersect_ready.Statement.{statement}
 use Rattle.product.proofs.intersect_ready.Tie as tie
 
@@ -8,22 +9,7 @@ pub intersect-ready-spec : {M : Type 1} → statement M
 intersect-ready-spec =
     tie.close
     (tie.spec
-    (λ c. search needs) (λ c. search needs)
-    (λ c κs. let s = c .before .before .before .before .before .before .before .before .pre in (s .0, s .1, fresh-queue))
-    (λ c. found-over _ _ _ _ (c .before .before .before .find-pairs .ensures .2) _ _ (c .if1 .taken))
-    (λ c. search needs) (λ c κs. search needs)
-    (λ c. found-blocked _ _ _ _ (c .before .before .before .before .before .before .find-pairs .ensures .2) (c .before .before .before .if1 .left) _ (c .before .has-blocked-pair .ensures) _ _ (c .if2 .taken))
-    (λ c. search needs) (λ c. search needs)
-    (λ c κs. let s = c .before .before .before .before .before .before .before .before .before .before .before .before .before .before .before .before .before .before .before .pre in
-    let f = c .before .before .before .before .before .before .before .before .before .before .find-pairs .ensures in (
-      s .0,
-      s .1,
-      f .0,
-      c .before .before .before .before .before .before .before .if1 .left,
-      f .1,
-      found-whole _ _ _ _ (f .2) (c .before .before .before .before .before .before .before .if1 .left) _ (c .before .before .before .before .before .has-blocked-pair .ensures)
-          (c .before .before .before .before .if2 .left),
-      s .2,
-      s .3,
-    ))
+    (λ c. search needs) (λ c κs. search needs) (λ c. search needs) (λ c. search needs) (λ c. search needs) (λ c. search needs)
+    (λ c κs. let s = c .before .before .before .before .before .before .before .before .before .before .before in
+    (s .pre .0, s .pre .1, table-room (s .args .a .now) 4096 (omega (arith, c .before .before .before .if1 .left)), table-bytes 4096 (omega arith), s .pre .2, s .pre .3))
     (λ c. search needs) (λ c. search needs) (λ c. search needs))

@@ -1,14 +1,13 @@
--- For inner contracts. What the code holds of the table of pairs: a queue in which a pair is one word, and the buckets by which a pair is found in it.
-use Prim.Native.Nat.{ℕ, _+_, _*_, _/_, _%_, _≤_, _<_}
-use mathlib.Core.Bool.{true, false, cond}
-use mathlib.Core.List.{List, _∷_, _++_, map}
+-- For inner contracts. What the code holds of the table of pairs: a queue in which a pair is one word, and a table of the numbers of these words.
+use Prim.Native.Nat.{ℕ, _/_, _%_, _≤_, _<_}
+use mathlib.Core.Bool.{Bool, true, false, cond, not, _||_}
+use mathlib.Core.List.{List, [], _∷_, _++_, map}
 use mathlib.Core.Path.{_≡_}
-use lib.Dec.{ltb}
-use lib.ListN.{length, take}
-use Rattle.lists.specs.Lists.{_∈_, any, Distinct}
+use lib.Dec.{eqb, ltb}
+use lib.ListN.{length, getD, take}
+use Rattle.lists.specs.Lists.{_∈_, any, Ascending, Distinct}
 use Rattle.automata.specs.Automaton.{Transition, Automaton, hasEpsilon}
 use Rattle.automata.specs.WellFormed.{mostStates}
-use Rattle.buckets.specs.inner.Buckets.{Entered}
 use Rattle.search.specs.Search.{meet, Found, over, found, table}
 use Rattle.automata.specs.Pairs.{Pair, samePair}
 use Rattle.product.specs.Product.{jointsOf, pairs, transitionOf, placeIn, blockedAt}
@@ -25,25 +24,32 @@ tableOf queue n = map pairOf (take n queue)
 unfoldable pub capped : List Pair → List Pair
 capped T = take 257 T
 
--- the bucket of a word, and those of the first n words of the queue
-unfoldable pub bucketOf : ℕ → ℕ
-bucketOf c = (37 * (c / 256) + c % 256) % 256
-
-unfoldable pub bucketsOf : List ℕ → ℕ → List ℕ
-bucketsOf queue n = map bucketOf (take n queue)
-
--- the first n words of the queue are different pairs, and each is in the bucket of its word, unless there are 257
+-- the first n words of the queue are different pairs, and the table t has the number of each at its word, unless there are 257
 pub record Queued (queue t : List ℕ) (n : ℕ) : Type 0 where
   pub room : length queue ≡ 257
-  pub long : length t ≡ 512
+  pub bytes : length t ≤ 65536
   pub few : n ≤ 257
   pub distinct : Distinct (tableOf queue n)
-  pub found : n ≤ 256 → Entered (bucketsOf queue n) t
+  pub numbered : n ≤ 256 → (i : ℕ) → i < n → getD t (getD queue i 0) 0 ≡ i
 
 -- the table T, and then the pairs ps were met, as far as there is room
 pub record Met (T ps : List Pair) (queue t : List ℕ) (n : ℕ) : Type 0 where
   pub queued : Queued queue t n
   pub table : tableOf queue n ≡ capped (meet samePair ps T)
+
+-- the records of a run lead to states below k, and none starts before an earlier one
+pub record RunTo (k : ℕ) (es : List Transition) : Type 0 where
+  pub tos : (e : Transition) → e ∈ es → e .to < k
+  pub rises : Ascending (λ d e. d .first ≤ e .first) es
+
+-- a record that gives no joint with a range that starts at a or behind it: it is no range, or ends before a
+unfoldable pub ended : ℕ → Transition → Bool
+ended a e = not (eqb (e .kind) 1) || ltb (e .last) a
+
+-- the records from the first on that is not so
+unfoldable pub notEnded : ℕ → List Transition → List Transition
+notEnded a [] = []
+notEnded a (e ∷ es) = cond (ended a e) (notEnded a es) (e ∷ es)
 
 -- the pairs to which ranges among ds and es that meet lead
 unfoldable pub targets : List Transition → List Transition → List Pair

@@ -29,21 +29,22 @@ add-pairs-spec =
       s .1,
       s .2,
       s .3,
+      s .4,
       t,
-      within-left (g .a .now) (g .b .now) _ _ _ (s .4) (queued-room _ _ _ (s .2)) t,
-      within-right (g .a .now) (g .b .now) _ _ _ (s .4) (queued-room _ _ _ (s .2)) t,
+      within-left (g .a .now) (g .b .now) _ _ _ (s .5) (queued-room _ _ _ (s .3)) t,
+      within-right (g .a .now) (g .b .now) _ _ _ (s .5) (queued-room _ _ _ (s .3)) t,
       c .before .before .loop .inv .1 .room,
     ))
     (λ c. search pairsLaws)
     (λ c. let l = c .before .before .before .before .before .before .loop in
     pairs-over _ _ _ _ (c .before .before .before .before .before .before .before .before .before .before .before .before .before .before .args .queue .now) _ _ _ _ (l .inv .1)
-    (c .before .before .before .before .before .before .before .before .before .before .before .before .before .before .pre .2)
+    (c .before .before .before .before .before .before .before .before .before .before .before .before .before .before .pre .3)
     (c .before .before .before .before .before .loop-test .taken) _ _ (c .before .before .before .add-pair .ensures) (c .if1 .taken))
     (λ c. search pairsLaws) (λ c. search pairsLaws)
     (λ c. let l = c .before .before .before .before .before .before .loop in (
       search pairsLaws,
       pairs-next _ _ _ _ (c .before .before .before .before .before .before .before .before .before .before .before .before .before .before .args .queue .now) _ _ _ _ (l .inv .1)
-          (c .before .before .before .before .before .before .before .before .before .before .before .before .before .before .pre .2)
+          (c .before .before .before .before .before .before .before .before .before .before .before .before .before .before .pre .3)
           (c .before .before .before .before .before .loop-test .taken) _ _ (c .before .before .before .add-pair .ensures) (c .if1 .left),
     ))
     (λ c. search pairsLaws) (λ c. search pairsLaws))

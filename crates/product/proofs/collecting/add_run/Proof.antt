@@ -6,14 +6,13 @@ use Rattle.automata.specs.Records.{readRecords}
 use Rattle.automata.specs.inner.Records.{recordAt}
 use Rattle.output.specs.inner.Ordered.{recordsIn}
 use Rattle.output.specs.inner.Gathering.{Rest}
-use Rattle.sheets.specs.inner.Runs.{Named}
-use Rattle.product.specs.inner.Tables.{tableOf, links}
+use Rattle.product.specs.inner.Tables.{tableOf, RunTo, links}
 use Rattle.product.proofs.Adding.{runLaws, run-over, run-next}
 use Rattle.product.proofs.collecting.add_run.Statement.{statement}
 use Rattle.product.proofs.collecting.add_run.Tie as tie
 
 abbrev Inv-loop : tie.InvT-loop
-Inv-loop d run i queue t n buf₀ end k₀ at₀ buf k at = (at ≤ length run) × Named (readRecords (drop at run)) × Rest buf k (links (tableOf queue n) i (recordAt d 0 ∷ []) (readRecords (drop at run))) (recordsIn buf₀ 0 end ++ links (tableOf queue n) i (recordAt d 0 ∷ []) (readRecords run))
+Inv-loop d run i queue t n buf₀ end k₀ at₀ buf k at = (at ≤ length run) × RunTo 256 (readRecords (drop at run)) × Rest buf k (links (tableOf queue n) i (recordAt d 0 ∷ []) (readRecords (drop at run))) (recordsIn buf₀ 0 end ++ links (tableOf queue n) i (recordAt d 0 ∷ []) (readRecords run))
 
 abbrev μ-loop : tie.MeasureT-loop
 μ-loop d run i queue t n buf₀ end k₀ at₀ buf k at = length run - at

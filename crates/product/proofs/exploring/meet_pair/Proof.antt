@@ -6,4 +6,8 @@ use Rattle.product.proofs.exploring.meet_pair.Tie as tie
 pub meet-pair-spec : {M : Type 1} → statement M
 meet-pair-spec =
     tie.close
-    (tie.spec (λ c. search pairLaws) (λ c. search pairLaws) (λ c. search pairLaws) (λ c κs. search pairLaws) (λ c. search pairLaws) (λ c. search pairLaws) (λ c. search pairLaws) (λ c. search pairLaws) (λ c. search pairLaws) (λ c. search pairLaws) (λ c. search pairLaws) (λ c. search pairLaws) (λ c. search pairLaws) (λ c κs. search pairLaws) (λ c κs. search pairLaws) (λ c. search pairLaws) (λ c. search pairLaws) (λ c. search pairLaws) (λ c. search pairLaws))
+    (tie.spec
+    (λ c. search pairLaws) (λ c. search pairLaws) (λ c. search pairLaws) (λ c κs. search pairLaws) (λ c. search pairLaws)
+    (λ c. search pairLaws) (λ c. search pairLaws) (λ c. search pairLaws) (λ c. search pairLaws) (λ c. search pairLaws) (λ c. search pairLaws)
+    (λ c. search pairLaws) (λ c. search pairLaws) (λ c. search pairLaws) (λ c. search pairLaws) (λ c. search pairLaws) (λ c. search pairLaws)
+    (λ c. search pairLaws) (λ c. search pairLaws) (λ c. search pairLaws))
