@@ -29,11 +29,13 @@ add-run-spec =
     (λ c. search runLaws) (λ c. search runLaws)
     (λ c κs. (search runLaws, search runLaws, search runLaws, search runLaws, search runLaws, search runLaws, search runLaws))
     (λ c. search runLaws)
-    (λ c. let a = c .before .before .before .before .before .before .before .before .before .before .before .before .before .before .before .before .before .args in let l = c .before .before .before .before .before .before .before .before .before .before .before .loop in
+    (λ c. let a = c .before .before .before .before .before .before .before .before .before .before .before .before .before .before .before .before .before .args in
+    let l = c .before .before .before .before .before .before .before .before .before .before .before .loop in
     run-over _ _ _ _ _ (a .d .now) (a .run .now) (l .at) _ (l .inv .3) (c .before .before .before .before .before .before .before .before .before .before .loop-test .taken) _ _ _ (c .before .before .before .before .add-joint .ensures) (c .if2 .taken))
     (λ c. search runLaws)
     (λ c. search runLaws)
-    (λ c. let a = c .before .before .before .before .before .before .before .before .before .before .before .before .before .before .before .before .before .args in let l = c .before .before .before .before .before .before .before .before .before .before .before .loop in (
+    (λ c. let a = c .before .before .before .before .before .before .before .before .before .before .before .before .before .before .before .before .before .args in
+    let l = c .before .before .before .before .before .before .before .before .before .before .before .loop in (
       search runLaws,
       search runLaws,
       search runLaws,

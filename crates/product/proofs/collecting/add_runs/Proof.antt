@@ -30,10 +30,14 @@ add-runs-spec =
     (λ c κs. let l = c .before .before .before .before .before .before .loop in
     (search runsLaws, search runsLaws, part-to 256 (c .before .before .before .before .before .before .before .before .before .before .before .before .args .second .now) (l .from) _ _ (c .before .before .before .pass-ended .ensures .0) (l .inv .4) (c .before .before .before .pass-ended .ensures .1), search runsLaws, search runsLaws, search runsLaws))
     (λ c. search runsLaws)
-    (λ c. let a = c .before .before .before .before .before .before .before .before .before .before .before .before .before .before .before .before .before .args in let l = c .before .before .before .before .before .before .before .before .before .before .before .loop in let p = c .before .before .before .before .before .before .before .before .pass-ended .ensures in
+    (λ c. let a = c .before .before .before .before .before .before .before .before .before .before .before .before .before .before .before .before .before .args in
+    let l = c .before .before .before .before .before .before .before .before .before .before .before .loop in
+    let p = c .before .before .before .before .before .before .before .before .pass-ended .ensures in
     runs-over _ _ _ _ _ (a .first .now) (a .second .now) (l .from) (l .at) _ (l .inv .5) _ (l .inv .3) (c .before .before .before .before .before .before .before .before .before .before .loop-test .taken) _ (p .1) _ _ _ (c .before .before .before .before .add-run .ensures) (c .if1 .taken))
     (λ c. search runsLaws) (λ c. search runsLaws)
-    (λ c. let a = c .before .before .before .before .before .before .before .before .before .before .before .before .before .before .before .before .before .args in let l = c .before .before .before .before .before .before .before .before .before .before .before .loop in let p = c .before .before .before .before .before .before .before .before .pass-ended .ensures in (
+    (λ c. let a = c .before .before .before .before .before .before .before .before .before .before .before .before .before .before .before .before .before .args in
+    let l = c .before .before .before .before .before .before .before .before .before .before .before .loop in
+    let p = c .before .before .before .before .before .before .before .before .pass-ended .ensures in (
       search runsLaws,
       search runsLaws,
       p .0,
