@@ -12,6 +12,7 @@ use Rattle.lists.specs.Lists.{any, Distinct}
 use Rattle.lists.specs.Written.{Written}
 use Rattle.automata.specs.Automaton.{Automaton}
 use Rattle.automata.specs.Records.{writeRecords}
+use Rattle.automata.proofs.Records.{length-write}
 use Rattle.automata.specs.WellFormed.{mostStates, mostTransitions}
 use Rattle.labels.specs.Labels.{writeLabels}
 use Rattle.output.specs.declared.Made.{Made}
@@ -39,45 +40,46 @@ use Rattle.automata.specs.Pairs.{Pair}
 use Rattle.product.specs.Product.{pairs, transitionsFrom, placeIn, acceptOf, built, blockedAt, labelOf, product, intersection}
 use Rattle.product.specs.inner.Tables.{tableOf, Queued, Within, foundIn, sheetWords, Whole}
 use Rattle.product.proofs.Answers.{answer-over, answer-blocked, answer-many, answer-given}
-use Rattle.product.proofs.Queueing.{length-table, queued-room}
+use Rattle.product.proofs.Queueing.{length-table}
 
 -- what the code gathers are the transitions of the product
-module _ (A B : Automaton) (words t : List ℕ) (n : ℕ) (k : Queued words t n) (v : Whole A B (tableOf words n)) where
+module _ (A B : Automaton) (words : List ℕ) (n : ℕ) where
   module _ (buf : List ℕ) (end : ℕ) (s : Collected buf end (transitionsFrom (placeIn (tableOf words n)) A B 0 (tableOf words n))) where
-    pub product-many : 10240 < end → product A B ≡ refused 22
-    product-many h = answer-many A B (tableOf words n) (v .all) (v .free) (unfold built in s .over h)
+    pub product-many : Whole A B (tableOf words n) → length buf ≡ 20480 → 10240 < end → product A B ≡ refused 22
+    product-many v l h = answer-many A B (tableOf words n) (v .all) (v .free) (unfold built in let o = s .over (omega arith) in omega arith)
 
-    module _ (h : end ≤ 10240) where
-      count : end ≡ 5 * length (built A B (tableOf words n) .transitions)
+    module _ (h : end ≤ length buf / 2) where
+      pub part-words : take end buf ≡ writeRecords (built A B (tableOf words n) .transitions)
       unfolding built
-      count = let l = s .listed h in omega (arith, l .behind)
-
-      records : take end buf ≡ writeRecords (built A B (tableOf words n) .transitions)
-      unfolding built
-      records = let z : end - 0 ≡ end = omega arith in ap (λ e. take e buf) (sym z) ∙ s .listed h .words
+      part-words = let z : end - 0 ≡ end = omega arith in ap (λ e. take e buf) (sym z) ∙ s .listed h .words
 
       pub part-count : end ≡ length (take end buf)
-      part-count = sym (length-take-le end buf (omega (arith, s .long)))
+      part-count = sym (length-take-le end buf (omega arith))
 
       pub part-few : length (take end buf) ≤ 10240
-      part-few = omega (arith, part-count)
+      part-few = omega (arith, part-count, s .memory .most)
 
-      sheet : sheetWords (map (acceptOf A B) (tableOf words n)) n (take end buf) ≡ write (built A B (tableOf words n))
-      unfolding built
-      sheet =
-          let c : length (take end buf) / 5 ≡ length (built A B (tableOf words n) .transitions) = omega (arith, part-count, count) in
-          rw (c, records, length-table words n (queued-room words t n k))
+  -- the records of its transitions are known
+  module _ (v : Whole A B (tableOf words n)) (records : List ℕ) (e : records ≡ writeRecords (built A B (tableOf words n) .transitions)) (f : length records ≤ 10240) where
+    count : length records ≡ 5 * length (built A B (tableOf words n) .transitions)
+    count = ap length e ∙ length-write _
 
-      pub product-made : (out names out′ names′ : List ℕ) (x y : ℕ) → Written out 0 (sheetWords (map (acceptOf A B) (tableOf words n)) n (take end buf)) out′ x
-          → Written names 0 (writeLabels (map labelOf (tableOf words n))) names′ y → outputOf (made.Lengths x y) out′ names′ ≡ outputs out names (product A B)
-      product-made out names out′ names′ x y p q =
-          let few : length (built A B (tableOf words n) .transitions) ≤ mostTransitions = omega (arith, count) in
-          made-given out names out′ names′ x y (record { automaton = built A B (tableOf words n); labels = map labelOf (tableOf words n) }) (subst (λ t. Written out 0 t out′ x) sheet p) q
-          ∙ ap (outputs out names) (sym (answer-given A B (tableOf words n) (v .all) (v .free) few))
+    sheet : n ≤ length words → sheetWords (map (acceptOf A B) (tableOf words n)) n records ≡ write (built A B (tableOf words n))
+    unfolding built
+    sheet l =
+        let c : length records / 5 ≡ length (built A B (tableOf words n) .transitions) = omega (arith, count) in
+        rw (c, e, length-table words n l)
+
+    pub product-made : n ≤ length words → (out names out′ names′ : List ℕ) (x y : ℕ) → Written out 0 (sheetWords (map (acceptOf A B) (tableOf words n)) n records) out′ x
+        → Written names 0 (writeLabels (map labelOf (tableOf words n))) names′ y → outputOf (made.Lengths x y) out′ names′ ≡ outputs out names (product A B)
+    product-made l out names out′ names′ x y p q =
+        let few : length (built A B (tableOf words n) .transitions) ≤ mostTransitions = omega (arith, count) in
+        made-given out names out′ names′ x y (record { automaton = built A B (tableOf words n); labels = map labelOf (tableOf words n) }) (subst (λ t. Written out 0 t out′ x) (sheet l) p) q
+        ∙ ap (outputs out names) (sym (answer-given A B (tableOf words n) (v .all) (v .free) few))
 
 -- what the functions ask of each other
-pub within-256 : (a aruns b bruns : List ℕ) → Ready a aruns → Ready b bruns → (T : List Pair) → Within (stateCount a) (stateCount b) T → Within 256 256 T
-within-256 a aruns b bruns ra rb T w = record { states = λ p m. let h = w .states p m in (omega (arith, h .0, ra .accepted .few-states), omega (arith, h .1, rb .accepted .few-states)) }
+pub within-256 : (a b : List ℕ) → Accepted a → Accepted b → (T : List Pair) → Within (stateCount a) (stateCount b) T → Within 256 256 T
+within-256 a b ra rb T w = record { states = λ p m. let h = w .states p m in (omega (arith, h .0, ra .few-states), omega (arith, h .1, rb .few-states)) }
 
 pub made-many : (out names : List ℕ) (A B : Automaton) → product A B ≡ refused 22 → outputOf (made.Refused (State Transitions)) out names ≡ outputs out names (product A B)
 made-many out names A B e = made-refused out names (State Transitions) (product A B) e

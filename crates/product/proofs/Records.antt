@@ -3,7 +3,7 @@ use Prim.Native.Nat.{ℕ, _+_, _-_, _*_, _/_, _≤_, _<_}
 use mathlib.Core.Bool.{Bool, true, false, cond, not}
 use mathlib.Core.List.{List, [], _∷_, List·Memᴰ·head, List·Memᴰ·tail, List·Memᴰ·cases-cons}
 use mathlib.Core.Logic.{⊎-elim}
-use mathlib.Core.Path.{_≡_, refl, sym, _∙_, ap, ap₂, subst}
+use mathlib.Core.Path.{_≡_, sym, _∙_, ap, ap₂, subst}
 use native.Mathlib.Nat.{le-refl}
 use native.Mathlib.Omega.{arith}
 use borrow.Author.Needs.{needs}
@@ -26,6 +26,7 @@ use Rattle.product.specs.Product.{jointsOf}
 use Rattle.product.proofs.Joints.{joints-behind, joints-passed}
 use Rattle.product.specs.inner.Tables.{RunTo, ended, notEnded}
 
+-- all but the first
 rest-to : (k : ℕ) {e : Transition} {es : List Transition} → RunTo k (e ∷ es) → RunTo k es
 rest-to k r = record { tos = λ e m. r .tos e (List·Memᴰ·tail m); rises = ascending-rest (r .rises) }
 
@@ -71,9 +72,7 @@ passed-to k a (e ∷ es) r = go (ended a e) (passed-to k a es (rest-to k r))
     go true s = s
     go false s = r
 
-pub pass-begins : (run : List ℕ) (from a : ℕ) → notEnded a (readRecords (drop from run)) ≡ notEnded a (readRecords (drop from run))
-pass-begins run from a = refl
-
+-- those from a place on are left
 module _ (run : List ℕ) (from a at : ℕ) (e : notEnded a (readRecords (drop at run)) ≡ notEnded a (readRecords (drop from run))) where
   pub pass-none : length run - at < 5 → readRecords (drop at run) ≡ notEnded a (readRecords (drop from run))
   unfolding notEnded
@@ -100,15 +99,16 @@ module _ (k : ℕ) (run : List ℕ) (from a next : ℕ) (h : next ≤ length run
   pub part-to : RunTo k (readRecords (take (length run - next) (drop next run)))
   part-to = subst (λ l. RunTo k (readRecords l)) (sym (part-all next run)) left-to
 
-pub ruleset passLaws = (pass-begins, pass-none, pass-found, pass-next, needs)
+pub ruleset passLaws = (pass-none, pass-found, pass-next, needs)
 
--- an epsilon, whose symbols are 0, stands before the ranges of its state
+-- an epsilon, whose symbols are 0, stands before the ranges of its state (belongs to crate ranges)
 starts-below : (d e : Transition) → d .from ≡ e .from → Sound d → Sound e → Before d e → d .first ≤ e .first
 starts-below d e f s u (Lex.here h) = absurd (omega arith)
 starts-below d e f s u (Lex.later p (Lex.here h)) = let z : d .kind ≡ 0 = omega (arith, u .known) in let b = s .blank z in omega (arith, b .0)
 starts-below d e f s u (Lex.later p (Lex.later q (Lex.here h))) = omega arith
 starts-below d e f s u (Lex.later p (Lex.later q (Lex.later r h))) = omega arith
 
+-- the transitions that leave a state
 leaving-to : (A : Automaton) (q k : ℕ) → WellFormed A → A .size ≤ k → RunTo k (leaving A q)
 unfolding leaving
 leaving-to A q k w l =

@@ -53,9 +53,6 @@ pub ruleset wordsLaws = (words-begin, words-next, words-ended, within-left, with
 
 -- the sections of the sheet, one behind the other
 module _ (a b words : List ℕ) (n : ℕ) (l : n ≤ length words) (out m : List ℕ) (states : ℕ) (p : Written out 0 (1 ∷ 0 ∷ n ∷ []) m states) where
-  pub sheet-accepts : n ≤ 256 → 10500 ≤ length out → states + n ≤ length m
-  sheet-accepts f r = omega (arith, p .behind, written-length out m _ 0 states p)
-
   module _ (o : List ℕ) (counts : ℕ) (q : Written m states (map (acceptOf (read a) (read b)) (tableOf words n)) o counts) where
     place : counts ≡ 3 + n
     place = omega (arith, p .behind, q .behind, length-map (tableOf words n) (acceptOf (read a) (read b)), length-table words n l)

@@ -5,13 +5,14 @@ ghost use mathlib.Core.Path.{_≡_};
 ghost use Prim.Native.Nat.{_+_, _*_, _≤_, _<_};
 ghost use lib.Dec.{eqb};
 ghost use lib.ListN.{length};
+ghost use Rattle.automata.specs.Records.{writeRecords};
 ghost use Rattle.sheets.specs.inner.Accepted.{Accepted};
 ghost use Rattle.sheets.specs.Sheet.{stateCount, read};
 ghost use Rattle.lists.specs.Written.{Written};
 ghost use Rattle.labels.specs.Labels.{writeLabels};
 ghost use Rattle.output.specs.Made.{outputOf};
 ghost use Rattle.output.specs.Output.{outputs};
-ghost use Rattle.product.specs.Product.{acceptOf, labelOf, product};
+ghost use Rattle.product.specs.Product.{acceptOf, built, labelOf, product};
 ghost use Rattle.sheets.specs.inner.Runs.{Ready};
 ghost use Rattle.product.specs.inner.Tables.{pairOf, tableOf, Queued, Within, sheetWords, Whole};
 use output::Made;
@@ -93,8 +94,26 @@ fn write_labels(queue: &[u32], n: usize, names: &mut [u8]) -> usize
     at
 }
 
-// The outputs from the finished table: the first n pairs of the queue, among which none is blocked.
-pub fn write_product(
+// The outputs from the finished table, the first n pairs of the queue, among which none is blocked, and the records of its transitions.
+fn write_outputs(
+    a: &[u32],
+    b: &[u32],
+    queue: &[u32],
+    n: usize,
+    records: &[u32],
+    out: &mut [u32],
+    names: &mut [u8],
+) -> Made
+    requires { ⌜ Accepted (now a) × Accepted (now b) × (n ≤ length (now queue)) × (n ≤ 256) × Within (stateCount (now a)) (stateCount (now b)) (tableOf (now queue) n) × Whole (read (now a)) (read (now b)) (tableOf (now queue) n) × (now records ≡ writeRecords (built (read (now a)) (read (now b)) (tableOf (now queue) n) .transitions)) × (length (now records) ≤ 10240) × (10500 ≤ length (now out)) × (16642 ≤ length (now names)) ⌝ }
+    ensures { λ r. ⌜ outputOf r (now (out .exit)) (now (names .exit)) ≡ outputs (now (out .entry)) (now (names .entry)) (product (read (now (a .entry))) (read (now (b .entry)))) ⌝ }
+{
+    let words = write_sheet(a, b, queue, n, records, out);
+    let bytes = write_labels(queue, n, names);
+    Made::Lengths(words, bytes)
+}
+
+// The outputs from the finished table, with a memory for as many transitions as a sheet may have.
+fn write_large(
     a: &[u32],
     aruns: &[u32],
     b: &[u32],
@@ -113,7 +132,28 @@ pub fn write_product(
     if 10240 < behind {
         return Made::Refused(Refusal::State(StateRefusal::Transitions));
     }
-    let words = write_sheet(a, b, queue, n, &buf[..behind], out);
-    let bytes = write_labels(queue, n, names);
-    Made::Lengths(words, bytes)
+    write_outputs(a, b, queue, n, &buf[..behind], out, names)
+}
+
+// The same, with a memory for 64 transitions where that is enough.
+pub fn write_product(
+    a: &[u32],
+    aruns: &[u32],
+    b: &[u32],
+    bruns: &[u32],
+    queue: &[u32],
+    t: &[u8],
+    n: usize,
+    out: &mut [u32],
+    names: &mut [u8],
+) -> Made
+    requires { ⌜ Ready (now a) (now aruns) × Ready (now b) (now bruns) × (256 * stateCount (now a) ≤ length (now t)) × Queued (now queue) (now t) n × (n ≤ 256) × Within (stateCount (now a)) (stateCount (now b)) (tableOf (now queue) n) × Whole (read (now a)) (read (now b)) (tableOf (now queue) n) × (10500 ≤ length (now out)) × (16642 ≤ length (now names)) ⌝ }
+    ensures { λ r. ⌜ outputOf r (now (out .exit)) (now (names .exit)) ≡ outputs (now (out .entry)) (now (names .entry)) (product (read (now (a .entry))) (read (now (b .entry)))) ⌝ }
+{
+    let mut buf = [0u32; 640];
+    let behind = crate::collecting::collect_pairs(a, aruns, b, bruns, queue, t, n, &mut buf);
+    if 320 < behind {
+        return write_large(a, aruns, b, bruns, queue, t, n, out, names);
+    }
+    write_outputs(a, b, queue, n, &buf[..behind], out, names)
 }

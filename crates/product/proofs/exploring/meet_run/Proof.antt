@@ -26,7 +26,8 @@ meet-run-spec =
     (λ c. search runLaws) (λ c. search runLaws) (λ c. search runLaws)
     (λ c κs. (search runLaws, search runLaws, search runLaws, search runLaws, search runLaws))
     (λ c. search runLaws) (λ c. search runLaws)
-    (λ c. let l = c .before .before .before .before .before .before .before .before .before .before .before .before in let a = c .before .before .before .before .before .before .before .before .before .before .before .before .before .before .before .before .before .args in (
+    (λ c. let l = c .before .before .before .before .before .before .before .before .before .before .before .before in
+    let a = c .before .before .before .before .before .before .before .before .before .before .before .before .before .before .before .before .before .args in (
       search runLaws,
       search runLaws,
       c .before .before .before .before .meet-record .ensures .queued,

@@ -29,7 +29,9 @@ meet-runs-spec =
     (λ c κs. let l = c .before .before .before .before .before .before .before .before .loop in
     (search runsLaws, search runsLaws, search runsLaws, part-to 256 (c .before .before .before .before .before .before .before .before .before .before .before .before .before .args .second .now) (l .from) _ _ (c .before .before .before .before .pass-ended .ensures .0) (l .inv .5) (c .before .before .before .before .pass-ended .ensures .1)))
     (λ c. search runsLaws) (λ c. search runsLaws)
-    (λ c. let l = c .before .before .before .before .before .before .before .before .before .before .before .before .before .loop in let a = c .before .before .before .before .before .before .before .before .before .before .before .before .before .before .before .before .before .before .args in let p = c .before .before .before .before .before .before .before .before .before .pass-ended .ensures in (
+    (λ c. let l = c .before .before .before .before .before .before .before .before .before .before .before .before .before .loop in
+    let a = c .before .before .before .before .before .before .before .before .before .before .before .before .before .before .before .before .before .before .args in
+    let p = c .before .before .before .before .before .before .before .before .before .pass-ended .ensures in (
       search runsLaws,
       search runsLaws,
       p .0,
