@@ -8,4 +8,5 @@ pub mod Heads
 pub mod Merging
 pub mod Halves
 pub mod Joining
+pub mod Halving
 pub mod Collecting

@@ -1,4 +1,5 @@
 -- What only inner contracts cite.
+pub mod Finding
 pub mod Gathering
 pub mod Ordered
 pub mod Sorting

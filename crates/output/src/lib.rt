@@ -8,6 +8,7 @@ ghost use lib.ListN.{length};
 ghost use Rattle.lists.specs.Written.{Written};
 use refusal::Refusal;
 
+mod finding;
 mod gathering;
 mod sorting;
 
