@@ -170,7 +170,7 @@ module _ (t : List ℕ) where
   pub data FirstSpelt : List Span → Type 0 where
     leads : {s : Span} {xs : List Span} → Spelt t s → FirstSpelt (s ∷ xs)
 
-  accepting-holds : (at : ℕ) → Holds (λ names b. FirstSpelt names) (accepting t at)
+  pub accepting-holds : (at : ℕ) → Holds (λ names b. FirstSpelt names) (accepting t at)
   unfolding accepting
   accepting-holds at =
       holds-follow _ (token-holds t at _ _) λ _ a p.
@@ -179,7 +179,7 @@ module _ (t : List ℕ) where
       holds-follow _ (token-holds t (nextNames t c .behind) _ _) λ _ d v.
       some (leads (u .0))
 
-  always : {X : Type 0} (r : Found X) → Holds (λ _ _. ℕ) r
+  pub always : {X : Type 0} (r : Found X) → Holds (λ _ _. ℕ) r
   always nothing = none
   always (found x at) = some 0
 
