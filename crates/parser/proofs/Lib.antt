@@ -4,7 +4,8 @@ pub mod Finding
 pub mod Tables
 pub mod Labelling
 pub mod Collecting
-pub mod Recording
+pub mod Entering
+pub mod Going
 pub mod Marking
 pub mod Reading
 pub mod Said
