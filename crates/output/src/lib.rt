@@ -11,6 +11,7 @@ use refusal::Refusal;
 mod gathering;
 mod sorting;
 
+pub use gathering::Filled;
 pub use gathering::collect_records;
 pub use gathering::gather_record;
 
