@@ -13,6 +13,7 @@ use Rattle.grammar.specs.declared.pieces.Arrow.{Arrow}
 use Rattle.labels.specs.Labels.{sameLabel}
 use Rattle.lists.specs.Lists.{_∈_}
 use Rattle.lists.proofs.Index.{index-le, index-lt, index-before, index-behind, same-decides}
+use Rattle.output.specs.declared.gathering.Filled.{Filled}
 use Rattle.output.specs.inner.Gathering.{Open, Held, Gathered}
 use Rattle.output.specs.inner.Ordered.{recordsIn}
 use Rattle.search.specs.Search.{index, add, meet}
@@ -80,16 +81,16 @@ module _ (text x : List ℕ) (ls : List (List ℕ)) (t : List ℕ) (r : Entry) (
   entry-table i n e = entry-at i n e .table
 
 -- the record is put, unless there are too many
-module _ (buf : List ℕ) (end : ℕ) where
-  pub note-room : Held buf end → end < 20480 → Open buf end
+module _ (buf : List ℕ) (f : Filled) where
+  pub note-room : Held buf (f .sorted) (f .end) → f .end < length buf → Open buf (f .sorted) (f .end)
   note-room h l = h .room l
 
   module _ (e : Transition) where
-    pub note-over : Held buf end → 20480 ≤ end → Noting buf end e buf end
-    note-over h l = record { held = h; more = λ k. absurd (omega arith); over = λ k. l }
+    pub note-over : Held buf (f .sorted) (f .end) → length buf ≤ f .end → Noting buf f e buf f
+    note-over h l = record { long = refl; held = h; more = λ k. absurd (omega arith); over = λ k. l }
 
-    pub note-more : end < 20480 → (m : List ℕ) (r : ℕ) → Gathered m r (recordsIn buf 0 end ++ e ∷ []) → Noting buf end e m r
-    note-more l m r g = record { held = g .held; more = λ k. g; over = λ k. absurd (omega arith) }
+    pub note-more : f .end < length buf → (m : List ℕ) (g : Filled) → length m ≡ length buf → Gathered m (g .sorted) (g .end) (recordsIn buf 0 (f .end) ++ e ∷ []) → Noting buf f e m g
+    note-more l m g z h = record { long = z; held = h .held; more = λ k. h; over = λ k. absurd (omega arith) }
 
 pub ruleset noteLaws = (note-room, note-over, note-more, needs)
 
@@ -127,9 +128,9 @@ module _ (text : List ℕ) (e : Arrow) (ls : List (List ℕ)) (t : List ℕ) (r 
       to-number : to ≡ index sameLabel (spelled text (e .to)) (namesIn text u k)
       to-number = two .number ∙ ap (index sameLabel (spelled text (e .to))) (sym (two .names))
 
-      pub both-noted : (old : List ℕ) (end : ℕ) (new : List ℕ) (next : ℕ) → Noting old end (record { from = from; kind = 1; first = e .first; last = e .last; to = to }) new next
-          → ArrowNoted text (spellMove text e) ls u old end new k next
-      both-noted old end new next g = record { table = two .table; names = all; noting = rw (← from-number, ← to-number) g }
+      pub both-noted : (old : List ℕ) (f : Filled) (new : List ℕ) (g : Filled) → Noting old f (record { from = from; kind = 1; first = e .first; last = e .last; to = to }) new g
+          → ArrowNoted text (spellMove text e) ls u old f new k g
+      both-noted old f new g h = record { table = two .table; names = all; noting = rw (← from-number, ← to-number) h }
 
 pub from-drawn : (text : List ℕ) (e : Arrow) → Drawn text e → Spelt text (e .from)
 from-drawn text e d = d .from-spelt

@@ -2,14 +2,15 @@
 use Prim.Native.Nat.{ℕ, _-_, _/_, _≤_, _<_}
 use mathlib.Core.Bool.{Bool, true, false, _||_}
 use mathlib.Core.List.{List, [], _∷_, _++_, map}
+use mathlib.Core.Logic.{⊎-elim}
 use mathlib.Core.Path.{_≡_, refl, sym, _∙_, ap, ap₂}
 use native.Mathlib.Omega.{arith}
 use borrow.Author.Needs.{needs}
 use borrow.Author.Tests.{le-ltb, lt-ltb}
 use lib.Dec.{ltb}
-use lib.ListN.{length, take, drop, length-map, length-take, length-drop}
+use lib.ListN.{length, take, drop, replicate, length-map, length-take, length-drop, length-replicate}
 use lib.Seq.{length-take-le}
-use Rattle.grammar.specs.Grammar.{Found, Told, nextNames}
+use Rattle.grammar.specs.Grammar.{Found, Told, transitions, nextNames}
 use Rattle.grammar.specs.Places.{spelled}
 use Rattle.grammar.specs.inner.Parts.{opening, closing, toldFrom}
 use Rattle.grammar.specs.inner.Pieces.{nameOf, acceptingOf}
@@ -21,6 +22,7 @@ use Rattle.grammar.specs.declared.tokens.NamePiece.the-variants.{Read as NameRe
 use Rattle.grammar.specs.declared.pieces.AcceptingPiece.{AcceptingPiece}
 use Rattle.grammar.specs.declared.pieces.AcceptingPiece.the-variants.{Read as AcceptingRead, Nothing as NoAccepting}
 use Rattle.grammar.specs.declared.text.Layout.{Layout}
+use Rattle.grammar.proofs.Many.{arrows-short}
 use Rattle.grammar.proofs.Parts.{opens-nothing, opens-found, start-spelt, closes-nothing, closes-found, first-spelt}
 use Rattle.lists.specs.Written.{Written}
 use Rattle.lists.proofs.Written.{written-append}
@@ -29,6 +31,8 @@ use Rattle.automata.specs.Records.{writeRecords}
 use Rattle.automata.proofs.Records.{length-write}
 use Rattle.labels.specs.Labels.{writeLabels, sameLabel}
 use Rattle.output.proofs.Answers.{room-lacking, room-enough, room-words, room-bytes}
+use Rattle.output.proofs.Halves.{inOrder-length}
+use Rattle.output.specs.declared.gathering.Filled.{Filled}
 use Rattle.output.specs.inner.Gathering.{Held, Gathered, Collected, Settled}
 use Rattle.output.specs.Output.{Pattern, roomFirst, statesFirst, transitionsFirst}
 use Rattle.refusal.specs.Answer.{given}
@@ -37,10 +41,10 @@ use Rattle.refusal.specs.declared.StateRefusal.the-variants.{OutputLength, Stat
 use Rattle.refusal.specs.declared.Refusal.the-variants.{Input, State}
 use Rattle.search.specs.Search.{meet}
 use Rattle.sheets.specs.Sheet.{write}
-use Rattle.syntax.specs.Spelled.{spell}
+use Rattle.syntax.specs.Spelled.{spellMove, spell}
 use Rattle.parser.specs.inner.Accepts.{markAll}
 use Rattle.parser.specs.inner.Arrows.{ArrowsRead}
-use Rattle.parser.specs.inner.Memory.{Zeros}
+use Rattle.parser.specs.inner.Memory.{Zeros, Suits}
 use Rattle.parser.specs.inner.Names.{Table, namesIn}
 use Rattle.parser.specs.Parsed.{Output, parsed, parsedOf}
 use Rattle.parser.specs.inner.Records.{Recorded}
@@ -50,6 +54,7 @@ use Rattle.parser.specs.declared.Parsed.the-variants.{Read, Refused}
 use Rattle.parser.specs.declared.arrows.Arrows.{Arrows}
 use Rattle.parser.specs.declared.names.Added.the-variants.{Kept, Full}
 use Rattle.parser.proofs.Finding.{names-count}
+use Rattle.parser.proofs.Going.{below-or}
 use Rattle.parser.proofs.Marking.{marks-words}
 use Rattle.parser.proofs.Tables.{added-table, added-names, added-full}
 
@@ -92,26 +97,34 @@ module _ (t b : List ℕ) (i : ℕ) (k : Table t b i) (ws : List ℕ) (h : lengt
   pub words-few : length (take i ws) ≤ 256
   words-few = omega (arith, words-counted, k .few)
 
-pub gathered-held : (buf : List ℕ) (end : ℕ) (es : List Transition) → Gathered buf end es → Held buf end
-gathered-held buf end es g = g .held
+pub gathered-held : (buf : List ℕ) (sorted end : ℕ) (es : List Transition) → Gathered buf sorted end es → Held buf sorted end
+gathered-held buf sorted end es g = g .held
 
 -- 22, or the pattern
-module _ (t : List ℕ) (l : Layout) (ls : List (List ℕ)) (old : List ℕ) (last : ℕ) (g : Gathered old last (map (transitionOf ls) (movesAt t (l .arrows .at)))) (buf : List ℕ) (end : ℕ)
-    (s : Settled old last buf end) where
+module _ (t : List ℕ) (l : Layout) (ls : List (List ℕ)) (old : List ℕ) (f : Filled) (g : Gathered old (f .sorted) (f .end) (map (transitionOf ls) (movesAt t (l .arrows .at))))
+    (buf : List ℕ) (end : ℕ) (s : Settled old (f .sorted) (f .end) buf end) where
   a : Collected buf end (map (transitionOf ls) (movesAt t (l .arrows .at)))
   a = s .all _ g
 
-  pub over-22 : 10240 < end → (o n : List ℕ) (c : ℕ) → parsedOf (Refused (State Transitions)) o n ≡ parsed o n (fewTransitions (patternAt t l ls) c)
-  unfolding parsed fewTransitions transitionsFirst automatonOf spell
-  over-22 h o n c = sym (rw (lt-ltb 2048 (length (transitionsAt t l ls)) (a .over h)))
+  -- where the memory is not the largest, the text is too short for that many transitions
+  many : Suits (length t) (length old) → length buf ≡ length old → length buf / 2 < end → 2048 < length (transitionsAt t l ls)
+  many u z h =
+      let x = inOrder-length (map (transitionOf ls) (movesAt t (l .arrows .at))) in
+      let y : length (map (transitionOf ls) (movesAt t (l .arrows .at))) ≡ length (transitions t (l .arrows .at) .items) = length-map (movesAt t (l .arrows .at)) (transitionOf ls) ∙ length-map (transitions t (l .arrows .at) .items) (spellMove t) in
+      ⊎-elim (λ (k : length buf < 20480). absurd (omega (arith, a .over h, arrows-short t (l .arrows .at), u .short (omega arith)))) (λ (k : 20480 ≤ length buf). omega (arith, a .over h))
+      (below-or (length buf) 20480)
 
-  module _ (h : end ≤ 10240) where
+  pub over-22 : Suits (length t) (length old) → length buf ≡ length old → length buf / 2 < end → (o n : List ℕ) (c : ℕ) → parsedOf (Refused (State Transitions)) o n ≡ parsed o n (fewTransitions (patternAt t l ls) c)
+  unfolding parsed fewTransitions transitionsFirst automatonOf spell
+  over-22 u z h o n c = sym (rw (lt-ltb 2048 (length (transitionsAt t l ls)) (many u z h)))
+
+  module _ (h : end ≤ length buf / 2) where
     pub few-22 : Recorded (take (end - 0) (drop 0 buf)) (transitionsAt t l ls)
-    few-22 = record { words = a .listed h .words; few = simp (length-take, length-drop) (omega arith) }
+    few-22 = record { words = a .listed h .words; few = simp (length-take, length-drop) (omega (arith, a .memory .most)) }
 
     pub within-22 : (o n : List ℕ) (c : ℕ) (x : Output) → x ≡ parsed o n (given (record { pattern = patternAt t l ls; read = c })) → x ≡ parsed o n (fewTransitions (patternAt t l ls) c)
     unfolding fewTransitions transitionsFirst automatonOf spell
-    within-22 o n c x q = q ∙ sym (rw (le-ltb 2048 (length (transitionsAt t l ls)) (omega (arith, a .listed h .behind))))
+    within-22 o n c x q = q ∙ sym (rw (le-ltb 2048 (length (transitionsAt t l ls)) (omega (arith, a .listed h .behind, a .memory .most))))
 
 -- 8, 21, or what follows: the initial state is x, the transitions go on from arrows, r is what was read of them and q what closes the text
 module _ (t : List ℕ) (x : Span) (arrows : Cursor) (b buf : List ℕ) (r : Arrows) (a : ArrowsRead t (arrows .at) (spelled t x ∷ []) b buf r)
@@ -145,7 +158,7 @@ module _ (t : List ℕ) (x : Span) (arrows : Cursor) (b buf : List ℕ) (r : Arr
       pub states-table : Table t b i
       states-table = added-table _ _ b (r .added) (a .names) i f
 
-      pub states-gathered : Gathered buf (r .end) (map (transitionOf (namesIn t b i)) (movesAt t (arrows .at)))
+      pub states-gathered : Gathered buf (r .filled .sorted) (r .filled .end) (map (transitionOf (namesIn t b i)) (movesAt t (arrows .at)))
       states-gathered = a .gathered i f
 
       pub within-21 : (o n : List ℕ) (y : Output) → y ≡ parsed o n (fewTransitions (patternAt t (record { initial = x; arrows = arrows; first = first; more = more }) (namesIn t b i)) (c .at))
@@ -170,6 +183,16 @@ module _ (t o n : List ℕ) (f : Bool) (room : f ≡ (ltb (length o) 10500 || lt
     pub text-read : (x : Span) (c : Cursor) → p ≡ NameRead x c → (y : Output) → y ≡ parsed o n (meaning t (toldFrom t x (c .at))) → y ≡ parsed o n (roomFirst o n (parse t))
     unfolding parse
     text-read x c e y q = q ∙ sym (ap (parsed o n) (room-enough o n (parse t) f room h ∙ ap (meaning t) (opens-found t p told x c e)))
+
+-- the memory is as long as before
+pub suits-kept : (n : ℕ) (old new : List ℕ) → Suits n (length old) → length new ≡ length old → Suits n (length new)
+suits-kept n old new u e = rw e u
+
+pub suits-large : (n : ℕ) → Suits n (length (replicate {A = ℕ} 20480 0))
+suits-large n = record { short = λ h. absurd (omega (arith, length-replicate {A = ℕ} 20480 0)) }
+
+pub suits-small : (n : ℕ) → n ≤ 640 → Suits n (length (replicate {A = ℕ} 640 0))
+suits-small n h = record { short = λ k. omega (arith, length-replicate {A = ℕ} 640 0) }
 
 pub ruleset recordedLaws = (over-22, few-22, within-22, gathered-held, needs)
 

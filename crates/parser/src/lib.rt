@@ -9,9 +9,9 @@ ghost use Rattle.grammar.specs.inner.Places.{Spelt, Laid};
 ghost use Rattle.labels.specs.Labels.{entry, writeLabels};
 ghost use Rattle.lists.specs.Written.{Written};
 ghost use Rattle.output.specs.Output.{roomFirst};
-ghost use Rattle.output.specs.inner.Gathering.{Gathered};
+ghost use Rattle.output.specs.inner.Gathering.{Memory, Gathered};
 ghost use Rattle.refusal.specs.Answer.{given};
-ghost use Rattle.parser.specs.inner.Memory.{Zeros};
+ghost use Rattle.parser.specs.inner.Memory.{Zeros, Suits};
 ghost use Rattle.parser.specs.inner.Names.{spanAt, namesIn, Table};
 ghost use Rattle.parser.specs.inner.Records.{Recorded};
 ghost use Rattle.parser.specs.Parsed.{parsedOf, parsed};
@@ -23,6 +23,7 @@ use grammar::Layout;
 use grammar::NamePiece;
 use grammar::Span;
 use names::Added;
+use output::Filled;
 use refusal::InputRefusal;
 use refusal::Refusal;
 use refusal::StateRefusal;
@@ -95,7 +96,7 @@ fn write_pattern(
     Parsed::Read(c.at, w, k)
 }
 
-// The outputs of a text whose names are known and whose records are gathered before end, or 22.
+// The outputs of a text whose names are known and whose records are gathered, or 22.
 fn with_names(
     text: &[u8],
     l: Layout,
@@ -103,18 +104,19 @@ fn with_names(
     t: &[usize],
     n: usize,
     buf: &mut [u32],
-    end: usize,
+    f: Filled,
     words: &mut [u32],
     out: &mut [u32],
     names: &mut [u8],
 ) -> Parsed
     requires { ⌜ Table (now text) (now t) n × Laid (now text) l ⌝ }
-    requires { ⌜ Gathered (now buf) end (map (transitionOf (namesIn (now text) (now t) n)) (movesAt (now text) (l .arrows .at))) × Zeros 256 (now words) ⌝ }
+    requires { ⌜ Suits (length (now text)) (length (now buf)) ⌝ }
+    requires { ⌜ Gathered (now buf) (f .sorted) (f .end) (map (transitionOf (namesIn (now text) (now t) n)) (movesAt (now text) (l .arrows .at))) × Zeros 256 (now words) ⌝ }
     requires { ⌜ (10500 ≤ length (now out)) × (16642 ≤ length (now names)) ⌝ }
     ensures { λ r. ⌜ parsedOf r (now (out .exit)) (now (names .exit)) ≡ parsed (now (out .entry)) (now (names .entry)) (fewTransitions (patternAt (now (text .entry)) l (namesIn (now (text .entry)) (now (t .entry)) n)) (c .at)) ⌝ }
 {
-    let last = output::collect_records(buf, end);
-    if 10240 < last {
+    let last = output::collect_records(buf, f);
+    if buf.len() / 2 < last {
         return Parsed::Refused(Refusal::State(StateRefusal::Transitions));
     }
     write_pattern(text, l, c, t, n, &buf[0..last], words, out, names)
@@ -132,7 +134,8 @@ fn with_tables(
     out: &mut [u32],
     names: &mut [u8],
 ) -> Parsed
-    requires { ⌜ Spelt (now text) x × Zeros 1024 (now t) × (length (now buf) ≡ 20480) × Zeros 256 (now words) ⌝ }
+    requires { ⌜ Spelt (now text) x × Zeros 1024 (now t) × Zeros 256 (now words) ⌝ }
+    requires { ⌜ Memory (now buf) × Suits (length (now text)) (length (now buf)) ⌝ }
     requires { ⌜ (10500 ≤ length (now out)) × (16642 ≤ length (now names)) ⌝ }
     ensures { λ r. ⌜ parsedOf r (now (out .exit)) (now (names .exit)) ≡ parsed (now (out .entry)) (now (names .entry)) (meaning (now (text .entry)) (toldFrom (now (text .entry)) x (arrows .at))) ⌝ }
 {
@@ -150,11 +153,23 @@ fn with_tables(
         first,
         more,
     };
-    with_names(text, l, c, t, n, buf, read.end, words, out, names)
+    with_names(text, l, c, t, n, buf, read.filled, words, out, names)
 }
 
-// The same by tables of its own.
-fn from_start(text: &[u8], x: Span, arrows: Cursor, out: &mut [u32], names: &mut [u8]) -> Parsed
+// The same by tables of its own, for a short text.
+fn with_small(text: &[u8], x: Span, arrows: Cursor, out: &mut [u32], names: &mut [u8]) -> Parsed
+    requires { ⌜ Spelt (now text) x × (length (now text) ≤ 640) ⌝ }
+    requires { ⌜ (10500 ≤ length (now out)) × (16642 ≤ length (now names)) ⌝ }
+    ensures { λ r. ⌜ parsedOf r (now (out .exit)) (now (names .exit)) ≡ parsed (now (out .entry)) (now (names .entry)) (meaning (now (text .entry)) (toldFrom (now (text .entry)) x (arrows .at))) ⌝ }
+{
+    let mut t = [0usize; 1024];
+    let mut buf = [0u32; 640];
+    let mut words = [0u32; 256];
+    with_tables(text, x, arrows, &mut t, &mut buf, &mut words, out, names)
+}
+
+// The same for any text.
+fn with_large(text: &[u8], x: Span, arrows: Cursor, out: &mut [u32], names: &mut [u8]) -> Parsed
     requires { ⌜ Spelt (now text) x ⌝ }
     requires { ⌜ (10500 ≤ length (now out)) × (16642 ≤ length (now names)) ⌝ }
     ensures { λ r. ⌜ parsedOf r (now (out .exit)) (now (names .exit)) ≡ parsed (now (out .entry)) (now (names .entry)) (meaning (now (text .entry)) (toldFrom (now (text .entry)) x (arrows .at))) ⌝ }
@@ -175,5 +190,8 @@ pub fn parse_automaton(text: &[u8], out: &mut [u32], names: &mut [u8]) -> Parsed
     let NamePiece::Read(x, arrows) = grammar::opening(text) else {
         return Parsed::Refused(Refusal::Input(InputRefusal::Grammar));
     };
-    from_start(text, x, arrows, out, names)
+    if text.len() <= 640 {
+        return with_small(text, x, arrows, out, names);
+    }
+    with_large(text, x, arrows, out, names)
 }

@@ -7,6 +7,7 @@ use lib.ListN.{length}
 use Rattle.automata.specs.Automaton.{Transition}
 use Rattle.grammar.specs.Grammar.{transitions}
 use Rattle.labels.specs.Labels.{sameLabel}
+use Rattle.output.specs.declared.gathering.Filled.{Filled}
 use Rattle.output.specs.inner.Gathering.{Held, Gathered}
 use Rattle.output.specs.inner.Ordered.{recordsIn}
 use Rattle.search.specs.Search.{index, add, meet}
@@ -32,25 +33,26 @@ abbrev pub Entering : List ℕ → List ℕ → List (List ℕ) → List ℕ →
 Entering text x ls t (EntryAt i n) = Entered text x ls t i n
 Entering text x ls t NoEntry = 256 < length (add sameLabel x ls)
 
--- the records before next in new are those before end in old and e, or they are too many
-pub record Noting (old : List ℕ) (end : ℕ) (e : Transition) (new : List ℕ) (next : ℕ) : Type 0 where
-  pub held : Held new next
-  pub more : end < 20480 → Gathered new next (recordsIn old 0 end ++ e ∷ [])
-  pub over : 20480 ≤ end → 20480 ≤ next
+-- the records with which new is filled are those of old and e, or they are too many
+pub record Noting (old : List ℕ) (f : Filled) (e : Transition) (new : List ℕ) (g : Filled) : Type 0 where
+  pub long : length new ≡ length old
+  pub held : Held new (g .sorted) (g .end)
+  pub more : f .end < length old → Gathered new (g .sorted) (g .end) (recordsIn old 0 (f .end) ++ e ∷ [])
+  pub over : length old ≤ f .end → length new ≤ g .end
 
 -- the n names of the table t are ls and those of the transition m, whose record is with the others
-pub record ArrowNoted (text : List ℕ) (m : Move) (ls : List (List ℕ)) (t old : List ℕ) (end : ℕ) (new : List ℕ) (n next : ℕ) : Type 0 where
+pub record ArrowNoted (text : List ℕ) (m : Move) (ls : List (List ℕ)) (t old : List ℕ) (f : Filled) (new : List ℕ) (n : ℕ) (g : Filled) : Type 0 where
   pub table : Table text t n
   pub names : namesIn text t n ≡ meet sameLabel (bothNames m) ls
-  pub noting : Noting old end (transitionOf (namesIn text t n) m) new next
+  pub noting : Noting old f (transitionOf (namesIn text t n) m) new g
 
 -- so by the answer, or the names are over 256
-abbrev pub ArrowNoting : List ℕ → Move → List (List ℕ) → List ℕ → List ℕ → ℕ → List ℕ → Noted → Type 0
-ArrowNoting text m ls t old end new (NotedAt n next) = ArrowNoted text m ls t old end new n next
-ArrowNoting text m ls t old end new NotNoted = 256 < length (meet sameLabel (bothNames m) ls)
+abbrev pub ArrowNoting : List ℕ → Move → List (List ℕ) → List ℕ → List ℕ → Filled → List ℕ → Noted → Type 0
+ArrowNoting text m ls t old f new (NotedAt n g) = ArrowNoted text m ls t old f new n g
+ArrowNoting text m ls t old f new NotNoted = 256 < length (meet sameLabel (bothNames m) ls)
 
 -- the transitions from a place on were read, with the names ls before theirs
 pub record ArrowsRead (text : List ℕ) (at : ℕ) (ls : List (List ℕ)) (t buf : List ℕ) (r : Arrows) : Type 0 where
   pub behind : r .behind .at ≡ transitions text at .behind
   pub names : Addition text (meet sameLabel (namesOf (movesAt text at)) ls) t (r .added)
-  pub gathered : (n : ℕ) → r .added ≡ Kept n → Gathered buf (r .end) (map (transitionOf (namesIn text t n)) (movesAt text at))
+  pub gathered : (n : ℕ) → r .added ≡ Kept n → Gathered buf (r .filled .sorted) (r .filled .end) (map (transitionOf (namesIn text t n)) (movesAt text at))
