@@ -3,7 +3,6 @@ pub mod Memory
 pub mod Finding
 pub mod Tables
 pub mod Labelling
-pub mod Collecting
 pub mod Entering
 pub mod Going
 pub mod Marking

@@ -21,7 +21,7 @@ use Rattle.name_table.specs.declared.Added as Answer
 use Rattle.name_table.specs.declared.Added.the-variants as Variants
 use Rattle.name_table.proofs.Adding as Adding
 use Rattle.search.specs.Search.{index, add, meet}
-use Rattle.search.proofs.Tables.{extends-length, meet-extends, meet-out}
+use Rattle.search.proofs.Tables.{meet-out}
 use Rattle.parser.specs.inner.Memory.{Zeros}
 use Rattle.parser.specs.inner.Names.{spanAt, namesIn, Table, Addition, kept, full}
 use Rattle.parser.specs.declared.names.Added.{Added}
@@ -137,19 +137,3 @@ module _ (text : List ℕ) (ls : List (List ℕ)) (t : List ℕ) (r : Added) (a 
       elim-full : {r : Added} → Addition text ls t r → r ≡ Full → 256 < length ls
       elim-full (kept k h) e = let z : _≡_ {A = ℕ} 0 1 = cc in absurd (omega arith)
       elim-full (full h) e = h
-
-  -- names that are met afterwards are only added
-  pub added-over : r ≡ Full → (xs : List (List ℕ)) → 256 < length (meet sameLabel xs ls)
-  added-over e xs = omega (arith, added-full e, extends-length (meet-extends sameLabel xs ls))
-
--- the first of two names, and then the second
-module _ (text : List ℕ) (ls : List (List ℕ)) (x y t m : List ℕ) (r : Added) (a : Addition text (add sameLabel x ls) t r) where
-  pub two-full : r ≡ Full → Addition text (meet sameLabel (x ∷ y ∷ []) ls) t Full
-  unfolding meet
-  two-full e = full (added-over _ _ _ r a e (y ∷ []))
-
-  pub two-kept : (n : ℕ) → r ≡ Kept n → (q : Added) → Addition text (add sameLabel y (namesIn text t n)) m q → Addition text (meet sameLabel (x ∷ y ∷ []) ls) m q
-  unfolding meet
-  two-kept n e q h = subst (λ (k : List (List ℕ)). Addition text (add sameLabel y k) m q) (added-names _ _ _ r a n e) h
-
-pub ruleset twoLaws = (added-table, two-full, two-kept, needs)
