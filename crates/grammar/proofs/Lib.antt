@@ -6,5 +6,6 @@ pub mod Digits
 pub mod Spelling
 pub mod Following
 pub mod Progress
+pub mod Parts
 pub mod Many
 pub mod Examples

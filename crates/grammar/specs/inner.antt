@@ -1,3 +1,4 @@
 -- What only inner contracts cite.
 pub mod Pieces
 pub mod Places
+pub mod Parts

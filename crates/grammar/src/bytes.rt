@@ -1,5 +1,7 @@
 // The bytes of the grammar: space, letters, digits, and what a name is made of.
+ghost use mathlib.Core.Bool.{cond};
 ghost use mathlib.Core.Path.{_≡_};
+ghost use lib.Dec.{leb};
 ghost use Rattle.grammar.specs.Bytes.{isSpace, isLetter, isDigit, isNameByte};
 
 // Blank, tab, CR or LF.
@@ -43,15 +45,22 @@ pub fn is_digit(b: u8) -> bool
     b <= b'9'
 }
 
-// A letter, a digit or `_`.
+// The 64 bytes among which b is, the first or the second of ASCII, as bits: those of letters, digits and `_` are 1.
+fn name_bits(b: u8) -> u64
+    ensures { λ r. ⌜ r ≡ cond (leb b 63) 287948901175001088 576460745995190270 ⌝ }
+{
+    if b <= 63 {
+        return 0x03ff000000000000;
+    }
+    0x07fffffe87fffffe
+}
+
+// A letter, a digit or `_`, without a branch by which of these it is.
 pub fn is_name_byte(b: u8) -> bool
     ensures { λ r. ⌜ r ≡ isNameByte b ⌝ }
 {
-    if is_letter(b) {
-        return true;
+    if 127 < b {
+        return false;
     }
-    if is_digit(b) {
-        return true;
-    }
-    b == b'_'
+    (name_bits(b) >> (b % 64)) % 2 == 1
 }

@@ -6,12 +6,16 @@ mod ranges;
 mod text;
 mod tokens;
 
+pub use pieces::AcceptingPiece;
 pub use pieces::Arrow;
 pub use pieces::ArrowPiece;
 pub use pieces::next_name;
 pub use pieces::spaced_transition;
+pub use pieces::transitions;
 pub use text::Layout;
 pub use text::TextPiece;
+pub use text::closing;
+pub use text::opening;
 pub use text::whole_text;
 pub use tokens::Cursor;
 pub use tokens::NamePiece;

@@ -1,8 +1,9 @@
 // A whole text: its pieces in order, and where they stand.
 ghost use mathlib.Core.Path.{_≡_};
-ghost use Rattle.grammar.specs.Grammar.{space, heading, ending, transitions, accepting, wholeText};
+ghost use Rattle.grammar.specs.Grammar.{space, heading, ending, accepting, wholeText};
 ghost use Rattle.grammar.specs.Pieces.{textOf};
-ghost use Rattle.grammar.specs.inner.Pieces.{pieceOf, acceptingOf};
+ghost use Rattle.grammar.specs.inner.Parts.{opening, closing};
+ghost use Rattle.grammar.specs.inner.Pieces.{pieceOf, nameOf, acceptingOf};
 use crate::pieces::AcceptingPiece;
 use crate::tokens::Cursor;
 use crate::tokens::NamePiece;
@@ -39,14 +40,21 @@ fn heading(text: &[u8], c: Cursor) -> Piece
     crate::tokens::spaced_token(text, c, b"{")
 }
 
-// The transitions and what accepts: the cursor from which the transitions go on is c.
-fn arrows_and_accepting(text: &[u8], c: Cursor) -> AcceptingPiece
-    ensures { λ r. ⌜ acceptingOf (now (text .entry)) r ≡ accepting (now (text .entry)) (space (now (text .entry)) (transitions (now (text .entry)) (c .at) .behind)) ⌝ }
+// `automaton A {` and `init a;`
+pub fn opening(text: &[u8]) -> NamePiece
+    ensures { λ r. ⌜ nameOf r ≡ opening (now (text .entry)) ⌝ }
 {
-    crate::pieces::accepting(
-        text,
-        crate::tokens::space(text, crate::pieces::transitions(text, c)),
-    )
+    let Piece::Read(c) = heading(text, Cursor { at: 0 }) else {
+        return NamePiece::Nothing;
+    };
+    crate::pieces::spaced_initial(text, c)
+}
+
+// What accepts, behind optional space.
+fn spaced_accepting(text: &[u8], c: Cursor) -> AcceptingPiece
+    ensures { λ r. ⌜ acceptingOf (now (text .entry)) r ≡ accepting (now (text .entry)) (space (now (text .entry)) (c .at)) ⌝ }
+{
+    crate::pieces::accepting(text, crate::tokens::space(text, c))
 }
 
 // `}` and directly `;`
@@ -59,20 +67,28 @@ fn ending(text: &[u8], c: Cursor) -> Piece
     crate::tokens::token(text, c, b";")
 }
 
+// What accepts and the end, behind the transitions.
+pub fn closing(text: &[u8], c: Cursor) -> AcceptingPiece
+    ensures { λ r. ⌜ acceptingOf (now (text .entry)) r ≡ closing (now (text .entry)) (c .at) ⌝ }
+{
+    let AcceptingPiece::Read(first, more, c) = spaced_accepting(text, c) else {
+        return AcceptingPiece::Nothing;
+    };
+    let Piece::Read(c) = ending(text, c) else {
+        return AcceptingPiece::Nothing;
+    };
+    AcceptingPiece::Read(first, more, c)
+}
+
 // A whole text.
 pub fn whole_text(text: &[u8]) -> TextPiece
     ensures { λ r. ⌜ textOf (now (text .entry)) r ≡ wholeText (now (text .entry)) ⌝ }
 {
-    let Piece::Read(c) = heading(text, Cursor { at: 0 }) else {
+    let NamePiece::Read(initial, arrows) = opening(text) else {
         return TextPiece::Nothing;
     };
-    let NamePiece::Read(initial, arrows) = crate::pieces::spaced_initial(text, c) else {
-        return TextPiece::Nothing;
-    };
-    let AcceptingPiece::Read(first, more, c) = arrows_and_accepting(text, arrows) else {
-        return TextPiece::Nothing;
-    };
-    let Piece::Read(c) = ending(text, c) else {
+    let behind = crate::pieces::transitions(text, arrows);
+    let AcceptingPiece::Read(first, more, c) = closing(text, behind) else {
         return TextPiece::Nothing;
     };
     TextPiece::Read(

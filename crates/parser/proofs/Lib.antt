@@ -3,8 +3,8 @@ pub mod Memory
 pub mod Finding
 pub mod Tables
 pub mod Labelling
-pub mod Collecting
-pub mod Recording
+pub mod Entering
+pub mod Going
 pub mod Marking
 pub mod Reading
 pub mod Said

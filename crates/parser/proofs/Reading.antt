@@ -2,73 +2,66 @@
 use Prim.Native.Nat.{ℕ, _-_, _/_, _≤_, _<_}
 use mathlib.Core.Bool.{Bool, true, false, _||_}
 use mathlib.Core.List.{List, [], _∷_, _++_, map}
-use mathlib.Core.Path.{_≡_, refl, sym, _∙_, ap, ap₂, subst}
+use mathlib.Core.Logic.{⊎-elim}
+use mathlib.Core.Path.{_≡_, refl, sym, _∙_, ap, ap₂}
 use native.Mathlib.Omega.{arith}
 use borrow.Author.Needs.{needs}
 use borrow.Author.Tests.{le-ltb, lt-ltb}
 use lib.Dec.{ltb}
-use lib.ListN.{length, take, drop, length-map, length-take, length-drop}
+use lib.ListN.{length, take, drop, replicate, length-map, length-take, length-drop, length-replicate}
 use lib.Seq.{length-take-le}
-use Rattle.grammar.specs.Grammar.{found, nextNames, wholeText}
-use Rattle.grammar.specs.Places.{spelled, toldAt}
+use Rattle.grammar.specs.Grammar.{Found, Told, transitions, nextNames}
+use Rattle.grammar.specs.Places.{spelled}
+use Rattle.grammar.specs.inner.Parts.{opening, closing, toldFrom}
+use Rattle.grammar.specs.inner.Pieces.{nameOf, acceptingOf}
 use Rattle.grammar.specs.inner.Places.{Spelt, Laid}
-use Rattle.grammar.specs.Pieces.{textOf}
 use Rattle.grammar.specs.declared.tokens.Cursor.{Cursor}
+use Rattle.grammar.specs.declared.tokens.Span.{Span}
+use Rattle.grammar.specs.declared.tokens.NamePiece.{NamePiece}
+use Rattle.grammar.specs.declared.tokens.NamePiece.the-variants.{Read as NameRead, Nothing as NoName}
+use Rattle.grammar.specs.declared.pieces.AcceptingPiece.{AcceptingPiece}
+use Rattle.grammar.specs.declared.pieces.AcceptingPiece.the-variants.{Read as AcceptingRead, Nothing as NoAccepting}
 use Rattle.grammar.specs.declared.text.Layout.{Layout}
-use Rattle.grammar.specs.declared.text.TextPiece.{TextPiece}
-use Rattle.grammar.specs.declared.text.TextPiece.the-variants.{Read as TextRead, Nothing as NoText}
-use Rattle.grammar.proofs.Progress.{FirstSpelt, leads, holds-found, text-holds}
-use Rattle.lists.specs.Lists.{tabulate}
+use Rattle.grammar.proofs.Many.{arrows-short}
+use Rattle.grammar.proofs.Parts.{opens-nothing, opens-found, start-spelt, closes-nothing, closes-found, first-spelt}
 use Rattle.lists.specs.Written.{Written}
 use Rattle.lists.proofs.Written.{written-append}
+use Rattle.automata.specs.Automaton.{Transition}
 use Rattle.automata.specs.Records.{writeRecords}
 use Rattle.automata.proofs.Records.{length-write}
 use Rattle.labels.specs.Labels.{writeLabels, sameLabel}
 use Rattle.output.proofs.Answers.{room-lacking, room-enough, room-words, room-bytes}
-use Rattle.output.specs.inner.Gathering.{Collected}
+use Rattle.output.proofs.Halves.{inOrder-length}
+use Rattle.output.specs.declared.gathering.Filled.{Filled}
+use Rattle.output.specs.inner.Gathering.{Held, Gathered, Collected, Settled}
 use Rattle.output.specs.Output.{Pattern, roomFirst, statesFirst, transitionsFirst}
 use Rattle.refusal.specs.Answer.{given}
 use Rattle.refusal.specs.declared.InputRefusal.the-variants.{Grammar}
 use Rattle.refusal.specs.declared.StateRefusal.the-variants.{OutputLength, States, Transitions}
 use Rattle.refusal.specs.declared.Refusal.the-variants.{Input, State}
-use Rattle.search.specs.Search.{index, add, meet}
+use Rattle.search.specs.Search.{meet}
 use Rattle.sheets.specs.Sheet.{write}
-use Rattle.syntax.specs.Spelled.{spell}
+use Rattle.syntax.specs.Spelled.{spellMove, spell}
 use Rattle.parser.specs.inner.Accepts.{markAll}
-use Rattle.parser.specs.inner.Memory.{Zeros}
-use Rattle.parser.specs.inner.Names.{Table, namesIn, Addition}
+use Rattle.parser.specs.inner.Arrows.{ArrowsRead}
+use Rattle.parser.specs.inner.Memory.{Zeros, Suits}
+use Rattle.parser.specs.inner.Names.{Table, namesIn}
 use Rattle.parser.specs.Parsed.{Output, parsed, parsedOf}
 use Rattle.parser.specs.inner.Records.{Recorded}
 use Rattle.parser.specs.Pattern.{namesOf, statesOf, transitionOf, acceptWord, automatonOf, patternOf, fewTransitions, meant, meaning, parse}
 use Rattle.parser.specs.inner.Places.{saidAt, movesAt, transitionsAt, patternAt}
 use Rattle.parser.specs.declared.Parsed.the-variants.{Read, Refused}
-use Rattle.parser.specs.declared.names.Added.{Added}
+use Rattle.parser.specs.declared.arrows.Arrows.{Arrows}
 use Rattle.parser.specs.declared.names.Added.the-variants.{Kept, Full}
 use Rattle.parser.proofs.Finding.{names-count}
+use Rattle.parser.proofs.Going.{below-or}
 use Rattle.parser.proofs.Marking.{marks-words}
-use Rattle.parser.proofs.Tables.{table-none, added-table, added-names, added-full}
+use Rattle.parser.proofs.Tables.{added-table, added-names, added-full}
 
 -- the parts of a sheet, one behind the other
 pub sheet-written : (l m n o q ws rs : List ℕ) (i j k r x : ℕ) → Written l 0 (1 ∷ 0 ∷ length ws ∷ []) m i → Written m i ws n j → Written n j (x ∷ []) o k → Written o k rs q r → Written l 0 (1 ∷ 0 ∷ length ws ∷ (ws ++ x ∷ rs)) q r
 sheet-written l m n o q ws rs i j k r x a b c d =
     written-append l m q (1 ∷ 0 ∷ length ws ∷ []) (ws ++ x ∷ rs) 0 i r a (written-append m n q ws (x ∷ rs) i j r b (written-append n o q (x ∷ []) rs j k r c d))
-
--- the first name of an empty table
-module _ (t b m : List ℕ) (l : Layout) (r : Added) (a : Addition t (add sameLabel (spelled t (l .initial)) (namesIn t b 0)) m r) where
-  one-name : add sameLabel (spelled t (l .initial)) (namesIn t b 0) ≡ spelled t (l .initial) ∷ []
-  unfolding add namesIn tabulate index
-  one-name = refl
-
-  pub states-full : r ≡ Full → Addition t (statesOf (saidAt t l)) m Full
-  states-full e = let h = added-full _ _ m r a e in absurd (omega (arith, ap length one-name))
-
-  pub states-kept : (n : ℕ) → r ≡ Kept n → (o : List ℕ) (q : Added) → Addition t (meet sameLabel (namesOf (movesAt t (l .arrows .at))) (namesIn t m n)) o q
-      → Addition t (statesOf (saidAt t l)) o q
-  unfolding statesOf spell
-  states-kept n e o q h =
-      subst (λ (k : List (List ℕ)). Addition t (meet sameLabel (namesOf (movesAt t (l .arrows .at))) k) o q) (added-names _ _ m r a n e ∙ one-name) h
-
-pub ruleset statesLaws = (table-none, states-full, states-kept, added-table, needs)
 
 -- the sheet and the labels at the fronts of the outputs
 parsed-given : (o l o′ l′ : List ℕ) (n w k : ℕ) (P : Pattern) → Written o 0 (write (P .automaton)) o′ w → Written l 0 (writeLabels (P .labels)) l′ k → parsedOf (Read n w k) o′ l′ ≡ parsed o l (given (record { pattern = P; read = n }))
@@ -104,36 +97,77 @@ module _ (t b : List ℕ) (i : ℕ) (k : Table t b i) (ws : List ℕ) (h : lengt
   pub words-few : length (take i ws) ≤ 256
   words-few = omega (arith, words-counted, k .few)
 
--- 22, or the pattern
-module _ (t : List ℕ) (l : Layout) (ls : List (List ℕ)) (buf : List ℕ) (end : ℕ) (a : Collected buf end (map (transitionOf ls) (movesAt t (l .arrows .at)))) where
-  pub over-22 : 10240 < end → (o n : List ℕ) (c : ℕ) → parsedOf (Refused (State Transitions)) o n ≡ parsed o n (fewTransitions (patternAt t l ls) c)
-  unfolding parsed fewTransitions transitionsFirst automatonOf spell
-  over-22 h o n c = sym (rw (lt-ltb 2048 (length (transitionsAt t l ls)) (a .over h)))
+pub gathered-held : (buf : List ℕ) (sorted end : ℕ) (es : List Transition) → Gathered buf sorted end es → Held buf sorted end
+gathered-held buf sorted end es g = g .held
 
-  module _ (h : end ≤ 10240) where
+-- 22, or the pattern
+module _ (t : List ℕ) (l : Layout) (ls : List (List ℕ)) (old : List ℕ) (f : Filled) (g : Gathered old (f .sorted) (f .end) (map (transitionOf ls) (movesAt t (l .arrows .at))))
+    (buf : List ℕ) (end : ℕ) (s : Settled old (f .sorted) (f .end) buf end) where
+  a : Collected buf end (map (transitionOf ls) (movesAt t (l .arrows .at)))
+  a = s .all _ g
+
+  -- where the memory is not the largest, the text is too short for that many transitions
+  many : Suits (length t) (length old) → length buf ≡ length old → length buf / 2 < end → 2048 < length (transitionsAt t l ls)
+  many u z h =
+      let x = inOrder-length (map (transitionOf ls) (movesAt t (l .arrows .at))) in
+      let y : length (map (transitionOf ls) (movesAt t (l .arrows .at))) ≡ length (transitions t (l .arrows .at) .items) = length-map (movesAt t (l .arrows .at)) (transitionOf ls) ∙ length-map (transitions t (l .arrows .at) .items) (spellMove t) in
+      ⊎-elim (λ (k : length buf < 20480). absurd (omega (arith, a .over h, arrows-short t (l .arrows .at), u .short (omega arith)))) (λ (k : 20480 ≤ length buf). omega (arith, a .over h))
+      (below-or (length buf) 20480)
+
+  pub over-22 : Suits (length t) (length old) → length buf ≡ length old → length buf / 2 < end → (o n : List ℕ) (c : ℕ) → parsedOf (Refused (State Transitions)) o n ≡ parsed o n (fewTransitions (patternAt t l ls) c)
+  unfolding parsed fewTransitions transitionsFirst automatonOf spell
+  over-22 u z h o n c = sym (rw (lt-ltb 2048 (length (transitionsAt t l ls)) (many u z h)))
+
+  module _ (h : end ≤ length buf / 2) where
     pub few-22 : Recorded (take (end - 0) (drop 0 buf)) (transitionsAt t l ls)
-    few-22 = record { words = a .listed h .words; few = simp (length-take, length-drop) (omega arith) }
+    few-22 = record { words = a .listed h .words; few = simp (length-take, length-drop) (omega (arith, a .memory .most)) }
 
     pub within-22 : (o n : List ℕ) (c : ℕ) (x : Output) → x ≡ parsed o n (given (record { pattern = patternAt t l ls; read = c })) → x ≡ parsed o n (fewTransitions (patternAt t l ls) c)
     unfolding fewTransitions transitionsFirst automatonOf spell
-    within-22 o n c x q = q ∙ sym (rw (le-ltb 2048 (length (transitionsAt t l ls)) (omega (arith, a .listed h .behind))))
+    within-22 o n c x q = q ∙ sym (rw (le-ltb 2048 (length (transitionsAt t l ls)) (omega (arith, a .listed h .behind, a .memory .most))))
 
--- 21, or what follows
-module _ (t : List ℕ) (l : Layout) (o n : List ℕ) (c : ℕ) (b : List ℕ) (r : Added) (a : Addition t (statesOf (saidAt t l)) b r) where
-  pub over-21 : r ≡ Full → parsedOf (Refused (State States)) o n ≡ parsed o n (meant (saidAt t l) c)
-  unfolding parsed meant statesFirst patternOf automatonOf
-  over-21 e = sym (rw (lt-ltb 256 (length (statesOf (saidAt t l))) (added-full _ _ b r a e)))
+-- 8, 21, or what follows: the initial state is x, the transitions go on from arrows, r is what was read of them and q what closes the text
+module _ (t : List ℕ) (x : Span) (arrows : Cursor) (b buf : List ℕ) (r : Arrows) (a : ArrowsRead t (arrows .at) (spelled t x ∷ []) b buf r)
+    (q : AcceptingPiece) (told : acceptingOf t q ≡ closing t (r .behind .at)) where
+  pub open-8 : q ≡ NoAccepting → (o n : List ℕ) → parsedOf (Refused (Input Grammar)) o n ≡ parsed o n (meaning t (toldFrom t x (arrows .at)))
+  unfolding parsed
+  open-8 e o n = sym (ap (λ (f : Found Told). parsed o n (meaning t f)) (closes-nothing t x arrows (r .behind .at) (a .behind) q told e))
 
-  module _ (i : ℕ) (e : r ≡ Kept i) where
-    names-states : namesIn t b i ≡ statesOf (saidAt t l)
-    names-states = added-names _ _ b r a i e
+  module _ (first : Span) (more c : Cursor) (e : q ≡ AcceptingRead first more c) where
+    abbrev l : Layout
+    l = record { initial = x; arrows = arrows; first = first; more = more }
 
-    pub within-21 : (x : Output) → x ≡ parsed o n (fewTransitions (patternAt t l (namesIn t b i)) c) → x ≡ parsed o n (meant (saidAt t l) c)
-    unfolding meant statesFirst patternOf automatonOf
-    within-21 x q =
-        let k : Table t b i = added-table _ _ b r a i e in
-        let m : length (statesOf (saidAt t l)) ≤ 256 = omega (arith, ap length names-states, names-count t b i, k .few) in
-        q ∙ ap (λ (ls : List (List ℕ)). parsed o n (fewTransitions (patternAt t l ls) c)) names-states ∙ sym (rw (le-ltb 256 (length (statesOf (saidAt t l))) m))
+    closed : meaning t (toldFrom t x (arrows .at)) ≡ meant (saidAt t l) (c .at)
+    closed = ap (meaning t) (closes-found t x arrows (r .behind .at) (a .behind) q told first more c e)
+
+    pub laid : Spelt t x → Laid t (record { initial = x; arrows = arrows; first = first; more = more })
+    laid s = record { initial-spelt = s; first-spelt = first-spelt t x arrows (r .behind .at) (a .behind) q told first more c e }
+
+    said-states : statesOf (saidAt t l) ≡ meet sameLabel (namesOf (movesAt t (arrows .at))) (spelled t x ∷ [])
+    unfolding statesOf spell
+    said-states = refl
+
+    pub over-21 : r .added ≡ Full → (o n : List ℕ) → parsedOf (Refused (State States)) o n ≡ parsed o n (meaning t (toldFrom t x (arrows .at)))
+    unfolding parsed meant statesFirst patternOf automatonOf
+    over-21 f o n = sym (ap (parsed o n) closed ∙ rw (lt-ltb 256 (length (statesOf (saidAt t l))) (omega (arith, ap length said-states, added-full _ _ b (r .added) (a .names) f))))
+
+    module _ (i : ℕ) (f : r .added ≡ Kept i) where
+      names-states : namesIn t b i ≡ statesOf (saidAt t l)
+      names-states = added-names _ _ b (r .added) (a .names) i f ∙ sym said-states
+
+      pub states-table : Table t b i
+      states-table = added-table _ _ b (r .added) (a .names) i f
+
+      pub states-gathered : Gathered buf (r .filled .sorted) (r .filled .end) (map (transitionOf (namesIn t b i)) (movesAt t (arrows .at)))
+      states-gathered = a .gathered i f
+
+      pub within-21 : (o n : List ℕ) (y : Output) → y ≡ parsed o n (fewTransitions (patternAt t (record { initial = x; arrows = arrows; first = first; more = more }) (namesIn t b i)) (c .at))
+          → y ≡ parsed o n (meaning t (toldFrom t x (arrows .at)))
+      unfolding meant statesFirst patternOf automatonOf
+      within-21 o n y z =
+          let m : length (statesOf (saidAt t l)) ≤ 256 = omega (arith, ap length names-states, names-count t b i, states-table .few) in
+          z ∙ ap (λ (ls : List (List ℕ)). parsed o n (fewTransitions (patternAt t l ls) (c .at))) names-states
+          ∙ sym (ap (parsed o n) closed ∙ rw (le-ltb 256 (length (statesOf (saidAt t l))) m))
 
 -- 20, 8, or what follows
 module _ (t o n : List ℕ) (f : Bool) (room : f ≡ (ltb (length o) 10500 || ltb (length n) 16642)) where
@@ -141,27 +175,27 @@ module _ (t o n : List ℕ) (f : Bool) (room : f ≡ (ltb (length o) 10500 || lt
   unfolding parsed
   over-20 h = sym (ap (parsed o n) (room-lacking o n (parse t) f room h))
 
-  module _ (h : f ≡ false) (p : TextPiece) (told : textOf t p ≡ wholeText t) where
-    pub outside-8 : p ≡ NoText → parsedOf (Refused (Input Grammar)) o n ≡ parsed o n (roomFirst o n (parse t))
+  module _ (h : f ≡ false) (p : NamePiece) (told : nameOf p ≡ opening t) where
+    pub outside-8 : p ≡ NoName → parsedOf (Refused (Input Grammar)) o n ≡ parsed o n (roomFirst o n (parse t))
     unfolding parsed parse
-    outside-8 e = sym (ap (parsed o n) (room-enough o n (parse t) f room h ∙ ap (meaning t) (sym told ∙ ap (textOf t) e)))
+    outside-8 e = sym (ap (parsed o n) (room-enough o n (parse t) f room h ∙ ap (meaning t) (opens-nothing t p told e)))
 
-    module _ (l : Layout) (c : Cursor) (e : p ≡ TextRead l c) where
-      whole : wholeText t ≡ found (toldAt t l) (c .at)
-      whole = sym told ∙ ap (textOf t) e
+    pub text-read : (x : Span) (c : Cursor) → p ≡ NameRead x c → (y : Output) → y ≡ parsed o n (meaning t (toldFrom t x (c .at))) → y ≡ parsed o n (roomFirst o n (parse t))
+    unfolding parse
+    text-read x c e y q = q ∙ sym (ap (parsed o n) (room-enough o n (parse t) f room h ∙ ap (meaning t) (opens-found t p told x c e)))
 
-      pub text-laid : Laid t l
-      text-laid = let q = holds-found _ (text-holds t) whole in record { initial-spelt = q .0; first-spelt = lead (q .1) }
-        where
-          lead : FirstSpelt t (l .first ∷ nextNames t (l .more .at) .items) → Spelt t (l .first)
-          lead (leads k) = k
+-- the memory is as long as before
+pub suits-kept : (n : ℕ) (old new : List ℕ) → Suits n (length old) → length new ≡ length old → Suits n (length new)
+suits-kept n old new u e = rw e u
 
-      pub text-read : (x : Output) → x ≡ parsed o n (meant (saidAt t l) (c .at)) → x ≡ parsed o n (roomFirst o n (parse t))
-      unfolding parse
-      text-read x q = q ∙ sym (ap (parsed o n) (room-enough o n (parse t) f room h ∙ ap (meaning t) whole))
+pub suits-large : (n : ℕ) → Suits n (length (replicate {A = ℕ} 20480 0))
+suits-large n = record { short = λ h. absurd (omega (arith, length-replicate {A = ℕ} 20480 0)) }
 
-pub ruleset recordedLaws = (over-22, few-22, within-22, needs)
+pub suits-small : (n : ℕ) → n ≤ 640 → Suits n (length (replicate {A = ℕ} 640 0))
+suits-small n h = record { short = λ k. omega (arith, length-replicate {A = ℕ} 640 0) }
 
-pub ruleset addedLaws = (over-21, within-21, added-table, needs)
+pub ruleset recordedLaws = (over-22, few-22, within-22, gathered-held, needs)
 
-pub ruleset textLaws = (over-20, outside-8, text-laid, text-read, room-words, room-bytes, needs)
+pub ruleset closedLaws = (open-8, laid, over-21, states-table, states-gathered, within-21, needs)
+
+pub ruleset textLaws = (over-20, outside-8, start-spelt, text-read, room-words, room-bytes, needs)

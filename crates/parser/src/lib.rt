@@ -1,31 +1,36 @@
-// Reading a pattern from its text: the grammar whole, then the states, then the transitions, and only then the outputs.
-ghost use mathlib.Core.List.{_∷_, _++_};
+// Reading a pattern from its text: its parts in order, with the states and the transitions on the way, and only then the outputs.
+ghost use mathlib.Core.List.{_∷_, _++_, map};
 ghost use mathlib.Core.Path.{_≡_};
 ghost use Prim.Native.Nat.{_+_, _/_, _≤_, _<_};
 ghost use lib.ListN.{length};
 ghost use Rattle.grammar.specs.Places.{spelled};
+ghost use Rattle.grammar.specs.inner.Parts.{toldFrom};
 ghost use Rattle.grammar.specs.inner.Places.{Spelt, Laid};
 ghost use Rattle.labels.specs.Labels.{entry, writeLabels};
 ghost use Rattle.lists.specs.Written.{Written};
 ghost use Rattle.output.specs.Output.{roomFirst};
+ghost use Rattle.output.specs.inner.Gathering.{Memory, Gathered};
 ghost use Rattle.refusal.specs.Answer.{given};
-ghost use Rattle.parser.specs.inner.Memory.{Zeros};
-ghost use Rattle.parser.specs.inner.Names.{spanAt, namesIn, Table, Addition};
+ghost use Rattle.parser.specs.inner.Memory.{Zeros, Suits};
+ghost use Rattle.parser.specs.inner.Names.{spanAt, namesIn, Table};
 ghost use Rattle.parser.specs.inner.Records.{Recorded};
 ghost use Rattle.parser.specs.Parsed.{parsedOf, parsed};
-ghost use Rattle.parser.specs.Pattern.{statesOf, fewTransitions, meant, parse};
-ghost use Rattle.parser.specs.inner.Places.{saidAt, transitionsAt, patternAt};
+ghost use Rattle.parser.specs.Pattern.{transitionOf, fewTransitions, meaning, parse};
+ghost use Rattle.parser.specs.inner.Places.{movesAt, transitionsAt, patternAt};
+use grammar::AcceptingPiece;
 use grammar::Cursor;
 use grammar::Layout;
-use grammar::TextPiece;
+use grammar::NamePiece;
+use grammar::Span;
 use names::Added;
+use output::Filled;
 use refusal::InputRefusal;
 use refusal::Refusal;
 use refusal::StateRefusal;
 
 mod accepts;
+mod arrows;
 mod names;
-mod records;
 
 // How many bytes of the text were read, how many words the sheet takes and how many bytes the labels; or a refusal.
 pub enum Parsed {
@@ -68,17 +73,6 @@ fn write_labels(names: &mut [u8], text: &[u8], t: &[usize], n: usize) -> usize
     at
 }
 
-// The names of the states, the initial one first.
-fn states(text: &[u8], l: Layout, t: &mut [usize]) -> Added
-    requires { ⌜ Laid (now text) l × Zeros 1024 (now t) ⌝ }
-    ensures { λ r. ⌜ Addition (now (text .entry)) (statesOf (saidAt (now (text .entry)) l)) (now (t .exit)) r ⌝ }
-{
-    let Added::Kept(n) = names::add_name(text, t, 0, l.initial) else {
-        return Added::Full;
-    };
-    names::add_arrows(text, l.arrows, t, n)
-}
-
 // The outputs of a text whose names and records are known.
 fn write_pattern(
     text: &[u8],
@@ -102,7 +96,7 @@ fn write_pattern(
     Parsed::Read(c.at, w, k)
 }
 
-// The outputs of a text whose names are known, or 22.
+// The outputs of a text whose names are known and whose records are gathered, or 22.
 fn with_names(
     text: &[u8],
     l: Layout,
@@ -110,53 +104,80 @@ fn with_names(
     t: &[usize],
     n: usize,
     buf: &mut [u32],
+    f: Filled,
     words: &mut [u32],
     out: &mut [u32],
     names: &mut [u8],
 ) -> Parsed
     requires { ⌜ Table (now text) (now t) n × Laid (now text) l ⌝ }
-    requires { ⌜ (length (now buf) ≡ 20480) × Zeros 256 (now words) ⌝ }
+    requires { ⌜ Suits (length (now text)) (length (now buf)) ⌝ }
+    requires { ⌜ Gathered (now buf) (f .sorted) (f .end) (map (transitionOf (namesIn (now text) (now t) n)) (movesAt (now text) (l .arrows .at))) × Zeros 256 (now words) ⌝ }
     requires { ⌜ (10500 ≤ length (now out)) × (16642 ≤ length (now names)) ⌝ }
     ensures { λ r. ⌜ parsedOf r (now (out .exit)) (now (names .exit)) ≡ parsed (now (out .entry)) (now (names .entry)) (fewTransitions (patternAt (now (text .entry)) l (namesIn (now (text .entry)) (now (t .entry)) n)) (c .at)) ⌝ }
 {
-    let end = records::collect(text, l.arrows, t, n, buf);
-    if 10240 < end {
+    let last = output::collect_records(buf, f);
+    if buf.len() / 2 < last {
         return Parsed::Refused(Refusal::State(StateRefusal::Transitions));
     }
-    write_pattern(text, l, c, t, n, &buf[0..end], words, out, names)
+    write_pattern(text, l, c, t, n, &buf[0..last], words, out, names)
 }
 
-// The outputs of a text of the grammar, or 21 or 22, by tables that are lent.
+// The outputs of a text whose initial state is x and whose transitions go on from c, or 8, 21 or 22, by tables that are lent: the text is read to its
+// end before it is said that there are too many states or transitions.
 fn with_tables(
     text: &[u8],
-    l: Layout,
-    c: Cursor,
+    x: Span,
+    arrows: Cursor,
     t: &mut [usize],
     buf: &mut [u32],
     words: &mut [u32],
     out: &mut [u32],
     names: &mut [u8],
 ) -> Parsed
-    requires { ⌜ Laid (now text) l × Zeros 1024 (now t) × (length (now buf) ≡ 20480) × Zeros 256 (now words) ⌝ }
+    requires { ⌜ Spelt (now text) x × Zeros 1024 (now t) × Zeros 256 (now words) ⌝ }
+    requires { ⌜ Memory (now buf) × Suits (length (now text)) (length (now buf)) ⌝ }
     requires { ⌜ (10500 ≤ length (now out)) × (16642 ≤ length (now names)) ⌝ }
-    ensures { λ r. ⌜ parsedOf r (now (out .exit)) (now (names .exit)) ≡ parsed (now (out .entry)) (now (names .entry)) (meant (saidAt (now (text .entry)) l) (c .at)) ⌝ }
+    ensures { λ r. ⌜ parsedOf r (now (out .exit)) (now (names .exit)) ≡ parsed (now (out .entry)) (now (names .entry)) (meaning (now (text .entry)) (toldFrom (now (text .entry)) x (arrows .at))) ⌝ }
 {
-    let Added::Kept(n) = states(text, l, t) else {
+    let read = arrows::read_states(text, x, arrows, t, buf);
+    let AcceptingPiece::Read(first, more, c) = grammar::closing(text, read.behind) else {
+        return Parsed::Refused(Refusal::Input(InputRefusal::Grammar));
+    };
+    let added = read.added;
+    let Added::Kept(n) = added else {
         return Parsed::Refused(Refusal::State(StateRefusal::States));
     };
-    with_names(text, l, c, t, n, buf, words, out, names)
+    let l = Layout {
+        initial: x,
+        arrows,
+        first,
+        more,
+    };
+    with_names(text, l, c, t, n, buf, read.filled, words, out, names)
 }
 
-// The outputs of a text of the grammar, or 21 or 22.
-fn with_layout(text: &[u8], l: Layout, c: Cursor, out: &mut [u32], names: &mut [u8]) -> Parsed
-    requires { ⌜ Laid (now text) l ⌝ }
+// The same by tables of its own, for a short text.
+fn with_small(text: &[u8], x: Span, arrows: Cursor, out: &mut [u32], names: &mut [u8]) -> Parsed
+    requires { ⌜ Spelt (now text) x × (length (now text) ≤ 640) ⌝ }
     requires { ⌜ (10500 ≤ length (now out)) × (16642 ≤ length (now names)) ⌝ }
-    ensures { λ r. ⌜ parsedOf r (now (out .exit)) (now (names .exit)) ≡ parsed (now (out .entry)) (now (names .entry)) (meant (saidAt (now (text .entry)) l) (c .at)) ⌝ }
+    ensures { λ r. ⌜ parsedOf r (now (out .exit)) (now (names .exit)) ≡ parsed (now (out .entry)) (now (names .entry)) (meaning (now (text .entry)) (toldFrom (now (text .entry)) x (arrows .at))) ⌝ }
+{
+    let mut t = [0usize; 1024];
+    let mut buf = [0u32; 640];
+    let mut words = [0u32; 256];
+    with_tables(text, x, arrows, &mut t, &mut buf, &mut words, out, names)
+}
+
+// The same for any text.
+fn with_large(text: &[u8], x: Span, arrows: Cursor, out: &mut [u32], names: &mut [u8]) -> Parsed
+    requires { ⌜ Spelt (now text) x ⌝ }
+    requires { ⌜ (10500 ≤ length (now out)) × (16642 ≤ length (now names)) ⌝ }
+    ensures { λ r. ⌜ parsedOf r (now (out .exit)) (now (names .exit)) ≡ parsed (now (out .entry)) (now (names .entry)) (meaning (now (text .entry)) (toldFrom (now (text .entry)) x (arrows .at))) ⌝ }
 {
     let mut t = [0usize; 1024];
     let mut buf = [0u32; 20480];
     let mut words = [0u32; 256];
-    with_tables(text, l, c, &mut t, &mut buf, &mut words, out, names)
+    with_tables(text, x, arrows, &mut t, &mut buf, &mut words, out, names)
 }
 
 // The pattern at the front of a text: its sheet and its labels into the lent outputs, and how many bytes were read.
@@ -166,8 +187,11 @@ pub fn parse_automaton(text: &[u8], out: &mut [u32], names: &mut [u8]) -> Parsed
     if output::lacks_room(out, names) {
         return Parsed::Refused(Refusal::State(StateRefusal::OutputLength));
     }
-    let TextPiece::Read(l, c) = grammar::whole_text(text) else {
+    let NamePiece::Read(x, arrows) = grammar::opening(text) else {
         return Parsed::Refused(Refusal::Input(InputRefusal::Grammar));
     };
-    with_layout(text, l, c, out, names)
+    if text.len() <= 640 {
+        return with_small(text, x, arrows, out, names);
+    }
+    with_large(text, x, arrows, out, names)
 }

@@ -1,23 +1,28 @@
--- `with_tables` meets its contract: there are too many states, or their names are handed on.
-use Rattle.parser.proofs.Tables.{added-table}
-use Rattle.parser.proofs.Reading.{addedLaws, within-21}
+-- `with_tables` meets its contract: the text is not closed, there are too many states, or their names are handed on.
+use borrow.Author.Needs.{needs}
+use Rattle.parser.proofs.Reading.{closedLaws, laid, states-table, states-gathered, suits-kept, within-21}
 use Rattle.parser.proofs.with_tables.Statement.{statement}
 use Rattle.parser.proofs.with_tables.Tie as tie
 
 pub with-tables-spec : {M : Type 1} → statement M
 with-tables-spec =
     tie.close
-    (tie.spec (λ c κs. search addedLaws) (λ c. search addedLaws) (λ c. search addedLaws) (λ c. search addedLaws) (λ c. search addedLaws)
-    (λ c κs. let p = c .before .before .before .before .before .before .before .before .before .before .before .before .before .before .before .before .before
-    .before .pre in
-    let e = c .before .before .before .before .before .before .before .before .before .before .states .ensures in
-    let q = c .before .before .before .before .before .before .n .given .1 in
-    ((added-table _ _ _ _ e _ q, p .0 .0), ((p .0 .2, p .0 .3), p .1))) (λ c. search addedLaws)
-    (λ c. search addedLaws) (λ c. search addedLaws) (λ c. search addedLaws) (λ c. search addedLaws)
-    (λ c. let a = c .before .before .before .before .before .before .before .before .before .before .before .before .before .before .before .before .before
-    .before .before .before .before .before .before .before .before .before .before .args in
-    within-21 (a .text .now) (a .l) _ _ _ _ _
-    (c .before .before .before .before .before .before .before .before .before .before .before .before .before .before .before .before .before .before .before
-    .states .ensures) _
-    (c .before .before .before .before .before .before .before .before .before .before .before .before .before .before .before .n .given .1) _
-    (c .before .before .before .before .before .before .before .before .with-names .ensures)))
+    (tie.spec (λ c κs. search closedLaws)
+    (λ c κs. search closedLaws)
+    (λ c. search closedLaws)
+    (λ c. search closedLaws)
+    (λ c. search closedLaws)
+    (λ c. search closedLaws)
+    (λ c. search closedLaws)
+    (λ c. search closedLaws)
+    (λ c. search closedLaws)
+    (λ c. search closedLaws)
+    (λ c. search closedLaws)
+    (λ c. search closedLaws)
+    (λ c κs. let a = c .before .before .before .before .before .before .before .before .before .before .before .before .before .before .before .before .before .before .before .before .before .before .before .before .before .args in let p = c .before .before .before .before .before .before .before .before .before .before .before .before .before .before .before .before .before .before .before .before .before .before .before .before .before .pre in let r = c .before .before .before .before .before .before .before .before .before .before .before .before .before .before .before .before .read-states .ensures in let q = c .before .before .before .before .before .before .before .before .before .before .before .closing .ensures in let e = c .before .before .before .before .before .before .before .before .before .first .given .1 in let f = c .before .before .before .before .before .before .added .given .1 in ((states-table _ (a .x) _ _ _ _ r _ q _ _ _ e _ f, laid _ _ _ _ _ _ r _ q _ _ _ e (p .0 .0)), (search (needs, suits-kept), ((states-gathered _ (a .x) _ _ _ _ r _ q _ _ _ e _ f, p .0 .2), p .1 .1))))
+    (λ c. search closedLaws)
+    (λ c. search closedLaws)
+    (λ c. search closedLaws)
+    (λ c. search closedLaws)
+    (λ c. search closedLaws)
+    (λ c. within-21 _ (c .before .before .before .before .before .before .before .before .before .before .before .before .before .before .before .before .before .before .before .before .before .before .before .before .before .before .before .before .before .before .before .before .before .before .args .x) _ _ _ _ (c .before .before .before .before .before .before .before .before .before .before .before .before .before .before .before .before .before .before .before .before .before .before .before .before .before .read-states .ensures) _ (c .before .before .before .before .before .before .before .before .before .before .before .before .before .before .before .before .before .before .before .before .closing .ensures) _ _ _ (c .before .before .before .before .before .before .before .before .before .before .before .before .before .before .before .before .before .before .first .given .1) _ (c .before .before .before .before .before .before .before .before .before .before .before .before .before .before .before .added .given .1) _ _ _ (c .before .before .before .before .before .before .before .before .with-names .ensures)))

@@ -7,4 +7,4 @@ pub number-of-spec : {M : Type 1} → statement M
 number-of-spec =
     tie.close
     (tie.spec (λ c. search numberLaws) (λ c. search numberLaws) (λ c. search numberLaws) (λ c κs. search numberLaws) (λ c. search numberLaws)
-    (λ c. search numberLaws) (λ c. search numberLaws) (λ c κs. search numberLaws) (λ c. search numberLaws) (λ c. search numberLaws))
+    (λ c. search numberLaws))

@@ -1,0 +1,2 @@
+-- Names in order.
+pub mod inner

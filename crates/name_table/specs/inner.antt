@@ -1,0 +1,4 @@
+-- What only inner contracts cite.
+pub mod Order
+pub mod Search
+pub mod Names

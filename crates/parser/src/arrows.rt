@@ -1,0 +1,121 @@
+// The transitions of a text, read once: the names of their states go into the table, and their records, between the numbers that the names have there,
+// into lent memory. A name keeps its number when others are added behind it.
+ghost use mathlib.Core.List.{[], _∷_};
+ghost use Rattle.grammar.specs.Places.{spelled};
+ghost use Rattle.grammar.specs.inner.Places.{Spelt, Drawn};
+ghost use Rattle.output.specs.inner.Gathering.{Memory, Held};
+ghost use Rattle.syntax.specs.Spelled.{spellMove};
+ghost use Rattle.parser.specs.inner.Arrows.{Entering, Noting, ArrowNoting, ArrowsRead};
+ghost use Rattle.parser.specs.inner.Memory.{Zeros};
+ghost use Rattle.parser.specs.inner.Names.{Table, namesIn};
+use crate::names::Added;
+use grammar::Arrow;
+use grammar::ArrowPiece;
+use grammar::Cursor;
+use grammar::Span;
+use output::Filled;
+
+// The answer of entering a name: its number and how many names the table has, or that there would be over 256.
+pub enum Entry {
+    At(u32, usize),
+    Full,
+}
+
+// The answer of noting a transition: how many names the table has and how far the memory is filled, or that there would be over 256 names.
+pub enum Noted {
+    At(usize, Filled),
+    Full,
+}
+
+// The transitions that were read: the cursor behind them, the names of their states, and how far the memory is filled with their records.
+pub struct Arrows {
+    pub behind: Cursor,
+    pub added: Added,
+    pub filled: Filled,
+}
+
+// The number of the name that stands in the text, which goes behind the others unless it is one of them.
+fn enter(text: &[u8], t: &mut [usize], n: usize, x: Span) -> Entry
+    requires { ⌜ Table (now text) (now t) n × Spelt (now text) x ⌝ }
+    ensures { λ r. ⌜ Entering (now (text .entry)) (spelled (now (text .entry)) x) (namesIn (now (text .entry)) (now (t .entry)) n) (now (t .exit)) r ⌝ }
+{
+    let i = crate::names::number_of(text, t, n, x);
+    if (i as usize) < n {
+        return Entry::At(i, n);
+    }
+    let Added::Kept(m) = crate::names::add_name(text, t, n, x) else {
+        return Entry::Full;
+    };
+    Entry::At(i, m)
+}
+
+// One record more, unless there are too many.
+fn note(buf: &mut [u32], f: Filled, from: u32, first: u32, last: u32, to: u32) -> Filled
+    requires { ⌜ Held (now buf) (f .sorted) (f .end) ⌝ }
+    ensures { λ r. ⌜ Noting (now (buf .entry)) f (record { from = from; kind = 1; first = first; last = last; to = to }) (now (buf .exit)) r ⌝ }
+{
+    if buf.len() <= f.end {
+        return f;
+    }
+    output::gather_record(buf, f, from, 1, first, last, to)
+}
+
+// The names and the record of a transition.
+fn note_arrow(text: &[u8], e: Arrow, t: &mut [usize], n: usize, buf: &mut [u32], f: Filled) -> Noted
+    requires { ⌜ Table (now text) (now t) n × Drawn (now text) e × Held (now buf) (f .sorted) (f .end) ⌝ }
+    ensures { λ r. ⌜ ArrowNoting (now (text .entry)) (spellMove (now (text .entry)) e) (namesIn (now (text .entry)) (now (t .entry)) n) (now (t .exit)) (now (buf .entry)) f (now (buf .exit)) r ⌝ }
+{
+    let Entry::At(from, m) = enter(text, t, n, e.from) else {
+        return Noted::Full;
+    };
+    let Entry::At(to, k) = enter(text, t, m, e.to) else {
+        return Noted::Full;
+    };
+    let next = note(buf, f, from, e.first, e.last, to);
+    Noted::At(k, next)
+}
+
+// The names and the records of the transitions from a cursor on. Where the names are too many the others are only read.
+fn read_arrows(text: &[u8], c: Cursor, t: &mut [usize], n: usize, buf: &mut [u32]) -> Arrows
+    requires { ⌜ Table (now text) (now t) n × Memory (now buf) ⌝ }
+    ensures { λ r. ⌜ ArrowsRead (now (text .entry)) (c .at) (namesIn (now (text .entry)) (now (t .entry)) n) (now (t .exit)) (now (buf .exit)) r ⌝ }
+{
+    let mut at = c.at;
+    let mut count = n;
+    let mut filled = Filled { sorted: 0, end: 0 };
+    loop {
+        let ArrowPiece::Read(e, next) = grammar::spaced_transition(text, Cursor { at }) else {
+            return Arrows {
+                behind: Cursor { at },
+                added: Added::Kept(count),
+                filled,
+            };
+        };
+        let Noted::At(more, last) = note_arrow(text, e, t, count, buf, filled) else {
+            let behind = grammar::transitions(text, next);
+            return Arrows {
+                behind,
+                added: Added::Full,
+                filled,
+            };
+        };
+        count = more;
+        filled = last;
+        at = next.at;
+    }
+}
+
+// The same behind the name of the initial state, which comes first.
+pub fn read_states(text: &[u8], x: Span, c: Cursor, t: &mut [usize], buf: &mut [u32]) -> Arrows
+    requires { ⌜ Spelt (now text) x × Zeros 1024 (now t) × Memory (now buf) ⌝ }
+    ensures { λ r. ⌜ ArrowsRead (now (text .entry)) (c .at) (spelled (now (text .entry)) x ∷ []) (now (t .exit)) (now (buf .exit)) r ⌝ }
+{
+    let Added::Kept(n) = crate::names::add_name(text, t, 0, x) else {
+        return Arrows {
+            behind: c,
+            added: Added::Full,
+            filled: Filled { sorted: 0, end: 0 },
+        };
+    };
+    read_arrows(text, c, t, n, buf)
+}
