@@ -90,22 +90,12 @@ module _ (text t : List ℕ) (n : ℕ) (k : Table text t n) (x : Span) (p : Spel
       (meet-out sameLabel (spelled text x ∷ []) (namesIn text t n) y m)
 
   pub add-kept : (m : ℕ) → r ≡ Variants.Kept m → Addition text (add sameLabel (spelled text x) (namesIn text t n)) u (Kept m)
-  add-kept m e = go a e
-    where
-      go : {r : Answer.Added} → Names.Addition text (add sameLabel (spelled text x) (namesIn text t n)) u r → r ≡ Variants.Kept m
-          → Addition text (add sameLabel (spelled text x) (namesIn text t n)) u (Kept m)
-      go (Names.kept {n = v} w h) e =
-          let q : v ≡ m = cc in
-          rw (← q) (kept (labels-table text u v w (λ y l. labels-added y (subst (λ (ls : List (List ℕ)). y ∈ ls) h l))) h)
-      go (Names.full h) e = let z : _≡_ {A = ℕ} 0 1 = cc in absurd (omega arith)
+  add-kept m e =
+      let h = Adding.added-names text _ u r a m e in
+      kept (labels-table text u m (Adding.added-table text _ u r a m e) (λ y l. labels-added y (subst (λ (ls : List (List ℕ)). y ∈ ls) h l))) h
 
   pub add-full : r ≡ Variants.Full → Addition text (add sameLabel (spelled text x) (namesIn text t n)) u Full
-  add-full e = go a e
-    where
-      go : {r : Answer.Added} → Names.Addition text (add sameLabel (spelled text x) (namesIn text t n)) u r → r ≡ Variants.Full
-          → Addition text (add sameLabel (spelled text x) (namesIn text t n)) u Full
-      go (Names.kept w h) e = let z : _≡_ {A = ℕ} 0 1 = cc in absurd (omega arith)
-      go (Names.full h) e = full h
+  add-full e = full (Adding.added-full text _ u r a e)
 
 pub ruleset addLaws = (named, spelt-order, spelt-inside, add-kept, add-full, needs)
 

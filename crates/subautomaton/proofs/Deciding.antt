@@ -2,7 +2,7 @@
 use Prim.Native.Nat.{ℕ, _+_, _-_, _<_}
 use mathlib.Core.Bool.{Bool, true, false, not, _&&_}
 use mathlib.Core.List.{List, []}
-use mathlib.Core.Path.{_≡_, refl, sym, _∙_, ap}
+use mathlib.Core.Path.{_≡_, refl, sym, _∙_, ap, subst}
 use native.Mathlib.Omega.{arith}
 use borrow.Author.Needs.{needs}
 use borrow.Author.Tests.{eq-eqb, ne-eqb, eqb-true, not-true, not-false}
@@ -11,6 +11,7 @@ use lib.ListN.{length, getD, take, drop}
 use lib.Seq.{sets}
 use Rattle.lists.specs.Lists.{_∈_, any, keep, all}
 use Rattle.lists.proofs.Lists.{any-out, any-in, any-ext, keep-in, keep-out}
+use Rattle.lists.proofs.Index.{same-decides}
 use Rattle.lists.proofs.Members.{at-in}
 use Rattle.lists.proofs.Parts.{part-all}
 use Rattle.lists.proofs.Tests.{true-same, and-parts, and-both}
@@ -18,24 +19,31 @@ use Rattle.automata.specs.Automaton.{Transition, leaving, states}
 use Rattle.automata.specs.Records.{readRecords}
 use Rattle.labels.specs.Labels.{sameLabel, readLabels}
 use Rattle.labels.proofs.Labels.{length-read}
+use Rattle.name_table.specs.inner.Names.{namesIn}
+use Rattle.search.proofs.Tables.{meet-in}
 use Rattle.sheets.specs.inner.Runs.{startsOf, Named, Ready}
 use Rattle.sheets.specs.Sheet.{stateCount, read}
 use Rattle.sheets.proofs.Meaning.{read-well}
 use Rattle.sheets.proofs.Named.{sheet-named}
 use Rattle.sheets.proofs.Runs.{starts-indexed}
 use Rattle.subautomaton.specs.Inclusion.{labelOf, isSame, hasState, covers, isCovered, isSubautomaton}
-use Rattle.subautomaton.specs.inner.Tables.{Numbered, isHeld, isHeldIn, fits, fitsFrom, fitsIn, Inputs, Tabled}
+use Rattle.subautomaton.specs.inner.Tables.{distinctLabels, LabelTable, Numbered, isHeld, isHeldIn, fits, fitsFrom, fitsIn, Inputs, Tabled}
 use Rattle.subautomaton.specs.Answer.{patternOf}
 use Rattle.lists.proofs.Every.{all-ext}
 use Rattle.automata.proofs.States.{states-in, states-out}
 use Rattle.subautomaton.proofs.Numbering.{same-number}
+
+-- each label of a list is one of the different ones
+label-met : (b x : List ℕ) → x ∈ readLabels b → x ∈ distinctLabels b
+unfolding distinctLabels
+label-met b x m = meet-in sameLabel same-decides (readLabels b) [] x m
 
 module _ (a al b bl starts ca cb : List ℕ) (t : Tabled a al b bl starts ca cb) where
   -- a state of each sheet: equal numbers for equal labels
   same-label : (p q : ℕ) → p < stateCount a → q < stateCount b → eqb (getD cb q 0) (getD ca p 0) ≡ sameLabel (labelOf (patternOf a al) p) (labelOf (patternOf b bl) q)
   same-label p q h g =
       let in-b : getD (readLabels bl) q [] ∈ readLabels bl = at-in (readLabels bl) q [] (omega (arith, length-read (stateCount b) bl (t .inputs .second-labels))) in
-      rw (t .numbered-b .at q g, t .numbered-a .at p h) (sym (same-number (getD (readLabels al) p []) (getD (readLabels bl) q []) (readLabels bl) in-b))
+      rw (t .numbered-b .at q g, t .numbered-a .at p h) (sym (same-number (getD (readLabels al) p []) (getD (readLabels bl) q []) (distinctLabels bl) (label-met bl _ in-b)))
 
   held-same : (p q : ℕ) → p < stateCount a → q < stateCount b → isHeld (read b) cb (getD ca p 0) (getD (read a .accept) p 0) q ≡ isSame (patternOf a al) (patternOf b bl) p q
   unfolding isHeld isSame
@@ -121,8 +129,14 @@ module _ (a al b bl starts ca cb : List ℕ) (t : Tabled a al b bl starts ca cb)
 pub ruleset decideLaws = (decide-states, decide-start, decide-covered, decide-named, decide-ready, needs)
 
 -- the tables
-pub tables-made : (a al b bl old starts ca cb : List ℕ) → Inputs a al b bl → starts ≡ sets old 0 (startsOf b) → length old ≡ 257 → Numbered (stateCount a) (readLabels al) (readLabels bl) ca
-    → Numbered (stateCount b) (readLabels bl) (readLabels bl) cb → Tabled a al b bl starts ca cb
-tables-made a al b bl old starts ca cb i e h x y = record { inputs = i; indexed = starts-indexed b old starts e (omega (arith, i .second .few-states)); numbered-a = x; numbered-b = y }
+pub tables-made : (a al b bl old starts t : List ℕ) (k : ℕ) (ca cb : List ℕ) → Inputs a al b bl → starts ≡ sets old 0 (startsOf b) → length old ≡ 257 → LabelTable bl t k
+    → Numbered (stateCount a) (readLabels al) (namesIn bl t k) ca → Numbered (stateCount b) (readLabels bl) (namesIn bl t k) cb → Tabled a al b bl starts ca cb
+tables-made a al b bl old starts t k ca cb i e h n x y =
+    record {
+      inputs = i;
+      indexed = starts-indexed b old starts e (omega (arith, i .second .few-states));
+      numbered-a = subst (λ (ls : List (List ℕ)). Numbered (stateCount a) (readLabels al) ls ca) (n .names) x;
+      numbered-b = subst (λ (ls : List (List ℕ)). Numbered (stateCount b) (readLabels bl) ls cb) (n .names) y;
+    }
 
 pub ruleset tableLaws = (tables-made, needs)

@@ -1,6 +1,8 @@
 -- The laws of subautomata.
 pub mod Loops
 pub mod Numbering
+pub mod Entering
+pub mod Reaching
 pub mod Matching
 pub mod Deciding
 pub mod Answers

@@ -15,9 +15,10 @@ use Rattle.automata.specs.inner.Records.{recordAt}
 use Rattle.automata.proofs.Records.{read-write}
 use Rattle.sheets.specs.inner.Accepted.{Accepted}
 use Rattle.sheets.specs.Sheet.{stateCount, read}
-use Rattle.sheets.proofs.Named.{named-from, named-to, named-next, ready-run, ready-named}
+use Rattle.sheets.proofs.Named.{named-from, named-to, named-next, ready-run}
 use Rattle.subautomaton.specs.inner.Tables.{isHeld, isHeldIn, fits, fitsFrom, fitsIn}
-use Rattle.subautomaton.proofs.Loops.{some-begin, some-ended, some-found, some-next, each-begin, each-ended, each-failed, each-next, record-ended, record-found, record-next, records-ended, records-failed, records-next}
+use Rattle.subautomaton.proofs.Reaching.{ordered-begin, ordered-next, ordered-to, covers-begin, covers-late, covers-next, ready-ordered}
+use Rattle.subautomaton.proofs.Loops.{some-begin, some-ended, some-found, some-next, each-begin, each-ended, each-failed, each-next, record-ended, record-found, records-ended, records-failed, records-next}
 
 -- the state q of the sheet b
 module _ (b cb : List ℕ) (k a q : ℕ) where
@@ -48,7 +49,7 @@ held-in a b ca cb p x r d e = e ∙ ap (λ (y : ℕ). any (isHeld (read b) cb (g
 
 pub ruleset statesLaws = (each-begin, each-ended, each-failed, each-next, held-in, state-small, needs)
 
-pub ruleset runLaws = (record-ended, record-found, record-next, named-to, named-next, needs)
+pub ruleset runLaws = (record-ended, record-found, covers-begin, covers-late, covers-next, ordered-begin, ordered-next, ordered-to, needs)
 
 pub ruleset recordsLaws = (records-ended, records-failed, records-next, named-from, named-to, named-next, needs)
 
@@ -70,4 +71,4 @@ fits-in b ca cb d x e = e
 
 pub ruleset inLaws = (some-begin, some-ended, some-found, some-next, fits-in, needs)
 
-pub ruleset fromLaws = (ready-run, ready-named, from-other, from-run, needs)
+pub ruleset fromLaws = (ready-run, ready-ordered, from-other, from-run, needs)

@@ -17,13 +17,15 @@ use Rattle.labels.specs.Labels.{labelsFault, readLabels, sameLabel}
 use Rattle.labels.specs.inner.Places.{labelPlace}
 use Rattle.labels.proofs.Places.{place-first}
 use Rattle.lists.specs.Index.{index}
-use Rattle.lists.proofs.Index.{same-equal, equal-same, same-decides, index-in, index-lt, index-at}
+use Rattle.lists.proofs.Index.{same-equal, equal-same, same-decides, index-le, index-in, index-lt, index-at}
 use Rattle.labels.proofs.Finding.{seek-inside, seek-whole, seek-next, label-is}
+use Rattle.name_table.specs.inner.Names.{namesIn, Table}
+use Rattle.name_table.proofs.Finding.{names-count}
 use Rattle.subautomaton.specs.inner.Tables.{Numbered}
 
 -- the table of numbers
-pub number-fits : (r n : ℕ) → r ≤ n → n ≤ 256 → Fits w32 r
-number-fits r n h g = record { fits = omega arith }
+pub number-fits : (b t : List ℕ) (n : ℕ) → Table b t n → (l : List ℕ) (r : ℕ) → r ≡ index sameLabel l (namesIn b t n) → Fits w32 r
+number-fits b t n k l r e = record { fits = omega (arith, e, index-le sameLabel l (namesIn b t n), names-count b t n, k .few) }
 
 pub numbered-none : (ks ls : List (List ℕ)) (c : List ℕ) → length c ≡ 256 → Numbered 0 ks ls c
 numbered-none ks ls c h = record { long = h; at = λ i g. absurd (omega arith) }

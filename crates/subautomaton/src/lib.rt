@@ -1,31 +1,52 @@
-// Whether an automaton is a subautomaton of another, by the labels of their states. Labels are compared once for each pair of states; then each
-// state has the number of the first equal label of the second automaton, and a transition is sought only in the runs of states of its number.
+// Whether an automaton is a subautomaton of another, by the labels of their states. The different labels of the second automaton are put in order;
+// each state has the number of its label among them, found by binary search, and a transition is sought only in the runs of states of its number.
 ghost use mathlib.Core.Path.{_≡_};
 ghost use Prim.Native.Nat.{_≤_, _<_};
-ghost use lib.ListN.{length};
+ghost use lib.ListN.{length, drop};
 ghost use Rattle.lists.specs.Lists.{any, all};
 ghost use Rattle.automata.specs.Automaton.{states};
 ghost use Rattle.automata.specs.Records.{readRecords};
 ghost use Rattle.automata.specs.inner.Records.{recordAt};
 ghost use Rattle.labels.specs.Labels.{labelsFault, readLabels};
+ghost use Rattle.name_table.specs.inner.Names.{namesIn, Table};
 ghost use Rattle.refusal.specs.Decision.{decisionOf};
 ghost use Rattle.sheets.specs.inner.Accepted.{Accepted};
 ghost use Rattle.sheets.specs.Sheet.{stateCount, read};
 ghost use Rattle.subautomaton.specs.Inclusion.{isSubautomaton};
 ghost use Rattle.sheets.specs.inner.Runs.{Named, Ready};
-ghost use Rattle.subautomaton.specs.inner.Tables.{Numbered, isHeld, isHeldIn, fits, fitsFrom, fitsIn, Inputs, Tabled};
+ghost use Rattle.subautomaton.specs.inner.Tables.{LabelTable, Numbered, isHeld, isHeldIn, fits, reaching, Ordered, fitsFrom, fitsIn, Inputs, Tabled};
 ghost use Rattle.subautomaton.specs.Answer.{patternOf, subautomatonAnswer};
 use refusal::Decision;
 
-// The numbers of the m labels of x among the n labels of b.
-fn number_labels(x: &[u8], m: usize, b: &[u8], n: usize, out: &mut [u32])
-    requires { ⌜ (labelsFault m (now x) ≡ 0) × (labelsFault n (now b) ≡ 0) × (m ≤ 256) × (n ≤ 256) × (length (now out) ≡ 256) ⌝ }
-    ensures { λ u. ⌜ Numbered m (readLabels (now (x .entry))) (readLabels (now (b .entry))) (now (out .exit)) ⌝ }
+// The different labels among the m labels of b into the table t; how many there are.
+fn enter_labels(b: &[u8], m: usize, t: &mut [usize]) -> usize
+    requires { ⌜ (labelsFault m (now b) ≡ 0) × (m ≤ 256) × (length (now t) ≡ 1024) ⌝ }
+    ensures { λ r. ⌜ LabelTable (now (b .entry)) (now (t .exit)) r ⌝ }
+{
+    let mut at: usize = 2;
+    let mut i: usize = 0;
+    let mut n: usize = 0;
+    while i < m {
+        let next = labels::next_label(b, at);
+        let name_table::Added::Kept(k) = name_table::add(b, t, n, at + 1, next) else {
+            return n;
+        };
+        n = k;
+        at = next;
+        i += 1;
+    }
+    n
+}
+
+// The numbers of the m labels of x among the n names of a table.
+fn number_labels(x: &[u8], m: usize, b: &[u8], t: &[usize], n: usize, out: &mut [u32])
+    requires { ⌜ (labelsFault m (now x) ≡ 0) × (m ≤ 256) × Table (now b) (now t) n × (length (now out) ≡ 256) ⌝ }
+    ensures { λ u. ⌜ Numbered m (readLabels (now (x .entry))) (namesIn (now (b .entry)) (now (t .entry)) n) (now (out .exit)) ⌝ }
 {
     let mut at: usize = 2;
     let mut i: usize = 0;
     while i < m {
-        out[i] = labels::find(b, n, labels::label_from(x, at)) as u32;
+        out[i] = name_table::find(b, t, n, labels::label_from(x, at)) as u32;
         at = labels::next_label(x, at);
         i += 1;
     }
@@ -94,17 +115,37 @@ fn covers(d: &[u32], e: &[u32], cb: &[u32], to: u32) -> bool
     d[3] <= e[3]
 }
 
-// Whether some record of the run covers d.
+// The place of the first record from a place on that ends at last or behind it.
+fn reach(run: &[u32], from: usize, last: u32) -> usize
+    requires { ⌜ from ≤ length (now run) ⌝ }
+    ensures { λ r. ⌜ (r ≤ length (now (run .entry))) × (from ≤ r) × (readRecords (drop r (now (run .entry))) ≡ reaching last (readRecords (drop from (now (run .entry))))) ⌝ }
+{
+    let mut at = from;
+    while 5 <= run.len() - at {
+        if last <= run[at + 3] {
+            return at;
+        }
+        at += 5;
+    }
+    at
+}
+
+// Whether some record of the run covers d. Records that end too early are passed, and behind one that starts too late there is none.
 fn run_covers(d: &[u32], run: &[u32], cb: &[u32], to: u32) -> bool
-    requires { ⌜ (length (now d) ≡ 5) × (length (now cb) ≡ 256) × Named (readRecords (now run)) ⌝ }
+    requires { ⌜ (length (now d) ≡ 5) × (length (now cb) ≡ 256) × Ordered (readRecords (now run)) ⌝ }
     ensures { λ r. ⌜ r ≡ any (fits (now (cb .entry)) to (recordAt (now (d .entry)) 0)) (readRecords (now (run .entry))) ⌝ }
 {
-    let mut at: usize = 0;
+    let first = d[2];
+    let last = d[3];
+    let mut at = reach(run, 0, last);
     while 5 <= run.len() - at {
+        if first < run[at + 2] {
+            return false;
+        }
         if covers(d, &run[at..at + 5], cb, to) {
             return true;
         }
-        at += 5;
+        at = reach(run, at + 5, last);
     }
     false
 }
@@ -191,12 +232,14 @@ fn compare(a: &[u32], al: &[u8], b: &[u32], bl: &[u8]) -> bool
 {
     let n = a[2] as usize;
     let m = b[2] as usize;
+    let mut t = [0usize; 1024];
     let mut starts = [0u32; 257];
     let mut ca = [0u32; 256];
     let mut cb = [0u32; 256];
     sheets::run_starts(b, &mut starts);
-    number_labels(al, n, bl, m, &mut ca);
-    number_labels(bl, m, bl, m, &mut cb);
+    let k = enter_labels(bl, m, &mut t);
+    number_labels(al, n, bl, &t, k, &mut ca);
+    number_labels(bl, m, bl, &t, k, &mut cb);
     decide(a, b, &starts, &ca, &cb, al, bl)
 }
 

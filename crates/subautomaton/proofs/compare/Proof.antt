@@ -8,10 +8,13 @@ pub compare-spec : {M : Type 1} → statement M
 compare-spec =
     tie.close
     (tie.spec (λ c. search tableLaws) (λ c. search tableLaws) (λ c. search tableLaws) (λ c. search tableLaws) (λ c. search tableLaws)
-    (λ c κs. search tableLaws) (λ c. search tableLaws) (λ c κs. search tableLaws) (λ c. search tableLaws) (λ c κs. search tableLaws)
-    (λ c. search tableLaws) (λ c. search tableLaws) (λ c. search tableLaws)
+    (λ c κs. search tableLaws) (λ c. search tableLaws) (λ c κs. search tableLaws) (λ c. search tableLaws) (λ c. search tableLaws)
+    (λ c κs. search tableLaws) (λ c. search tableLaws) (λ c. search tableLaws) (λ c κs. search tableLaws) (λ c. search tableLaws)
+    (λ c. search tableLaws) (λ c. search tableLaws)
     (λ c κs.
     let second = c .before .before .before .before in
-    let first = second .before .before .before in
-    let starts = first .before .before .before in
-    tables-made _ _ _ _ _ _ _ _ (starts .before .before .before .before .before .before .before .before .pre) (starts .run-starts .ensures) refl (first .number-labels .ensures) (second .number-labels2 .ensures)) (λ c. search tableLaws))
+    let first = second .before .before .before .before in
+    let entered = first .before .before .before .before in
+    let starts = entered .before .before .before in
+    tables-made _ _ _ _ _ _ _ _ _ _ (starts .before .before .before .before .before .before .before .before .pre) (starts .run-starts .ensures) refl (entered .enter-labels .ensures)
+    (first .number-labels .ensures) (second .number-labels2 .ensures)) (λ c. search tableLaws))

@@ -1,17 +1,29 @@
--- For inner contracts. What the code holds: for each state the number of the first label of the second automaton that is the state's, and tests by these numbers.
-use Prim.Native.Nat.{ℕ, _<_}
-use mathlib.Core.Bool.{Bool, _&&_, _||_}
-use mathlib.Core.List.{List, []}
+-- For inner contracts. What the code holds: for each state the number of its label among the different labels of the second automaton, and tests by
+-- these numbers.
+use Prim.Native.Nat.{ℕ, _≤_, _<_}
+use mathlib.Core.Bool.{Bool, cond, _&&_, _||_}
+use mathlib.Core.List.{List, [], _∷_}
 use mathlib.Core.Path.{_≡_}
 use lib.Dec.{eqb, leb, ltb}
 use lib.ListN.{length, getD}
-use Rattle.lists.specs.Lists.{any}
+use Rattle.lists.specs.Lists.{any, Ascending}
 use Rattle.automata.specs.Automaton.{Transition, Automaton, states, leaving}
 use Rattle.labels.specs.Labels.{sameLabel, labelsFault, readLabels}
 use Rattle.lists.specs.Index.{index}
+use Rattle.name_table.specs.inner.Names.{namesIn, Table}
+use Rattle.search.specs.Search.{meet}
 use Rattle.sheets.specs.inner.Accepted.{Accepted}
-use Rattle.sheets.specs.inner.Runs.{Indexed}
+use Rattle.sheets.specs.inner.Runs.{Named, Indexed}
 use Rattle.sheets.specs.Sheet.{stateCount}
+
+-- the different labels of a list in order of appearance
+unfoldable pub distinctLabels : List ℕ → List (List ℕ)
+distinctLabels b = meet sameLabel (readLabels b) []
+
+-- the table t has them, as many as n
+pub record LabelTable (b t : List ℕ) (n : ℕ) : Type 0 where
+  pub table : Table b t n
+  pub names : namesIn b t n ≡ distinctLabels b
 
 -- c has the numbers of the first m labels of ks among the labels ls; a label that is none of them has the number of labels
 pub record Numbered (m : ℕ) (ks ls : List (List ℕ)) (c : List ℕ) : Type 0 where
@@ -29,6 +41,16 @@ isHeldIn A B ca cb p = any (isHeld B cb (getD ca p 0) (getD (A .accept) p 0)) (s
 -- e leads to a state with the number to, and its kind and range cover those of d
 unfoldable pub fits : List ℕ → ℕ → Transition → Transition → Bool
 fits cb to d e = eqb (getD cb (e .to) 0) to && (eqb (e .kind) (d .kind) && (leb (e .first) (d .first) && leb (d .last) (e .last)))
+
+-- the transitions from the first on that ends at last or behind it
+unfoldable pub reaching : ℕ → List Transition → List Transition
+reaching last [] = []
+reaching last (e ∷ es) = cond (ltb (e .last) last) (reaching last es) (e ∷ es)
+
+-- the records of a run: the states that they name are below 256, and none starts before an earlier one
+pub record Ordered (es : List Transition) : Type 0 where
+  pub named : Named es
+  pub rises : Ascending (λ d e. d .first ≤ e .first) es
 
 -- the state q has the number from, and one of its transitions covers d
 unfoldable pub fitsFrom : Automaton → List ℕ → ℕ → ℕ → Transition → ℕ → Bool
@@ -49,5 +71,5 @@ pub record Inputs (a al b bl : List ℕ) : Type 0 where
 pub record Tabled (a al b bl starts ca cb : List ℕ) : Type 0 where
   pub inputs : Inputs a al b bl
   pub indexed : Indexed b starts
-  pub numbered-a : Numbered (stateCount a) (readLabels al) (readLabels bl) ca
-  pub numbered-b : Numbered (stateCount b) (readLabels bl) (readLabels bl) cb
+  pub numbered-a : Numbered (stateCount a) (readLabels al) (distinctLabels bl) ca
+  pub numbered-b : Numbered (stateCount b) (readLabels bl) (distinctLabels bl) cb

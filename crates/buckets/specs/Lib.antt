@@ -1,2 +1,0 @@
--- The table of buckets.
-pub mod inner
