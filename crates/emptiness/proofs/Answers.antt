@@ -1,11 +1,11 @@
 -- The answer of emptiness: the laws by which it is proved.
-use Prim.Native.Nat.{ℕ, zero, suc}
+use Prim.Native.Nat.{ℕ}
 use mathlib.Core.Bool.{Bool}
 use mathlib.Core.List.{List}
-use mathlib.Core.Path.{_≡_, refl, sym, _∙_, ap}
+use mathlib.Core.Path.{_≡_, sym, _∙_, ap}
 use native.Mathlib.Omega.{arith}
 use borrow.Author.Needs.{needs}
-use lib.ListN.{length, getD, replicate, length-replicate}
+use lib.ListN.{length, replicate, length-replicate}
 use lib.Seq.{sets}
 use Rattle.refusal.specs.Answer.{given, refused}
 use Rattle.refusal.specs.Number.{inputNumber}
@@ -18,15 +18,11 @@ use Rattle.sheets.specs.Sheet.{read}
 use Rattle.sheets.specs.declared.Checked.{Checked}
 use Rattle.sheets.specs.declared.Checked.the-variants.{Accepted, Refused}
 use Rattle.sheets.proofs.Accepted.{check-accepted}
+use Rattle.sheets.proofs.Below.{blank-at}
 use Rattle.sheets.proofs.Checking.{sheet-passed, sheet-refused}
 use Rattle.sheets.proofs.Runs.{starts-indexed}
 use Rattle.emptiness.specs.inner.Marks.{Ready}
 use Rattle.emptiness.specs.Reachable.{hasReachableAccepting, reachableAnswer}
-
-blank : (n q : ℕ) → _≡_ {A = ℕ} (getD (replicate n 0) q 0) 0
-blank zero q = refl
-blank (suc n) zero = refl
-blank (suc n) (suc q) = blank n q
 
 pub all-ready : (s old starts : List ℕ) → Accepted.Accepted s → starts ≡ sets old 0 (startsOf s) → length old ≡ 257 → Ready s starts (replicate 256 0) (replicate 256 0)
 all-ready s old starts a e l =
@@ -34,7 +30,7 @@ all-ready s old starts a e l =
       accepted = a;
       indexed = starts-indexed s old starts e (omega (arith, a .few-states));
       wide = length-replicate {A = ℕ} 256 0;
-      nothing = blank 256;
+      nothing = blank-at 256;
       long = length-replicate {A = ℕ} 256 0;
     }
 
