@@ -1,6 +1,6 @@
 -- The laws of emptiness.
 pub mod Paths
-pub mod Queue
+pub mod Marks
 pub mod Search
 pub mod Answers
 pub mod Theorems

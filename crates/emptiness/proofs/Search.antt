@@ -1,36 +1,33 @@
--- The search: the laws by which it is proved that it meets the reachable states.
-use Prim.Native.Nat.{ℕ, suc, _+_, _*_, _≤_, _<_}
-use mathlib.Core.Bool.{true, false, false≢true}
-use mathlib.Core.List.{List, List·Memᴰ·head, List·Memᴰ·eq-of-singleton}
+-- The search: the laws by which it is proved that it finds a reachable state that accepts, if there is one.
+use Prim.Native.Nat.{ℕ, suc, _+_, _-_, _*_, _≤_, _<_}
+use mathlib.Core.Bool.{true, false}
+use mathlib.Core.List.{List, [], _∷_, List·Memᴰ·head, List·Memᴰ·tail}
 use mathlib.Core.Logic.{_⊎_, inl, inr, ⊎-elim}
 use mathlib.Core.Path.{_≡_, refl, sym, _∙_, ap, subst}
 use native.Mathlib.Nat.{eq-or-lt-of-le}
 use native.Mathlib.Omega.{arith}
 use borrow.Author.Needs.{needs}
-use borrow.Author.Tests.{eq-eqb, eqb-true}
-use lib.ListN.{length, getD, set}
+use borrow.Author.Tests.{eq-eqb, eqb-true, leb-true, leb-false}
+use lib.Dec.{eqb, leb}
+use lib.ListN.{length, getD, take, drop, set, length-set}
 use Rattle.lists.specs.Lists.{_∈_}
-use Rattle.lists.proofs.Lists.{any-in, any-out, keep-in, keep-out}
-use Rattle.lists.proofs.Tests.{true-same, or-cases, or-left, or-right}
+use Rattle.lists.proofs.Lists.{keep-in, keep-out, length-keep}
+use Rattle.lists.proofs.Parts.{part-all}
+use Rattle.lists.proofs.Tests.{test}
 use Rattle.automata.specs.Automaton.{Transition, Automaton, InBounds, leaving}
 use Rattle.automata.specs.Records.{readRecords, writeRecords}
-use Rattle.automata.proofs.Records.{read-write}
-use Rattle.sets.specs.Sets.{has}
-use Rattle.sets.specs.inner.BitSet.{setAt}
-use Rattle.sets.specs.inner.Words.{insertAt}
-use Rattle.sets.proofs.Sets.{has-nil, pick-out, picked, has-below, canon-wide, set-ext}
-use Rattle.sets.proofs.BitSet.{at-canon}
+use Rattle.automata.specs.inner.Records.{recordAt}
+use Rattle.automata.proofs.Records.{read-write, records-at, records-end}
 use Rattle.sheets.specs.inner.Accepted.{Accepted}
-use Rattle.sheets.specs.inner.Runs.{RunAt}
+use Rattle.sheets.specs.inner.Runs.{Named, RunAt}
 use Rattle.sheets.specs.Sheet.{stateCount, read}
 use Rattle.sheets.proofs.Meaning.{read-well}
-use Rattle.sheets.proofs.Named.{run-named}
+use Rattle.sheets.proofs.Named.{run-named, named-target, named-next}
 use Rattle.sheets.proofs.Runs.{run-at}
-use Rattle.words.specs.inner.Gather.{withAll}
-use Rattle.emptiness.specs.inner.Queue.{leadsTo, Line, Met, Searched, Ready}
-use Rattle.emptiness.specs.Reachable.{Path, stay, follow, reachable}
-use Rattle.emptiness.proofs.Paths.{reachable-path, reachable-canon}
-use Rattle.emptiness.proofs.Queue.{met-new}
+use Rattle.emptiness.specs.inner.Marks.{Met, unmet, Skipped, Room, Pushed, Done, Searched, Ready}
+use Rattle.emptiness.specs.Reachable.{Path, stay, follow, hasReachableAccepting}
+use Rattle.emptiness.proofs.Marks.{mark-here, mark-out, mark-old, unmet-less}
+use Rattle.emptiness.proofs.Theorems.{accepting-paths}
 
 -- one more transition behind a path, and where paths lead
 path-more : {A : Automaton} {p q : ℕ} → Path A p q → (e : Transition) → e ∈ A .transitions → e .from ≡ q → Path A p (e .to)
@@ -41,107 +38,185 @@ path-bound : {A : Automaton} {p q : ℕ} → InBounds A → p < A .size → Path
 path-bound ok l stay = l
 path-bound ok l (follow e m f r) = path-bound ok (ok .tos e m) r
 
--- the states that were met
-module _ (seen queue : List ℕ) (tail : ℕ) (es : List Transition) (after line : List ℕ) (end : ℕ) (m : Met seen queue tail es after line end) where
-  met-old : (q : ℕ) → has q (setAt seen 0) ≡ true → has q (setAt after 0) ≡ true
-  unfolding withAll
-  met-old q h = rw (m .met) (picked 256 _ q (has-below 256 (setAt seen 0) (at-canon seen 0) q h) (or-left _ _ h))
+-- what is done stays so when more states are met
+done-more : {A : Automaton} {marks after : List ℕ} {x : ℕ} → ((q : ℕ) → Met marks q → Met after q) → Done A marks x → Done A after x
+done-more f d = record { rejects = d .rejects; followed = λ e m h. f (e .to) (d .followed e m h) }
 
-  met-in : (e : Transition) → e ∈ es → e .to < 256 → has (e .to) (setAt after 0) ≡ true
-  unfolding withAll leadsTo
-  met-in e i l = rw (m .met) (picked 256 _ (e .to) l (or-right (has (e .to) (setAt seen 0)) _ (any-in _ i (eq-eqb (e .to) (e .to) refl))))
-
-  met-out : (q : ℕ) → has q (setAt after 0) ≡ true → (has q (setAt seen 0) ≡ true) ⊎ ((e : Transition) × e ∈ es × (q ≡ e .to))
-  unfolding withAll leadsTo
-  met-out q h =
-      ⊎-elim inl (λ t. let r = any-out _ es t in inr (r .0, r .1, eqb-true q (r .0 .to) (r .2)))
-      (or-cases (has q (setAt seen 0)) _ (pick-out 0 256 _ q (rw (m .met) at h) .2))
-
-module _ (s : List ℕ) (a : Accepted s) where
+module _ (s : List ℕ) (a : Accepted s) (marks stack : List ℕ) (top q : ℕ) (t : Searched (read s) marks stack top q) where
   ok : InBounds (read s)
   ok = read-well s a .states
 
-  module _ (seen queue : List ℕ) (head tail : ℕ) (t : Searched (read s) seen queue head tail) where
-    pub search-line : Line seen queue tail
-    search-line = t .line
+  way : Path (read s) (getD s 1 0) q
+  way = t .paths q (t .here)
 
-    entry : head < tail → getD queue head 0 < stateCount s
-    entry h = path-bound ok (ok .starts) (t .paths (getD queue head 0) (t .line .entered head h))
+  pub state-bound : q < stateCount s
+  state-bound = path-bound ok (ok .starts) way
 
-    pub search-run : (starts old line : List ℕ) → Ready s starts old line → head < tail → RunAt s starts (getD queue head 0)
-    search-run starts old line r h = run-at s a starts (getD queue head 0) (r .indexed) (entry h)
+  pub state-run : (starts old line : List ℕ) → Ready s starts old line → RunAt s starts q
+  state-run starts old line r = run-at s a starts q (r .indexed) state-bound
 
-    -- when the queue is through, the states that were met are the reachable ones
-    pub search-end : tail ≤ head → setAt seen 0 ≡ reachable (read s)
-    search-end h =
-        set-ext 256 (setAt seen 0) (reachable (read s)) (at-canon seen 0) (canon-wide (stateCount s) 256 _ (a .few-states) (reachable-canon (read s) ok))
-        (λ q l. true-same _ _ (λ m. reachable-path (read s) ok q .1 (t .paths q m)) (λ m. closed (t .started) (reachable-path (read s) ok q .0 m)))
-      where
-        closed : {p q : ℕ} → has p (setAt seen 0) ≡ true → Path (read s) p q → has q (setAt seen 0) ≡ true
-        closed i stay = i
-        closed {p} i (follow e m f r) =
-            let j = t .line .placed p i in
-            closed (t .followed (j .0) (omega (arith, j .1)) e m (f ∙ sym (j .2))) r
+  -- a state that accepts is found
+  pub state-accepts : (w : ℕ) → w ≡ getD (read s .accept) q 0 → 0 < w → true ≡ hasReachableAccepting (read s)
+  state-accepts w e h = sym (accepting-paths (read s) ok .1 (q, way, omega (arith, e)))
 
-    -- the transitions of the state at head are followed
-    pub search-next : head < tail → (run : List ℕ) → run ≡ writeRecords (leaving (read s) (getD queue head 0)) → (after line : List ℕ) (end : ℕ) → Met seen queue tail (readRecords run) after line end → Searched (read s) after line (head + 1) end
+  module _ (w : ℕ) (we : w ≡ getD (read s .accept) q 0) (wz : w ≤ 0) (run : List ℕ) (e : run ≡ writeRecords (leaving (read s) q)) (at : ℕ)
+      (k : Skipped run marks at) where
+    records : readRecords run ≡ leaving (read s) q
+    records = ap readRecords e ∙ read-write (leaving (read s) q)
+
+    run-in : (d : Transition) → d ∈ read s .transitions → d .from ≡ q → d ∈ readRecords run
     unfolding leaving
-    search-next h run e after line end m =
-        let q : ℕ = getD queue head 0 in
-        let es : readRecords run ≡ leaving (read s) q = ap readRecords e ∙ read-write (leaving (read s) q) in
-        let n = run-named s a q run e in
-        record {
-          line = m .line;
-          within = omega (arith, m .longer .grows);
-          started = met-old seen queue tail _ after line end m (getD s 1 0) (t .started);
-          paths = λ x i.
-              ⊎-elim (t .paths x)
-              (λ r.
-              let k = keep-out _ (r .0) (read s .transitions) (rw es at (r .1)) in
-              subst (Path (read s) (getD s 1 0)) (sym (r .2)) (path-more (t .paths q (t .line .entered head h)) (r .0) (k .0) (eqb-true _ _ (k .1))))
-              (met-out seen queue tail _ after line end m x i);
-          followed = λ j g d i f.
-              ⊎-elim
-              (λ (c : suc j ≡ suc head).
-              let b : j ≡ head = omega arith in
-              let o : d .from ≡ q = f ∙ m .longer .keeps j (omega arith) ∙ ap (λ (x : ℕ). getD queue x 0) b in
-              let r : d ∈ readRecords run = rw es (keep-in _ i (eq-eqb (d .from) q o)) in
-              met-in seen queue tail _ after line end m d r (n .tos d r))
-              (λ (c : suc j < suc head).
-              met-old seen queue tail _ after line end m (d .to) (t .followed j (omega arith) d i (f ∙ m .longer .keeps j (omega (arith, t .within)))))
-              (eq-or-lt-of-le (le-of g));
-        }
-      where
-        le-of : {j : ℕ} → j < head + 1 → suc j ≤ suc head
-        le-of g = omega arith
+    run-in d i f = rw records (keep-in _ i (eq-eqb (d .from) q f))
+
+    run-out : (d : Transition) → d ∈ readRecords run → Path (read s) (getD s 1 0) (d .to)
+    unfolding leaving
+    run-out d i = let r = keep-out _ d (read s .transitions) (rw records at i) in path-more way d (r .0) (eqb-true _ _ (r .1))
+
+    names : Named (readRecords run)
+    names = run-named s a q run e
+
+    -- no target of the state is left
+    module _ (h : length run - at < 5) where
+      state-done : Done (read s) marks q
+      state-done =
+          record {
+            rejects = omega (arith, we);
+            followed = λ d i f. ⊎-elim (λ m. m) (λ m. elim (rw (records-end run at h) at m) [ ]) (k .before d (run-in d i f));
+          }
+
+      pub search-end : top ≡ 0 → false ≡ hasReachableAccepting (read s)
+      search-end z =
+          ⊎-elim (λ b. let r = accepting-paths (read s) ok .0 b in absurd (no (r .0) (r .1) (r .2))) sym (test (hasReachableAccepting (read s)))
+        where
+          all : (x : ℕ) → Met marks x → Done (read s) marks x
+          all x m = ⊎-elim (λ c. subst (Done (read s) marks) (sym c) state-done) (⊎-elim (λ r. let l = r .1 in absurd (omega arith)) (λ d. d)) (t .others x m)
+
+          closed : {p x : ℕ} → Met marks p → Path (read s) p x → Met marks x
+          closed m stay = m
+          closed {p} m (follow d i f r) = closed (all p m .followed d i f) r
+
+          no : (x : ℕ) → Path (read s) (getD s 1 0) x → 0 < getD (read s .accept) x 0 → ⊥
+          no x r l = let z = all x (closed (t .started) r) .rejects in omega arith
+
+      pub search-back : (top ≡ 0 → ⊥) → Searched (read s) marks stack (top - 1) (getD stack (top - 1) 0)
+      search-back z =
+          record {
+            room = record { wide = t .room .wide; long = t .room .long; enough = omega (arith, t .room .enough) };
+            started = t .started;
+            here = t .entered (top - 1) (omega (arith, z));
+            entered = λ j l. t .entered j (omega arith);
+            paths = t .paths;
+            others = λ x m.
+                ⊎-elim (λ c. inr (inr (subst (Done (read s) marks) (sym c) state-done)))
+                (⊎-elim
+                (λ r. ⊎-elim (λ (c : r .0 ≡ top - 1). inl (sym (r .2) ∙ ap (λ (i : ℕ). getD stack i 0) c)) (λ (c : r .0 < top - 1). inr (inl (r .0, c, r .2))) (eq-or-lt-of-le (before (r .1))))
+                (λ d. inr (inr d)))
+                (t .others x m);
+          }
+        where
+          before : {j : ℕ} → j < top → j ≤ top - 1
+          before l = omega arith
+
+      pub back-less : (top ≡ 0 → ⊥) → 2 * unmet marks + (top - 1) < 2 * unmet marks + top
+      back-less z = omega (arith, z)
+
+      pub back-place : (top ≡ 0 → ⊥) → top - 1 < length stack
+      back-place z = omega (arith, z, t .room .enough, t .room .long)
+
+    -- the target at `at` is followed next
+    module _ (h : 5 ≤ length run - at) where
+      left : Named (readRecords (drop at run))
+      left = record { froms = λ d m. names .froms d (k .among d m); tos = λ d m. names .tos d (k .among d m) }
+
+      behind : (d : Transition) → d ∈ readRecords (take (length run - (at + 5)) (drop (at + 5) run)) → d ∈ readRecords run
+      behind d m = k .among d (rw (records-at run at h) (List·Memᴰ·tail (rw (part-all (at + 5) run) at m)))
+
+      next-bound : getD run (at + 4) 0 < 256
+      next-bound = named-target run at left h
+
+      pub next-inside : getD run (at + 4) 0 < length marks
+      next-inside = omega (arith, t .room .wide, next-bound)
+
+      next-fewer : suc (unmet (set marks (getD run (at + 4) 0) 1)) ≡ unmet marks
+      next-fewer = unmet-less marks (getD run (at + 4) 0) next-inside (k .here h)
+
+      next-named : Named (readRecords (take (length run - (at + 5)) (drop (at + 5) run)))
+      next-named = subst (λ (l : List ℕ). Named (readRecords l)) (sym (part-all (at + 5) run)) (named-next run at left h)
+
+      next-room : Room (set marks (getD run (at + 4) 0) 1) stack top
+      next-room = record { wide = length-set marks _ 1 ∙ t .room .wide; long = t .room .long; enough = omega (arith, t .room .enough, next-fewer) }
+
+      pub next-asked : Named (readRecords (take (length run - (at + 5)) (drop (at + 5) run))) × Room (set marks (getD run (at + 4) 0) 1) stack top
+      next-asked = (next-named, next-room)
+
+      module _ (after line : List ℕ) (end : ℕ)
+          (p : Pushed (set marks (getD run (at + 4) 0) 1) stack top (readRecords (take (length run - (at + 5)) (drop (at + 5) run))) [] after line end) where
+        pub next-less : 2 * unmet after + end < 2 * unmet marks + top
+        next-less = omega (arith, p .total, p .grows, next-fewer)
+
+        old : (x : ℕ) → Met marks x → Met after x
+        old x m = p .old x (mark-old marks _ next-inside x m)
+
+        this : Met after (getD run (at + 4) 0)
+        this = p .old _ (mark-here marks _ next-inside)
+
+        this-way : Path (read s) (getD s 1 0) (getD run (at + 4) 0)
+        this-way = run-out (recordAt run at) (k .among _ (rw (records-at run at h) (List·Memᴰ·head refl)))
+
+        next-done : Done (read s) after q
+        next-done = record { rejects = omega (arith, we); followed = λ d i f. ⊎-elim (old (d .to)) (λ m. one d (rw (records-at run at h) at m)) (k .before d (run-in d i f)) }
+          where
+            one : (d : Transition) → d ∈ (recordAt run at ∷ readRecords (drop (at + 5) run)) → Met after (d .to)
+            one d (List·Memᴰ·head c) = subst (λ (x : Transition). Met after (x .to)) (sym c) this
+            one d (List·Memᴰ·tail i) = ⊎-elim (λ m. m) (λ m. elim m [ ]) (p .targets d (rw (part-all (at + 5) run) i))
+
+        pub search-next : Searched (read s) after line end (getD run (at + 4) 0)
+        search-next =
+            record {
+              room = p .room;
+              started = old _ (t .started);
+              here = this;
+              entered = λ j l.
+                  ⊎-elim (λ c. p .entered j (leb-true top j c) l) (λ c. let b = leb-false top j c in rw (p .keeps j b) (old _ (t .entered j b))) (test (leb top j));
+              paths = λ x m.
+                  ⊎-elim (λ c. ⊎-elim (λ o. subst (Path (read s) (getD s 1 0)) (sym o) this-way) (t .paths x) (mark-out marks _ next-inside x c))
+                  (λ r. let d = p .sources (r .0) (r .1) (r .2) in subst (Path (read s) (getD s 1 0)) (sym (d .2) ∙ r .3) (run-out (d .0) (behind (d .0) (d .1))))
+                  (p .stacked x m);
+              others = λ x m.
+                  ⊎-elim
+                  (λ c.
+                  ⊎-elim inl
+                  (λ o.
+                  ⊎-elim (λ b. inr (inr (subst (Done (read s) after) (sym b) next-done)))
+                  (⊎-elim (λ r. inr (inl (r .0, further (r .1), p .keeps (r .0) (r .1) ∙ r .2))) (λ d. inr (inr (done-more old d))))
+                  (t .others x o))
+                  (mark-out marks _ next-inside x c))
+                  (λ r. inr (inl (r .0, r .2, r .3))) (p .stacked x m);
+            }
+          where
+            further : {j : ℕ} → j < top → j < end
+            further l = omega (arith, p .grows)
 
 -- the search begins with the start
-pub search-begin : (s starts seen queue : List ℕ) → Ready s starts seen queue → (after : List ℕ) → after ≡ insertAt seen (4 * 0) (getD s 1 0) → Searched (read s) after (set queue 0 (getD s 1 0)) 0 1
-search-begin s starts seen queue r after i =
-    let b = r .accepted .start in
-    let f = r .accepted .few-states in
-    let m = met-new seen queue 0 line first (omega arith) false (sym (ap (has (getD s 1 0)) (r .nothing) ∙ has-nil (getD s 1 0))) refl after i in
+pub search-begin : (s starts marks stack : List ℕ) → Ready s starts marks stack → Searched (read s) (set marks (getD s 1 0) 1) stack 0 (getD s 1 0)
+search-begin s starts marks stack r =
+    let here = mark-here marks (getD s 1 0) inside in
     record {
-      line = m .line;
-      within = omega arith;
-      started = met-in seen queue 0 _ after _ 1 m first (List·Memᴰ·head refl) (omega arith);
-      paths = λ q h. ⊎-elim (λ o. absurd (false≢true (sym (ap (has q) (r .nothing) ∙ has-nil q) ∙ o))) (λ o. subst (Path (read s) (getD s 1 0)) (sym (o .2 ∙ ap (λ (d : Transition). d .to) (List·Memᴰ·eq-of-singleton (o .1)))) stay) (met-out seen queue 0 _ after _ 1 m q h);
-      followed = λ j g. absurd (omega arith);
+      room = record { wide = length-set marks _ 1 ∙ r .wide; long = r .long; enough = omega (arith, few) };
+      started = here;
+      here = here;
+      entered = λ j l. absurd (omega arith);
+      paths = λ x m. subst (Path (read s) (getD s 1 0)) (sym (only x m)) stay;
+      others = λ x m. inl (only x m);
     }
   where
-    -- any transition to the start
-    first : Transition
-    first = record { from = 0; kind = 0; first = 0; last = 0; to = getD s 1 0 }
+    inside : getD s 1 0 < length marks
+    inside = omega (arith, r .accepted .start, r .accepted .few-states, r .wide)
 
-    line : Line seen queue 0
-    line =
-        record {
-          wide = r .wide;
-          long = r .long;
-          few = omega arith;
-          count = ap length (r .nothing);
-          entered = λ j g. absurd (omega arith);
-          placed = λ q h. absurd (false≢true (sym (ap (has q) (r .nothing) ∙ has-nil q) ∙ h));
-        }
+    few : unmet (set marks (getD s 1 0) 1) ≤ 256
+    few = unfold unmet in omega (arith, length-keep (λ x. eqb x 0) (set marks (getD s 1 0) 1), length-set marks (getD s 1 0) 1, r .wide)
 
-pub ruleset searchLaws = (run-named, search-line, search-run, search-end, search-next, search-begin, needs)
+    only : (x : ℕ) → Met (set marks (getD s 1 0) 1) x → x ≡ getD s 1 0
+    only x m = ⊎-elim (λ c. c) (λ c. let z = r .nothing x in absurd (omega arith)) (mark-out marks (getD s 1 0) inside x m)
+
+pub ruleset searchLaws = (run-named, state-bound, state-run, state-accepts, search-begin, needs)

@@ -1,2 +1,2 @@
 -- What only inner contracts cite.
-pub mod Queue
+pub mod Marks

@@ -1,63 +1,78 @@
-// Emptiness: whether a state that accepts is reached from the start. The search goes through the states in the order in which
-// a queue meets them, and looks at each record once.
-ghost use mathlib.Core.List.{[], _∷_};
+// Emptiness: whether a state that accepts is reached from the start. The search marks each state that it meets, follows its transitions once, and ends
+// at the first state that accepts.
+ghost use mathlib.Core.List.{[]};
 ghost use mathlib.Core.Path.{_≡_};
-ghost use Prim.Native.Nat.{_<_};
 ghost use lib.ListN.{length};
 ghost use Rattle.automata.specs.Records.{readRecords};
-ghost use Rattle.automata.specs.inner.Records.{recordAt};
 ghost use Rattle.refusal.specs.Decision.{decisionOf};
-ghost use Rattle.sets.specs.inner.BitSet.{setAt};
 ghost use Rattle.sheets.specs.inner.Accepted.{Accepted};
 ghost use Rattle.sheets.specs.Sheet.{read};
 ghost use Rattle.sheets.specs.inner.Runs.{Named};
-ghost use Rattle.emptiness.specs.inner.Queue.{Line, Met, Ready};
-ghost use Rattle.emptiness.specs.Reachable.{reachable, hasReachableAccepting, reachableAnswer};
+ghost use Rattle.emptiness.specs.inner.Marks.{Skipped, Room, Pushed, Ready};
+ghost use Rattle.emptiness.specs.Reachable.{hasReachableAccepting, reachableAnswer};
 use refusal::Decision;
 use sheets::Checked;
 
-// The target of the record r joins the queue, if it was not met before. Like the next function it answers the queue's end.
-fn meet_record(r: &[u32], seen: &mut [u64], queue: &mut [u32], tail: usize) -> usize
-    requires { ⌜ (length (now r) ≡ 5) × (recordAt (now r) 0 .to < 256) × Line (now seen) (now queue) tail ⌝ }
-    ensures { λ e. ⌜ Met (now (seen .entry)) (now (queue .entry)) tail (recordAt (now (r .entry)) 0 ∷ []) (now (seen .exit)) (now (queue .exit)) e ⌝ }
+// Where the first record of the run stands whose target was not met; a place with no record behind it, if there is none.
+fn first_unmet(run: &[u32], marks: &[u8]) -> usize
+    requires { ⌜ Named (readRecords (now run)) × (length (now marks) ≡ 256) ⌝ }
+    ensures { λ at. ⌜ Skipped (now (run .entry)) (now (marks .entry)) at ⌝ }
 {
-    let t = r[4] as usize;
-    if sets::has(seen, 0, t) {
-        return tail;
-    }
-    sets::insert(seen, 0, t);
-    queue[tail] = r[4];
-    tail + 1
-}
-
-// The targets of the run join the queue.
-fn meet_run(run: &[u32], seen: &mut [u64], queue: &mut [u32], tail: usize) -> usize
-    requires { ⌜ Named (readRecords (now run)) × Line (now seen) (now queue) tail ⌝ }
-    ensures { λ e. ⌜ Met (now (seen .entry)) (now (queue .entry)) tail (readRecords (now (run .entry))) (now (seen .exit)) (now (queue .exit)) e ⌝ }
-{
-    let mut e = tail;
     let mut at: usize = 0;
     while 5 <= run.len() - at {
-        e = meet_record(&run[at..at + 5], seen, queue, e);
+        if marks[run[at + 4] as usize] == 0 {
+            return at;
+        }
         at += 5;
+    }
+    at
+}
+
+// The targets of the run that were not met are marked and put on the stack. The answer is the stack's end.
+fn push_unmet(run: &[u32], marks: &mut [u8], stack: &mut [u32], top: usize) -> usize
+    requires { ⌜ Named (readRecords (now run)) × Room (now marks) (now stack) top ⌝ }
+    ensures { λ e. ⌜ Pushed (now (marks .entry)) (now (stack .entry)) top (readRecords (now (run .entry))) [] (now (marks .exit)) (now (stack .exit)) e ⌝ }
+{
+    let mut e = top;
+    let mut at: usize = 0;
+    while 5 <= run.len() - at {
+        let t = run[at + 4];
+        let k = t as usize;
+        at += 5;
+        if marks[k] == 0 {
+            marks[k] = 1;
+            stack[e] = t;
+            e += 1;
+        }
     }
     e
 }
 
-// The states that are reached from the start, in seen.
-fn explore(s: &[u32], starts: &[u32], seen: &mut [u64], queue: &mut [u32])
-    requires { ⌜ Ready (now s) (now starts) (now seen) (now queue) ⌝ }
-    ensures { λ u. ⌜ setAt (now (seen .exit)) 0 ≡ reachable (read (now (s .entry))) ⌝ }
+// Whether a state that accepts is met, from the start on. A state's first unmet target is followed next, without the stack.
+fn explore(s: &[u32], starts: &[u32], marks: &mut [u8], stack: &mut [u32]) -> bool
+    requires { ⌜ Ready (now s) (now starts) (now marks) (now stack) ⌝ }
+    ensures { λ r. ⌜ r ≡ hasReachableAccepting (read (now (s .entry))) ⌝ }
 {
-    let start = s[1];
-    sets::insert(seen, 0, start as usize);
-    queue[0] = start;
-    let mut head: usize = 0;
-    let mut tail: usize = 1;
-    while head < tail {
-        let q = queue[head];
-        tail = meet_run(sheets::run(s, starts, q), seen, queue, tail);
-        head += 1;
+    let mut q = s[1];
+    let mut top: usize = 0;
+    marks[q as usize] = 1;
+    loop {
+        if 0 < sheets::accept_word(s, q) {
+            return true;
+        }
+        let run = sheets::run(s, starts, q);
+        let at = first_unmet(run, marks);
+        if 5 <= run.len() - at {
+            q = run[at + 4];
+            marks[q as usize] = 1;
+            top = push_unmet(&run[at + 5..], marks, stack, top);
+        } else {
+            if top == 0 {
+                return false;
+            }
+            top -= 1;
+            q = stack[top];
+        }
     }
 }
 
@@ -67,11 +82,10 @@ fn reaches_accepting(s: &[u32]) -> bool
     ensures { λ r. ⌜ r ≡ hasReachableAccepting (read (now (s .entry))) ⌝ }
 {
     let mut starts = [0u32; 257];
-    let mut seen = [0u64; 4];
-    let mut queue = [0u32; 256];
+    let mut marks = [0u8; 256];
+    let mut stack = [0u32; 256];
     sheets::run_starts(s, &mut starts);
-    explore(s, &starts, &mut seen, &mut queue);
-    0 < words::kind_of(s, &seen)
+    explore(s, &starts, &mut marks, &mut stack)
 }
 
 // Whether a state that accepts is reached from the start, by any number of transitions. A sheet is empty when none is.

@@ -1,15 +1,17 @@
--- How many of some records leave a state below q: where the records of a state begin, and the loop that seeks that place.
+-- How many of some records leave a state below q: where the records of a state begin, and the loops that find these places.
 use Prim.Native.Nat.{ℕ, zero, suc, _+_, _-_, _*_, _≤_, _<_}
-use mathlib.Core.Bool.{true, false}
+use mathlib.Core.Bool.{true, false, cond}
 use mathlib.Core.List.{List, [], _∷_, nil≢cons, head-eq-of-cons-eq}
 use mathlib.Core.Logic.{⊎-elim}
-use mathlib.Core.Path.{_≡_, sym, ap, _∙_}
+use mathlib.Core.Path.{_≡_, refl, sym, ap, _∙_}
+use native.Mathlib.Nat.{eq-or-lt-of-le}
+use native.Mathlib.Numerals.{add-one}
 use native.Mathlib.Omega.{arith}
 use borrow.Author.Needs.{needs}
-use borrow.Author.Tests.{ltb-true, ltb-false, lt-ltb, le-ltb, eq-eqb, ne-eqb}
-use lib.Dec.{ltb, eqb}
-use lib.ListN.{length, getD, take, drop, length-drop}
-use lib.Seq.{drop-nil, take-nil}
+use borrow.Author.Tests.{leb-true, leb-false, ltb-true, ltb-false, lt-ltb, le-ltb, eqb-true, eqb-false, eq-eqb, ne-eqb}
+use lib.Dec.{leb, ltb, eqb}
+use lib.ListN.{length, getD, take, drop, set, replicate, length-drop, length-set, length-replicate}
+use lib.Seq.{drop-nil, take-nil, getD-set-same, getD-set-other}
 use Rattle.lists.specs.Lists.{_∈_, keep, Ascending, none, more}
 use Rattle.lists.proofs.Lists.{keep-none, length-keep, drop-mem}
 use Rattle.lists.proofs.Tests.{test}
@@ -18,7 +20,7 @@ use Rattle.automata.specs.Records.{readRecords}
 use Rattle.automata.specs.inner.Records.{recordAt}
 use Rattle.automata.specs.WellFormed.{here, later, Before}
 use Rattle.automata.proofs.Records.{records-at, records-end, read-drop}
-use Rattle.sheets.specs.inner.Runs.{below, Rising}
+use Rattle.sheets.specs.inner.Runs.{below, Rising, Named, Ends}
 
 -- records in order ascend in the states that they leave
 pub rising : {es : List Transition} → Ascending Before es → Rising es
@@ -61,25 +63,60 @@ pub below-length : (q : ℕ) (ts : List Transition) → below q ts ≤ length ts
 unfolding below
 below-length q ts = length-keep _ ts
 
--- the search for the first record of q stands at record k
-module _ (q k : ℕ) (t : List ℕ) (up : Rising (readRecords t)) (l : k ≤ below q (readRecords t)) where
-  pub skip-ended : length t - 5 * k < 5 → k ≡ below q (readRecords t)
-  skip-ended h =
-      let e : drop k (readRecords t) ≡ [] = sym (read-drop k t) ∙ records-end t (5 * k) h in
-      let z : length (readRecords t) - k ≡ 0 = sym (length-drop k (readRecords t)) ∙ ap length e in
-      let b = below-length q (readRecords t) in
+-- belongs to crate lists: what stands in a blank array
+pub blank-at : (n q : ℕ) → _≡_ {A = ℕ} (getD (replicate n 0) q 0) 0
+blank-at zero q = refl
+blank-at (suc n) zero = refl
+blank-at (suc n) (suc q) = blank-at n q
+
+pub ends-begin : (t : List ℕ) → Ends t (replicate 257 0) 0
+ends-begin t = record { long = length-replicate {A = ℕ} 257 0; most = λ q. omega (arith, blank-at 257 q); least = λ j l. absurd (omega arith) }
+
+-- record k of some words
+module _ (t : List ℕ) (k : ℕ) where
+  record-k : 5 ≤ length t - 5 * k → drop k (readRecords t) ≡ recordAt t (5 * k) ∷ readRecords (drop (5 * k + 5) t)
+  record-k h = sym (read-drop k t) ∙ records-at t (5 * k) h
+
+  records-few : length t - 5 * k < 5 → length (readRecords t) ≤ k
+  records-few h =
+      let z : length (readRecords t) - k ≡ 0 = sym (length-drop k (readRecords t)) ∙ ap length (sym (read-drop k t) ∙ records-end t (5 * k) h) in
       omega arith
 
-  at-k : 5 ≤ length t - 5 * k → drop k (readRecords t) ≡ recordAt t (5 * k) ∷ readRecords (drop (5 * k + 5) t)
-  at-k h = sym (read-drop k t) ∙ records-at t (5 * k) h
+  pub ends-bound : Named (readRecords t) → 5 ≤ length t - 5 * k → getD t (5 * k) 0 < 256
+  ends-bound n h = n .froms (recordAt t (5 * k)) (drop-mem k (readRecords t) _ _ (record-k h))
 
-  pub skip-found : 5 ≤ length t - 5 * k → q ≤ getD t (5 * k) 0 → k ≡ below q (readRecords t)
-  skip-found h p = let b = below-split q k _ up _ _ (at-k h) .1 p in omega arith
+  module _ (ends : List ℕ) (e : Ends t ends k) where
+    pub ends-ended : length t - 5 * k < 5 → Ends t ends (length (readRecords t))
+    ends-ended h = record { long = e .long; most = e .most; least = λ j l. e .least j (omega (arith, records-few h)) }
 
-  pub skip-next : 5 ≤ length t - 5 * k → getD t (5 * k) 0 < q → k + 1 ≤ below q (readRecords t)
-  skip-next h p = let b = below-split q k _ up _ _ (at-k h) .0 p in omega arith
+    -- the number behind record k
+    pub ends-next : Rising (readRecords t) → Named (readRecords t) → 5 ≤ length t - 5 * k → Ends t (set ends (getD t (5 * k) 0 + 1) (k + 1)) (k + 1)
+    ends-next up n h =
+        record {
+          long = length-set ends _ (k + 1) ∙ e .long;
+          most = λ q.
+              ⊎-elim
+              (λ c. let i : q ≡ f + 1 = eqb-true q (f + 1) c in rw (ap (λ x. getD (set ends (f + 1) (k + 1)) x 0) i ∙ same) (omega (arith, below-split q k _ up _ _ (record-k h) .0 (omega arith))))
+              (λ c. rw (getD-set-other ends (f + 1) q (k + 1) 0 (eqb-false q (f + 1) c)) (e .most q)) (test (eqb q (f + 1)));
+          least = λ j l.
+              ⊎-elim
+              (λ c. rw (ap (λ x. getD (set ends (f + 1) (k + 1)) x 0) (eqb-true (getD t (5 * j) 0 + 1) (f + 1) c) ∙ same) l)
+              (λ c.
+              let d = eqb-false (getD t (5 * j) 0 + 1) (f + 1) c in
+              rw (getD-set-other ends (f + 1) (getD t (5 * j) 0 + 1) (k + 1) 0 d) (e .least j (less j l (λ i. d (ap (λ x. getD t (5 * x) 0 + 1) i)))))
+              (test (eqb (getD t (5 * j) 0 + 1) (f + 1)));
+        }
+      where
+        f : ℕ
+        f = getD t (5 * k) 0
 
-pub ruleset skips = (skip-ended, skip-found, skip-next, needs)
+        same : getD (set ends (f + 1) (k + 1)) (f + 1) 0 ≡ k + 1
+        same = getD-set-same ends (f + 1) (k + 1) 0 (omega (arith, e .long, ends-bound n h))
+
+        less : (j : ℕ) → j < k + 1 → (j ≡ k → ⊥) → j < k
+        less j l d = omega (arith, d)
+
+pub ruleset endsLaws = (ends-bound, ends-ended, ends-next, needs)
 
 pub below-mono : (q : ℕ) (ts : List Transition) → below q ts ≤ below (suc q) ts
 unfolding below keep
@@ -89,6 +126,57 @@ below-mono q (e ∷ ts) =
     ⊎-elim (λ t. let l : e .from < q = ltb-true _ _ t in rw (lt-ltb (e .from) q l, lt-ltb (e .from) (suc q) (omega arith)) (omega arith))
     (λ (t : ltb (e .from) q ≡ false). rw t (⊎-elim (λ (u : ltb (e .from) (suc q) ≡ true). rw u (omega arith)) (λ (u : ltb (e .from) (suc q) ≡ false). rw u ih) (test (ltb (e .from) (suc q)))))
     (test (ltb (e .from) q))
+
+-- the greatest entry of those below q
+pub record Greatest (t ends : List ℕ) (q k : ℕ) : Type 0 where
+  pub most : k ≤ below q (readRecords t)
+  pub least : (r : ℕ) → r < q → getD ends r 0 ≤ k
+
+pub greatest-begin : (t ends : List ℕ) → Greatest t ends 0 0
+greatest-begin t ends = record { most = omega arith; least = λ r l. absurd (omega arith) }
+
+module _ (t ends : List ℕ) (up : Rising (readRecords t)) (e : Ends t ends (length (readRecords t))) (q k : ℕ) (g : Greatest t ends q k)
+    (m : ℕ) (i : m ≡ cond (ltb k (getD ends q 0)) (getD ends q 0) k) where
+  bounds : (k ≤ m) × (getD ends q 0 ≤ m) × (m ≤ below q (readRecords t))
+  bounds =
+      let l = g .most in
+      let o = e .most q in
+      ⊎-elim
+      (λ c. let z : m ≡ getD ends q 0 = i ∙ ap (λ b. cond b (getD ends q 0) k) c in let d = ltb-true k (getD ends q 0) c in (omega arith, omega arith, omega arith))
+      (λ c. let z : m ≡ k = i ∙ ap (λ b. cond b (getD ends q 0) k) c in let d = ltb-false k (getD ends q 0) c in (omega arith, omega arith, omega arith))
+      (test (ltb k (getD ends q 0)))
+
+  pub greatest-is : m ≡ below q (readRecords t)
+  greatest-is = ⊎-elim (λ c. absurd (no (ltb-true m (below q (readRecords t)) c))) (λ c. let z = ltb-false m (below q (readRecords t)) c in omega (arith, bounds .2)) (test (ltb m (below q (readRecords t))))
+    where
+      -- the entry behind the state that record m leaves
+      entry : getD t (5 * m) 0 < q → getD ends (getD t (5 * m) 0 + 1) 0 ≤ m
+      entry h =
+          ⊎-elim (λ (c : getD t (5 * m) 0 + 1 ≡ q). rw c (bounds .1)) (λ (c : getD t (5 * m) 0 + 1 < q). omega (arith, g .least _ c, bounds .0))
+          (eq-or-lt-of-le (one-more h))
+        where
+          one-more : getD t (5 * m) 0 < q → getD t (5 * m) 0 + 1 ≤ q
+          one-more l = omega arith
+
+      no : m < below q (readRecords t) → ⊥
+      no l =
+          ⊎-elim
+          (λ c.
+          let b = below-split q m _ up _ _ (record-k t m (leb-true 5 (length t - 5 * m) c)) .1 in
+          ⊎-elim (λ d. let z = b (leb-true q (getD t (5 * m) 0) d) in omega arith) (λ d. let z = entry (leb-false q (getD t (5 * m) 0) d) in let y = e .least m (omega (arith, below-length q (readRecords t))) in omega arith)
+          (test (leb q (getD t (5 * m) 0))))
+          (λ c. let z = records-few t m (leb-false 5 (length t - 5 * m) c) in let y = below-length q (readRecords t) in omega arith)
+          (test (leb 5 (length t - 5 * m)))
+
+  pub greatest-next : Greatest t ends (q + 1) m
+  greatest-next =
+      record {
+        most = rw add-one (omega (arith, bounds .2, below-mono q (readRecords t)));
+        least = λ r l. ⊎-elim (λ (c : r ≡ q). rw c (bounds .1)) (λ (c : r < q). omega (arith, g .least r c, bounds .0)) (eq-or-lt-of-le (up-to l));
+      }
+    where
+      up-to : {r : ℕ} → r < q + 1 → r ≤ q
+      up-to l = omega arith
 
 -- the transitions that leave q are those from `below q` up to `below (q + 1)`
 pub leaving-run : (q : ℕ) (ts : List Transition) → Rising ts → keep (λ e. eqb (e .from) q) ts ≡ take (below (suc q) ts - below q ts) (drop (below q ts) ts)

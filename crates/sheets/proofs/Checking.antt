@@ -1,17 +1,17 @@
 -- The laws by which the check is proved: each says what one more word, record or section does.
 use Prim.Native.Nat.{ℕ, zero, suc, _+_, _-_, _*_, _≤_, _<_}
 use mathlib.Core.Path.{_≡_, refl, sym, ap, _∙_}
-use mathlib.Core.Bool.{Bool, true, false, cond, _||_}
+use mathlib.Core.Bool.{Bool, true, false, cond, _||_, or-false}
 use mathlib.Core.List.{List, [], _∷_}
 use native.Mathlib.Nat.{add-sub-cancel-left}
 use native.Mathlib.Numerals.{add-one, sub-one}
 use native.Mathlib.Omega.{arith}
-use borrow.Author.Tests.{lt-leb, le-leb, lt-ltb, le-ltb, eq-eqb, ne-eqb}
+use borrow.Author.Tests.{lt-leb, le-leb, le-ltb, eq-eqb, ne-eqb}
 use borrow.Author.Needs.{needs}
 use lib.Dec.{leb, ltb, eqb}
 use lib.ListN.{length, getD, take, drop, drop-of-length-le, length-drop, length-take}
 use Rattle.lists.proofs.Parts.{drop-at, part-all}
-use Rattle.lists.proofs.Tests.{tests}
+use Rattle.lists.proofs.Tests.{tests, cond-no}
 use Rattle.automata.specs.Ordered.{less}
 use Rattle.automata.specs.Records.{wordsOf, readRecords}
 use Rattle.automata.specs.inner.Records.{recordAt}
@@ -23,6 +23,7 @@ use Rattle.refusal.specs.Number.{inputNumber}
 use Rattle.sheets.specs.declared.Checked.{Checked}
 use Rattle.sheets.specs.declared.Checked.the-variants.{Accepted, Refused}
 use Rattle.sheets.specs.Checked.{checkedNumber, sheetFirst}
+use Rattle.sheets.specs.inner.Passed.{faultBehind, Passed}
 use Rattle.sheets.specs.Fault.{acceptWords, isBad, recordFault, recordsFault, orElse, transitionsFault, statesFault, fault}
 
 -- the accept words from i on decide
@@ -38,6 +39,13 @@ module _ (s : List ℕ) (i : ℕ) (e : acceptWords s ≡ acceptWords (drop i s))
 
 pub ruleset acceptLaws = (accept-ended, accept-stopped, accept-next, tests)
 
+-- a record of kind 1
+pub bad-range : (n f k x y z : ℕ) (b : Bool) → b ≡ isBad n (record { from = f; kind = 1; first = x; last = y; to = z }) → k ≡ 1
+    → b ≡ isBad n (record { from = f; kind = k; first = x; last = y; to = z })
+bad-range n f k x y z b e h = e ∙ ap (λ i. isBad n (record { from = f; kind = i; first = x; last = y; to = z })) (sym h)
+
+pub ruleset kindLaws = (bad-range, needs)
+
 -- two lists that are equal up to i are in the order of what is left of them
 module _ (a b : List ℕ) (i : ℕ) (e : less a b ≡ less (drop i a) (drop i b)) where
   pub less-ended : length b ≤ i → false ≡ less a b
@@ -46,22 +54,18 @@ module _ (a b : List ℕ) (i : ℕ) (e : less a b ≡ less (drop i a) (drop i b)
   pub less-short : i < length b → length a ≤ i → true ≡ less a b
   less-short hb h = sym (e ∙ rw (drop-of-length-le a h, drop-at b i hb))
 
-  pub less-below : i < length b → i < length a → getD a i 0 < getD b i 0 → true ≡ less a b
-  less-below hb ha p = sym (e ∙ rw (drop-at a i ha, drop-at b i hb, lt-ltb _ _ p))
+  pub less-differs : i < length b → i < length a → (getD a i 0 ≡ getD b i 0 → ⊥) → ltb (getD a i 0) (getD b i 0) ≡ less a b
+  less-differs hb ha p = sym (e ∙ rw (drop-at a i ha, drop-at b i hb, ne-eqb (getD a i 0) (getD b i 0) p) (or-false (ltb (getD a i 0) (getD b i 0))))
 
-  pub less-above : i < length b → i < length a → getD b i 0 < getD a i 0 → false ≡ less a b
-  less-above hb ha p =
-      sym (e ∙ rw (drop-at a i ha, drop-at b i hb, le-ltb (getD a i 0) (getD b i 0) (omega arith), ne-eqb (getD a i 0) (getD b i 0) (omega arith)))
-
-  pub less-next : i < length b → i < length a → getD a i 0 ≤ getD b i 0 → getD b i 0 ≤ getD a i 0 → less a b ≡ less (drop (i + 1) a) (drop (i + 1) b)
-  less-next hb ha p q =
+  pub less-next : i < length b → i < length a → getD a i 0 ≡ getD b i 0 → less a b ≡ less (drop (i + 1) a) (drop (i + 1) b)
+  less-next hb ha p =
       e ∙ ap (λ l. less l (drop i b)) (drop-at a i ha) ∙ ap (λ l. less (getD a i 0 ∷ drop (i + 1) a) l) (drop-at b i hb)
-      ∙ rw (le-ltb (getD a i 0) (getD b i 0) q, eq-eqb (getD a i 0) (getD b i 0) (omega arith))
+      ∙ rw (le-ltb (getD a i 0) (getD b i 0) (omega arith), eq-eqb (getD a i 0) (getD b i 0) p)
 
-pub ruleset lessLaws = (less-ended, less-short, less-below, less-above, less-next, tests)
+pub ruleset lessLaws = (less-ended, less-short, less-differs, less-next, tests)
 
 -- five words are those of the record that they are read as
-five-words : (r : List ℕ) → length r ≡ 5 → wordsOf (recordAt r 0) ≡ r
+pub five-words : (r : List ℕ) → length r ≡ 5 → wordsOf (recordAt r 0) ≡ r
 five-words [] h = absurd (omega arith)
 five-words (a ∷ []) h = absurd (omega arith)
 five-words (a ∷ b ∷ []) h = absurd (omega arith)
@@ -70,13 +74,19 @@ five-words (a ∷ b ∷ c ∷ d ∷ []) h = absurd (omega arith)
 five-words (a ∷ b ∷ c ∷ d ∷ e ∷ []) h = refl
 five-words (a ∷ b ∷ c ∷ d ∷ e ∷ f ∷ r) h = absurd (omega arith)
 
+pub part-words : (t : List ℕ) (at : ℕ) → 5 ≤ length t - at → take (at + 5 - at) (drop at t) ≡ wordsOf (recordAt t at)
+part-words t at h = sym (ap wordsOf (sym (part-record t at)) ∙ five-words _ long)
+  where
+    long : length (take (at + 5 - at) (drop at t)) ≡ 5
+    long = simp (length-take, length-drop, add-sub-cancel-left) (omega arith)
+
 -- a record's fault, from the answers of the two functions that test it
 module _ (n : ℕ) (before r : List ℕ) (b : Bool) (e : b ≡ isBad n (recordAt r 0)) where
   pub record-bad : b ≡ true → 5 ≡ recordFault n before (recordAt r 0)
   unfolding recordFault
   record-bad p = rw (← e, p)
 
-  in-order : (l : Bool) → length r ≡ 5 → b ≡ false → l ≡ less before r → recordFault n before (recordAt r 0) ≡ cond l 0 6
+  pub in-order : (l : Bool) → length r ≡ 5 → b ≡ false → l ≡ less before r → recordFault n before (recordAt r 0) ≡ cond l 0 6
   unfolding recordFault
   in-order l h p d = ap (λ x. cond x 5 (cond (less before (wordsOf (recordAt r 0))) 0 6)) (sym e ∙ p) ∙ ap (λ x. cond (less before x) 0 6) (five-words r h) ∙ ap (λ x. cond x 0 6) (sym d)
 
@@ -119,15 +129,17 @@ module _ (n : ℕ) (t before : List ℕ) (at : ℕ) (e : recordsFault n [] (read
     pub records-stopped : (r : InputRefusal) → f ≡ Refused r → checkedNumber f ≡ recordsFault n [] (readRecords t)
     records-stopped r q = sym (one-more ∙ orElse-stop (checkedNumber f) _ (λ z. refused-some r (ap checkedNumber (sym q) ∙ z)))
 
-    pub records-next : f ≡ Accepted → recordsFault n [] (readRecords t) ≡ recordsFault n (take (at + 5 - at) (drop at t)) (readRecords (drop (at + 5) t))
-    records-next q =
-        one-more ∙ ap (λ x. orElse (checkedNumber x) (recordsFault n (wordsOf (recordAt t at)) (readRecords (drop (at + 5) t)))) q
-        ∙ ap (λ x. recordsFault n x (readRecords (drop (at + 5) t))) (ap wordsOf (sym (part-record t at)) ∙ five-words _ long)
-      where
-        long : length (take (at + 5 - at) (drop at t)) ≡ 5
-        long = simp (length-take, length-drop, add-sub-cancel-left) (omega arith)
+    pub records-good : f ≡ Accepted → isBad n (recordAt t at) ≡ false
+    unfolding recordFault
+    records-good q = cond-no (isBad n (recordAt t at)) 4 _ (ap (recordFault n before) (sym (part-record t at)) ∙ sym p ∙ ap checkedNumber q) .0
 
-pub ruleset recordsLaws = (records-ended, records-stopped, records-next, needs)
+    pub records-next : f ≡ Accepted → (r : ℕ) → Passed n t at r → recordsFault n [] (readRecords t) ≡ recordsFault n (take (r + 5 - r) (drop r t)) (readRecords (drop (r + 5) t))
+    unfolding faultBehind
+    records-next q r g =
+        one-more ∙ ap (λ x. orElse (checkedNumber x) (recordsFault n (wordsOf (recordAt t at)) (readRecords (drop (at + 5) t)))) q
+        ∙ g .same ∙ ap (λ x. recordsFault n x (readRecords (drop (r + 5) t))) (sym (part-words t r (g .within)))
+
+pub ruleset recordsLaws = (records-ended, records-stopped, records-good, records-next, needs)
 
 -- each section's fault, in the terms that the code has
 pub transitions-none : (n : ℕ) (t : List ℕ) → length t ≡ 0 → 1 ≡ transitionsFault n t

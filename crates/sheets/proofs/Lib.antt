@@ -3,6 +3,7 @@ pub mod Checking
 pub mod Accepted
 pub mod Numbers
 pub mod Meaning
+pub mod Passing
 pub mod Below
 pub mod Runs
 pub mod Named

@@ -26,7 +26,7 @@ orElse-zero zero g e = (refl, e)
 orElse-zero (suc f) g e = absurd (omega arith)
 
 -- what a record that is not bad is
-record Good (n : ℕ) (e : Transition) : Type 0 where
+pub record Good (n : ℕ) (e : Transition) : Type 0 where
   pub from-in : e .from < n
   pub to-in : e .to < n
   pub sound : Sound e
@@ -37,7 +37,7 @@ blank-tests true true false a b = absurd (true≢false b)
 blank-tests true false y a b = absurd (true≢false b)
 blank-tests false x y a b = absurd (true≢false (sym a))
 
-bad-not : (n : ℕ) (e : Transition) → isBad n e ≡ false → Good n e
+pub bad-not : (n : ℕ) (e : Transition) → isBad n e ≡ false → Good n e
 unfolding isBad
 bad-not n e h =
     let a = or-false _ (eqb (e .kind) 0 && not (eqb (e .first) 0 && eqb (e .last) 0)) h in

@@ -17,7 +17,7 @@ use Rattle.sheets.specs.Sheet.{stateCount, recordsAt, read}
 use Rattle.sheets.specs.inner.Accepted.{recordCount, Accepted}
 use Rattle.sheets.specs.inner.Runs.{below, startsOf, startsBelow, Rising, Indexed, RunAt}
 use Rattle.sheets.proofs.Meaning.{read-well}
-use Rattle.sheets.proofs.Below.{rising, below-mono, below-length, leaving-run}
+use Rattle.sheets.proofs.Below.{rising, below-mono, below-length, leaving-run, ends-begin, greatest-begin}
 
 module _ (s : List ℕ) (a : Accepted s) where
   ts : List Transition
@@ -75,17 +75,8 @@ module _ (s : List ℕ) (a : Accepted s) where
   unfolding part
   starts-rising = subst Rising (sym part-ts) up
 
-  module _ (q k : ℕ) (e : k ≡ below q (readRecords (take (length s - recordsAt s) (drop (recordsAt s) s)))) where
-    pub starts-within : k ≤ recordCount s
-    unfolding part
-    starts-within =
-        let l = below-length q (readRecords part) in
-        let c : length (readRecords part) ≡ recordCount s = ap length part-ts ∙ count in
-        omega arith
-
-    pub starts-mono : k ≤ below (q + 1) (readRecords (take (length s - recordsAt s) (drop (recordsAt s) s)))
-    unfolding part
-    starts-mono = let m = below-mono q (readRecords part) in rw add-one (omega arith)
+  pub starts-few : length (take (length s - recordsAt s) (drop (recordsAt s) s)) ≤ 10240
+  starts-few = simp (length-take, length-drop) (omega (arith, a .whole, a .few-records))
 
 -- the table so far, with the first record of q added
 module _ (s : List ℕ) (old now : List ℕ) (q : ℕ) (e : now ≡ startsBelow s old q) where
@@ -119,4 +110,4 @@ starts-indexed s old now e h =
           ∙ tabulate-at (suc (stateCount s)) g q 0 (omega arith);
     }
 
-pub ruleset startsLaws = (starts-none, starts-rising, starts-within, starts-mono, starts-next, starts-ended, needs)
+pub ruleset startsLaws = (starts-none, starts-rising, starts-few, starts-ended, ends-begin, greatest-begin, needs)

@@ -1,3 +1,4 @@
 -- What only inner contracts cite.
 pub mod Accepted
+pub mod Passed
 pub mod Runs

@@ -1,12 +1,15 @@
 // The sheet: an automaton as a list of words. The check reads each word once; `reading` reads accepted sheets.
 ghost use mathlib.Core.Path.{_≡_};
+ghost use mathlib.Core.Bool.{false};
 ghost use mathlib.Core.List.{[]};
-ghost use Prim.Native.Nat.{_*_, _<_};
+ghost use Prim.Native.Nat.{_+_, _-_, _*_, _≤_};
+ghost use lib.Dec.{eqb};
 ghost use lib.ListN.{length};
 ghost use Rattle.automata.specs.Ordered.{less};
 ghost use Rattle.automata.specs.Records.{readRecords};
 ghost use Rattle.automata.specs.inner.Records.{recordAt};
 ghost use Rattle.sheets.specs.inner.Accepted.{Accepted};
+ghost use Rattle.sheets.specs.inner.Passed.{Keyed, Passed};
 ghost use Rattle.sheets.specs.Fault.{fault, statesFault, transitionsFault, recordsFault, recordFault, isBad, acceptWords};
 ghost use Rattle.sheets.specs.Checked.{checkedNumber};
 use refusal::InputRefusal;
@@ -47,11 +50,8 @@ fn is_less(a: &[u32], b: &[u32]) -> bool
         }
         let x = a[i];
         let y = b[i];
-        if x < y {
-            return true;
-        }
-        if y < x {
-            return false;
+        if x != y {
+            return x < y;
         }
         i += 1;
     }
@@ -100,6 +100,55 @@ fn check_record(n: u32, before: &[u32], r: &[u32]) -> Checked
     Checked::Refused(InputRefusal::RecordOrder)
 }
 
+// Whether a record of these words breaks a rule by itself. What most records are, ranges, is asked first.
+fn breaks_rule(n: u32, from: u32, kind: u32, first: u32, last: u32, to: u32) -> bool
+    ensures { λ b. ⌜ b ≡ isBad n (record { from = from; kind = kind; first = first; last = last; to = to }) ⌝ }
+{
+    if kind == 1 {
+        return is_bad(n, from, 1, first, last, to);
+    }
+    is_bad(n, from, kind, first, last, to)
+}
+
+// A number that orders records by the state that they leave and by their first symbol.
+fn order_key(from: u32, first: u32) -> u64
+    ensures { λ r. ⌜ r ≡ from * 4294967296 + first ⌝ }
+{
+    from as u64 * 4294967296 + first as u64
+}
+
+// Whether the record b has no fault behind the record a, which breaks no rule and has the key `before`. A lesser key decides the order.
+fn passes(n: u32, before: u64, a: &[u32], b: &[u32]) -> bool
+    requires { ⌜ Keyed n before (now a) × (length (now b) ≡ 5) ⌝ }
+    ensures { λ r. ⌜ r ≡ eqb (recordFault n (now (a .entry)) (recordAt (now (b .entry)) 0)) 0 ⌝ }
+{
+    if breaks_rule(n, b[0], b[1], b[2], b[3], b[4]) {
+        return false;
+    }
+    if before < order_key(b[0], b[2]) {
+        return true;
+    }
+    is_less(a, b)
+}
+
+// The place of the last record that passes, from the one at `from` on, which breaks no rule.
+fn pass_records(n: u32, t: &[u32], from: usize) -> usize
+    requires { ⌜ (5 ≤ length (now t) - from) × (isBad n (recordAt (now t) from) ≡ false) ⌝ }
+    ensures { λ r. ⌜ Passed n (now (t .entry)) from r ⌝ }
+{
+    let mut prev = from;
+    let mut before = order_key(t[from], t[from + 2]);
+    while 10 <= t.len() - prev {
+        let at = prev + 5;
+        if !passes(n, before, &t[prev..prev + 5], &t[at..at + 5]) {
+            return prev;
+        }
+        before = order_key(t[at], t[at + 2]);
+        prev = at;
+    }
+    prev
+}
+
 // The first fault of the records.
 fn check_records(n: u32, t: &[u32]) -> Checked
     ensures { λ f. ⌜ checkedNumber f ≡ recordsFault n [] (readRecords (now (t .entry))) ⌝ }
@@ -111,8 +160,8 @@ fn check_records(n: u32, t: &[u32]) -> Checked
         let Checked::Accepted = f else {
             return f;
         };
-        prev = at;
-        at += 5;
+        prev = pass_records(n, t, at);
+        at = prev + 5;
     }
     Checked::Accepted
 }

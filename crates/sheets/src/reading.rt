@@ -1,42 +1,54 @@
 // Reads an accepted sheet: the accept word of a state, and the records that leave it, which are a run in the sheet's middle.
-// The table of runs is made once in one pass, and a run is then found without a search.
+// The table of runs is made once in one pass over the records and one over the states, and a run is then found without a search.
+ghost use mathlib.Core.Bool.{cond};
 ghost use mathlib.Core.Path.{_≡_};
 ghost use Prim.Native.Nat.{_*_, _≤_, _<_};
+ghost use lib.Dec.{ltb};
 ghost use lib.ListN.{length, getD};
 ghost use lib.Seq.{sets};
 ghost use Rattle.automata.specs.Automaton.{leaving};
 ghost use Rattle.automata.specs.Records.{readRecords, writeRecords};
 ghost use Rattle.sheets.specs.inner.Accepted.{Accepted};
-ghost use Rattle.sheets.specs.inner.Runs.{below, startsOf, Rising, RunAt};
+ghost use Rattle.sheets.specs.inner.Runs.{startsOf, Rising, Named, Ends, RunAt};
 ghost use Rattle.sheets.specs.Sheet.{stateCount, read};
 
-// The number of the first record of t, from the k-th on, that leaves no state below q.
-fn skip_below(t: &[u32], from: usize, q: u32) -> usize
-    requires { ⌜ Rising (readRecords (now t)) × (from ≤ below q (readRecords (now t))) × (5 * from ≤ length (now t)) ⌝ }
-    ensures { λ r. ⌜ r ≡ below q (readRecords (now (t .entry))) ⌝ }
+// For each state that the records of t leave, the number behind its last record, in the entry behind the state's.
+fn mark_ends(t: &[u32], ends: &mut [u32])
+    requires { ⌜ Rising (readRecords (now t)) × Named (readRecords (now t)) × (length (now t) ≤ 10240) × Ends (now t) (now ends) 0 ⌝ }
+    ensures { λ r. ⌜ Ends (now (t .entry)) (now (ends .exit)) (length (readRecords (now (t .entry)))) ⌝ }
 {
-    let mut k = from;
+    let mut k: usize = 0;
     while 5 <= t.len() - 5 * k {
-        if q <= t[5 * k] {
-            return k;
-        }
+        let p = t[5 * k] as usize;
         k += 1;
+        ends[p + 1] = k as u32;
     }
-    k
 }
 
-// The number of the first record of each state, and of the end, at the front of starts.
+fn greater(x: u32, y: u32) -> u32
+    ensures { λ r. ⌜ r ≡ cond (ltb x y) y x ⌝ }
+{
+    if x < y {
+        return y;
+    }
+    x
+}
+
+// The number of the first record of each state, and of the end, at the front of starts: it is the greatest number behind a record of a state below.
 pub fn run_starts(s: &[u32], starts: &mut [u32])
     requires { ⌜ Accepted (now s) × (stateCount (now s) < length (now starts)) ⌝ }
     ensures { λ r. ⌜ now (starts .exit) ≡ sets (now (starts .entry)) 0 (startsOf (now (s .entry))) ⌝ }
 {
     let n = s[2];
     let base = n as usize + 4;
+    let mut ends = [0u32; 257];
+    mark_ends(&s[base..], &mut ends);
     let mut q: u32 = 0;
-    let mut k: usize = 0;
+    let mut k: u32 = 0;
     while q <= n {
-        k = skip_below(&s[base..], k, q);
-        starts[q as usize] = k as u32;
+        let p = q as usize;
+        k = greater(k, ends[p]);
+        starts[p] = k;
         q += 1;
     }
 }

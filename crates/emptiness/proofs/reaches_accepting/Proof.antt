@@ -1,4 +1,4 @@
--- `reaches_accepting` meets its contract: the states that were met are the reachable ones.
+-- `reaches_accepting` meets its contract: no state is met before the search.
 use Rattle.emptiness.proofs.Answers.{reachedLaws}
 use Rattle.emptiness.proofs.reaches_accepting.Statement.{statement}
 use Rattle.emptiness.proofs.reaches_accepting.Tie as tie
@@ -7,5 +7,4 @@ pub reaches-accepting-spec : {M : Type 1} → statement M
 reaches-accepting-spec =
     tie.close
     (tie.spec (λ c. search reachedLaws) (λ c κs. search reachedLaws) (λ c. search reachedLaws) (λ c. search reachedLaws)
-    (λ c. search reachedLaws) (λ c κs. search reachedLaws) (λ c. search reachedLaws) (λ c κs. search reachedLaws)
-    (λ c. search reachedLaws))
+    (λ c. search reachedLaws) (λ c κs. search reachedLaws) (λ c. search reachedLaws))

@@ -18,4 +18,4 @@ is-less-spec =
     tie.close
     (tie.spec Inv-loop μ-loop (λ c. search lessLaws) (λ c. search lessLaws) (λ c. search lessLaws) (λ c. search lessLaws)
     (λ c. search lessLaws) (λ c. search lessLaws) (λ c. search lessLaws) (λ c. search lessLaws) (λ c. search lessLaws)
-    (λ c. search lessLaws) (λ c. search lessLaws) (λ c. search lessLaws))
+    (λ c. search lessLaws) (λ c. search lessLaws))

@@ -7,7 +7,7 @@ use lib.ListN.{length, getD, take, drop}
 use lib.Seq.{sets}
 use Rattle.lists.specs.Lists.{_∈_, keep, tabulate, Ascending}
 use Rattle.automata.specs.Automaton.{Transition, leaving}
-use Rattle.automata.specs.Records.{writeRecords}
+use Rattle.automata.specs.Records.{readRecords, writeRecords}
 use Rattle.automata.specs.WellFormed.{mostStates, mostTransitions}
 use Rattle.sheets.specs.Sheet.{stateCount, recordsAt, read}
 use Rattle.sheets.specs.inner.Accepted.{recordCount, Accepted}
@@ -27,6 +27,13 @@ startsBelow s old q = sets old 0 (tabulate q (λ p. below p (read s .transitions
 -- the states that the transitions leave ascend
 abbrev pub Rising : List Transition → Type 0
 Rising es = Ascending (λ d e. d .from ≤ e .from) es
+
+-- an entry for each state and one past the last, of which none exceeds the number of records that leave a state below; and the first k records of t are
+-- counted by the entries behind those of the states that they leave
+pub record Ends (t ends : List ℕ) (k : ℕ) : Type 0 where
+  pub long : length ends ≡ 257
+  pub most : (q : ℕ) → getD ends q 0 ≤ below q (readRecords t)
+  pub least : (j : ℕ) → j < k → j < getD ends (getD t (5 * j) 0 + 1) 0
 
 -- starts is, at its front, the table `startsOf` of the sheet s
 pub record Indexed (s starts : List ℕ) : Type 0 where

@@ -1,0 +1,181 @@
+-- The marks and the stack of the search: the laws by which its functions over a run are proved.
+use Prim.Native.Nat.{ℕ, zero, suc, _+_, _-_, _≤_, _<_}
+use mathlib.Core.Bool.{Bool, true, false, cond}
+use mathlib.Core.List.{List, [], _∷_, List·Memᴰ·head, List·Memᴰ·tail}
+use mathlib.Core.Logic.{_⊎_, inl, inr, ⊎-elim}
+use mathlib.Core.Path.{_≡_, refl, sym, _∙_, ap, subst}
+use native.Mathlib.Nat.{eq-or-lt-of-le}
+use native.Mathlib.Omega.{arith}
+use borrow.Author.Needs.{needs}
+use borrow.Author.Tests.{eq-eqb, eqb-true, eqb-false}
+use lib.Dec.{eqb}
+use lib.ListN.{length, getD, drop, set, length-set}
+use lib.Seq.{getD-set-same, getD-set-other}
+use Rattle.lists.specs.Lists.{_∈_, keep}
+use Rattle.lists.proofs.Tests.{test}
+use Rattle.automata.specs.Automaton.{Transition}
+use Rattle.automata.specs.Records.{readRecords}
+use Rattle.automata.specs.inner.Records.{recordAt}
+use Rattle.automata.proofs.Records.{records-at, records-end}
+use Rattle.sheets.specs.inner.Runs.{Named}
+use Rattle.sheets.proofs.Named.{named-target, named-next}
+use Rattle.emptiness.specs.inner.Marks.{Met, unmet, Skipped, Room, Pushed}
+
+-- one mark more
+module _ (marks : List ℕ) (t : ℕ) (l : t < length marks) where
+  pub mark-here : Met (set marks t 1) t
+  mark-here = rw (getD-set-same marks t 1 0 l) (omega arith)
+
+  pub mark-out : (q : ℕ) → Met (set marks t 1) q → (q ≡ t) ⊎ Met marks q
+  mark-out q h = ⊎-elim (λ e. inl (eqb-true q t e)) (λ n. inr (rw (getD-set-other marks t q 1 0 (eqb-false q t n)) at h)) (test (eqb q t))
+
+  pub mark-old : (q : ℕ) → Met marks q → Met (set marks t 1) q
+  mark-old q h = ⊎-elim (λ e. subst (Met (set marks t 1)) (sym (eqb-true q t e)) mark-here) (λ n. rw (getD-set-other marks t q 1 0 (eqb-false q t n)) h) (test (eqb q t))
+
+pub unmet-less : (marks : List ℕ) (t : ℕ) → t < length marks → getD marks t 0 ≡ 0 → suc (unmet (set marks t 1)) ≡ unmet marks
+unfolding unmet keep
+unmet-less [] t l h = absurd (omega arith)
+unmet-less (x ∷ marks) zero l h = rw (eq-eqb x 0 h)
+unmet-less (x ∷ marks) (suc t) l h = go (eqb x 0) (unmet-less marks t (omega arith) h)
+  where
+    go : (b : Bool) → suc (unmet (set marks t 1)) ≡ unmet marks
+        → suc (length (cond b (x ∷ keep (λ y. eqb y 0) (set marks t 1)) (keep (λ y. eqb y 0) (set marks t 1)))) ≡ length (cond b (x ∷ keep (λ y. eqb y 0) marks) (keep (λ y. eqb y 0) marks))
+    go true e = ap suc e
+    go false e = e
+
+-- the targets of the records before `at` were met
+pub record Passed (run marks : List ℕ) (at : ℕ) : Type 0 where
+  pub among : (e : Transition) → e ∈ readRecords (drop at run) → e ∈ readRecords run
+  pub before : (e : Transition) → e ∈ readRecords run → Met marks (e .to) ⊎ (e ∈ readRecords (drop at run))
+
+pub skip-begins : (run marks : List ℕ) → Passed run marks 0
+skip-begins run marks = record { among = λ e m. m; before = λ e m. inr m }
+
+module _ (run marks : List ℕ) (at : ℕ) (p : Passed run marks at) where
+  pub skip-ended : at ≤ length run → length run - at < 5 → Skipped run marks at
+  skip-ended l h = record { within = l; among = p .among; before = p .before; here = λ m. absurd (omega arith) }
+
+  pub skip-found : at ≤ length run → getD marks (getD run (at + 4) 0) 0 ≡ 0 → Skipped run marks at
+  skip-found l z = record { within = l; among = p .among; before = p .before; here = λ m. z }
+
+  pub skip-next : 5 ≤ length run - at → (getD marks (getD run (at + 4) 0) 0 ≡ 0 → ⊥) → Passed run marks (at + 5)
+  skip-next h z =
+      record {
+        among = λ e m. p .among e (rw (records-at run at h) (List·Memᴰ·tail m));
+        before = λ e m. ⊎-elim inl (λ i. one e (rw (records-at run at h) at i)) (p .before e m);
+      }
+    where
+      one : (e : Transition) → e ∈ (recordAt run at ∷ readRecords (drop (at + 5) run)) → Met marks (e .to) ⊎ (e ∈ readRecords (drop (at + 5) run))
+      one e (List·Memᴰ·head q) = inl (subst (λ (d : Transition). Met marks (d .to)) (sym q) (omega (arith, z)))
+      one e (List·Memᴰ·tail i) = inr i
+
+pub ruleset skipLaws = (skip-begins, skip-ended, skip-found, skip-next, named-target, named-next, needs)
+
+-- one transition of those that are still to be followed
+module _ (marks stack : List ℕ) (top : ℕ) (es : List Transition) (d : Transition) (ds : List Transition) (m s : List ℕ) (e : ℕ)
+    (p : Pushed marks stack top es (d ∷ ds) m s e) where
+  pushed-met : Met m (d .to) → Pushed marks stack top es ds m s e
+  pushed-met h =
+      record {
+        room = p .room;
+        grows = p .grows;
+        total = p .total;
+        among = λ x i. p .among x (List·Memᴰ·tail i);
+        old = p .old;
+        targets = λ x i. ⊎-elim inl (one x) (p .targets x i);
+        stacked = p .stacked;
+        keeps = p .keeps;
+        sources = p .sources;
+        entered = p .entered;
+      }
+    where
+      one : (x : Transition) → x ∈ (d ∷ ds) → Met m (x .to) ⊎ (x ∈ ds)
+      one x (List·Memᴰ·head q) = inl (subst (λ (y : Transition). Met m (y .to)) (sym q) h)
+      one x (List·Memᴰ·tail i) = inr i
+
+  module _ (u : d .to < 256) (z : getD m (d .to) 0 ≡ 0) where
+    inside : d .to < length m
+    inside = omega (arith, p .room .wide)
+
+    fewer : suc (unmet (set m (d .to) 1)) ≡ unmet m
+    fewer = unmet-less m (d .to) inside z
+
+    place : e < length s
+    place = omega (arith, p .room .enough, p .room .long, fewer)
+
+    same : (j : ℕ) → j < e → getD (set s e (d .to)) j 0 ≡ getD s j 0
+    same j h = getD-set-other s e j (d .to) 0 (omega arith)
+
+    pushed-new : Pushed marks stack top es ds (set m (d .to) 1) (set s e (d .to)) (e + 1)
+    pushed-new =
+        record {
+          room = record { wide = length-set m (d .to) 1 ∙ p .room .wide; long = length-set s e (d .to) ∙ p .room .long; enough = omega (arith, p .room .enough, fewer) };
+          grows = omega (arith, p .grows);
+          total = omega (arith, p .total, fewer);
+          among = λ x i. p .among x (List·Memᴰ·tail i);
+          old = λ q h. mark-old m (d .to) inside q (p .old q h);
+          targets = λ x i. ⊎-elim (λ h. inl (mark-old m (d .to) inside (x .to) h)) (one x) (p .targets x i);
+          stacked = λ q h.
+              ⊎-elim (λ c. inr (e, p .grows, omega arith, getD-set-same s e (d .to) 0 place ∙ sym c))
+              (λ c. ⊎-elim inl (λ r. inr (r .0, r .1, below (r .2), same (r .0) (r .2) ∙ r .3)) (p .stacked q c))
+              (mark-out m (d .to) inside q h);
+          keeps = λ j h. same j (omega (arith, p .grows)) ∙ p .keeps j h;
+          sources = λ j a b. last j b (λ c. (d, p .among d (List·Memᴰ·head refl), c)) (λ c o. let r = p .sources j a c in (r .0, r .1, o ∙ r .2));
+          entered = λ j a b.
+              last j b (λ c. rw c (mark-here m (d .to) inside)) (λ c o. rw o (mark-old m (d .to) inside _ (p .entered j a c)));
+        }
+      where
+        one : (x : Transition) → x ∈ (d ∷ ds) → Met (set m (d .to) 1) (x .to) ⊎ (x ∈ ds)
+        one x (List·Memᴰ·head q) = inl (subst (λ (y : Transition). Met (set m (d .to) 1) (y .to)) (sym q) (mark-here m (d .to) inside))
+        one x (List·Memᴰ·tail i) = inr i
+
+        below : {j : ℕ} → j < e → j < e + 1
+        below h = omega arith
+
+        last : {X : Type 0} (j : ℕ) → j < e + 1 → (getD (set s e (d .to)) j 0 ≡ d .to → X) → ((j < e) → getD (set s e (d .to)) j 0 ≡ getD s j 0 → X) → X
+        last j h f g =
+            ⊎-elim (λ (c : j ≡ e). f (ap (λ (i : ℕ). getD (set s e (d .to)) i 0) c ∙ getD-set-same s e (d .to) 0 place)) (λ (c : j < e). g c (same j c))
+            (eq-or-lt-of-le (le-of h))
+          where
+            le-of : j < e + 1 → j ≤ e
+            le-of k = omega arith
+
+-- a run, record by record
+pub push-begins : (marks stack run : List ℕ) (top : ℕ) → Room marks stack top → Pushed marks stack top (readRecords run) (readRecords (drop 0 run)) marks stack top
+push-begins marks stack run top r =
+    record {
+      room = r;
+      grows = omega arith;
+      total = refl;
+      among = λ x i. i;
+      old = λ q h. h;
+      targets = λ x i. inr i;
+      stacked = λ q h. inl h;
+      keeps = λ j h. refl;
+      sources = λ j a b. absurd (omega arith);
+      entered = λ j a b. absurd (omega arith);
+    }
+
+module _ (marks stack run : List ℕ) (top at : ℕ) (m s : List ℕ) (e : ℕ) (p : Pushed marks stack top (readRecords run) (readRecords (drop at run)) m s e) where
+  pub push-ended : length run - at < 5 → Pushed marks stack top (readRecords run) [] m s e
+  push-ended h = subst (λ (ds : List Transition). Pushed marks stack top (readRecords run) ds m s e) (records-end run at h) p
+
+  module _ (h : 5 ≤ length run - at) where
+    here : Pushed marks stack top (readRecords run) (recordAt run at ∷ readRecords (drop (at + 5) run)) m s e
+    here = subst (λ (ds : List Transition). Pushed marks stack top (readRecords run) ds m s e) (records-at run at h) p
+
+    pub push-met : (getD m (getD run (at + 4) 0) 0 ≡ 0 → ⊥) → Pushed marks stack top (readRecords run) (readRecords (drop (at + 5) run)) m s e
+    push-met z = pushed-met marks stack top (readRecords run) (recordAt run at) _ m s e here (omega (arith, z))
+
+    module _ (n : Named (readRecords (drop at run))) where
+      pub push-inside : getD run (at + 4) 0 < length m
+      push-inside = omega (arith, p .room .wide, named-target run at n h)
+
+      pub push-place : getD m (getD run (at + 4) 0) 0 ≡ 0 → e < length s
+      push-place z = place marks stack top (readRecords run) (recordAt run at) _ m s e here (named-target run at n h) z
+
+      pub push-new : getD m (getD run (at + 4) 0) 0 ≡ 0
+          → Pushed marks stack top (readRecords run) (readRecords (drop (at + 5) run)) (set m (getD run (at + 4) 0) 1) (set s e (getD run (at + 4) 0)) (e + 1)
+      push-new z = pushed-new marks stack top (readRecords run) (recordAt run at) _ m s e here (named-target run at n h) z
+
+pub ruleset pushLaws = (push-begins, push-ended, push-met, push-inside, push-place, push-new, named-next, needs)

@@ -1,0 +1,108 @@
+-- The records that pass, one behind the other: the laws by which it is proved that a key decides the order of most of them.
+use Prim.Native.Nat.{ℕ, _+_, _-_, _*_, _≤_, _<_}
+use mathlib.Core.Bool.{Bool, true, false, not, cond, _&&_, or-true}
+use mathlib.Core.List.{List, [], _∷_}
+use mathlib.Core.Logic.{_⊎_, ⊎-elim}
+use mathlib.Core.Path.{_≡_, refl, sym, ap, ap₂, _∙_}
+use native.Mathlib.Nat.{eq-or-lt-of-le}
+use native.Mathlib.Omega.{arith}
+use borrow.Author.Needs.{needs}
+use borrow.Author.Tests.{lt-ltb, eq-eqb, eqb-true, eqb-false, not-false}
+use mir.Syntax.{w32}
+use mir.Val.{Fits}
+use lib.Dec.{ltb, eqb}
+use lib.ListN.{length, getD, take, drop}
+use Rattle.lists.proofs.Tests.{test, and-both, or-left, or-right, cond-no}
+use Rattle.automata.specs.Automaton.{Transition}
+use Rattle.automata.specs.Ordered.{less}
+use Rattle.automata.specs.Records.{wordsOf, readRecords}
+use Rattle.automata.specs.inner.Records.{recordAt}
+use Rattle.automata.proofs.Records.{records-at, part-record}
+use Rattle.sheets.specs.Fault.{isBad, recordFault, recordsFault, orElse}
+use Rattle.sheets.specs.inner.Passed.{Keyed, faultBehind, Passed}
+use Rattle.sheets.proofs.Checking.{five-words, part-words, in-order}
+use Rattle.sheets.proofs.Meaning.{bad-not}
+
+-- of two records that break no rule the one of the lesser key comes first
+module _ (n : ℕ) (p a : Transition) (good : isBad n p ≡ false) (fine : isBad n a ≡ false) (u : a .first < 4294967296) where
+  key-less : p .from * 4294967296 + p .first < a .from * 4294967296 + a .first → less (wordsOf p) (wordsOf a) ≡ true
+  key-less h =
+      ⊎-elim
+      (λ e. or-right (ltb (p .from) (a .from)) (eqb (p .from) (a .from) && rest) (and-both (eqb (p .from) (a .from)) rest (eq-eqb (p .from) (a .from) e) (behind (omega arith))))
+      (λ (l : p .from < a .from). or-left (ltb (p .from) (a .from)) (eqb (p .from) (a .from) && rest) (lt-ltb (p .from) (a .from) l)) (eq-or-lt-of-le below)
+    where
+      below : p .from ≤ a .from
+      below = omega arith
+
+      rest : Bool
+      rest = less (p .kind ∷ p .first ∷ p .last ∷ p .to ∷ []) (a .kind ∷ a .first ∷ a .last ∷ a .to ∷ [])
+
+      kinds : p .first < a .first → p .kind ≤ a .kind
+      kinds l =
+          ⊎-elim (λ c. let z = bad-not n a fine .sound .blank (eqb-true (a .kind) 0 c) in absurd (omega (arith, z .0)))
+          (λ c. omega (arith, eqb-false (a .kind) 0 c, bad-not n p good .sound .known)) (test (eqb (a .kind) 0))
+
+      behind : p .first < a .first → rest ≡ true
+      behind l =
+          ⊎-elim (λ (e : p .kind ≡ a .kind). rw (eq-eqb (p .kind) (a .kind) e, lt-ltb (p .first) (a .first) l) (or-true (ltb (p .kind) (a .kind))))
+          (λ (e : p .kind < a .kind). rw (lt-ltb (p .kind) (a .kind) e)) (eq-or-lt-of-le (kinds l))
+
+-- a record behind one whose key is known
+module _ (n before : ℕ) (a r : List ℕ) (k : Keyed n before a) (long : length r ≡ 5) (b : Bool) (e : b ≡ isBad n (recordAt r 0)) where
+  pub passes-bad : b ≡ true → false ≡ eqb (recordFault n a (recordAt r 0)) 0
+  unfolding recordFault
+  passes-bad z = rw (← e, z)
+
+  ordered : b ≡ false → less a r ≡ eqb (recordFault n a (recordAt r 0)) 0
+  ordered z = go (less a r) ∙ ap (λ x. eqb x 0) (sym (in-order n a r b e (less a r) long z refl))
+    where
+      go : (x : Bool) → x ≡ eqb (cond x 0 6) 0
+      go true = refl
+      go false = refl
+
+  pub passes-key : b ≡ false → ((i : ℕ) → Fits w32 (getD r i 0)) → (key : ℕ) → key ≡ getD r 0 0 * 4294967296 + getD r 2 0 → before < key → true ≡ eqb (recordFault n a (recordAt r 0)) 0
+  passes-key z u key i l =
+      sym (ap₂ less (sym (five-words a (k .long))) (sym (five-words r long)) ∙ key-less n (recordAt a 0) (recordAt r 0) (k .good) (sym e ∙ z) (omega (arith, u 2)) (omega (arith, k .is))) ∙ ordered z
+
+  pub passes-order : b ≡ false → (x : Bool) → x ≡ less a r → x ≡ eqb (recordFault n a (recordAt r 0)) 0
+  passes-order z x i = i ∙ ordered z
+
+pub ruleset passesLaws = (passes-bad, passes-key, passes-order, needs)
+
+-- one record more
+module _ (n : ℕ) (t : List ℕ) (from : ℕ) where
+  pub pass-begins : 5 ≤ length t - from → Passed n t from from
+  pass-begins h = record { further = omega arith; within = h; same = refl }
+
+  module _ (prev : ℕ) (p : Passed n t from prev) (h : 10 ≤ length t - prev) where
+    pub pass-keyed : isBad n (recordAt t prev) ≡ false → (before : ℕ) → before ≡ getD t prev 0 * 4294967296 + getD t (prev + 2) 0 → Keyed n before (take (prev + 5 - prev) (drop prev t))
+    pass-keyed g before i =
+        let w = part-words t prev (omega arith) in
+        record {
+          long = ap length w;
+          good = ap (isBad n) (part-record t prev) ∙ g;
+          is = i ∙ ap (λ (d : Transition). d .from * 4294967296 + d .first) (sym (part-record t prev));
+        }
+
+    pub pass-long : length (take (prev + 5 + 5 - (prev + 5)) (drop (prev + 5) t)) ≡ 5
+    pass-long = ap length (part-words t (prev + 5) (omega arith))
+
+    module _ (b : Bool) (e : b ≡ eqb (recordFault n (take (prev + 5 - prev) (drop prev t)) (recordAt (take (prev + 5 + 5 - (prev + 5)) (drop (prev + 5) t)) 0)) 0) (c : not b ≡ false) where
+      none : recordFault n (wordsOf (recordAt t prev)) (recordAt t (prev + 5)) ≡ 0
+      none = ap₂ (recordFault n) (sym (part-words t prev (omega arith))) (sym (part-record t (prev + 5))) ∙ eqb-true _ _ (sym e ∙ not-false b c)
+
+      pub pass-good : isBad n (recordAt t (prev + 5)) ≡ false
+      unfolding recordFault
+      pass-good = cond-no (isBad n (recordAt t (prev + 5))) 4 _ none .0
+
+      pub pass-next : Passed n t from (prev + 5)
+      unfolding faultBehind recordsFault
+      pass-next =
+          record {
+            further = omega (arith, p .further);
+            within = omega arith;
+            same = p .same ∙ ap (recordsFault n (wordsOf (recordAt t prev))) (records-at t (prev + 5) (omega arith))
+                ∙ ap (λ (x : ℕ). orElse x (recordsFault n (wordsOf (recordAt t (prev + 5))) (readRecords (drop (prev + 5 + 5) t)))) none;
+          }
+
+pub ruleset passLaws = (pass-begins, pass-keyed, pass-long, pass-good, pass-next, needs)
