@@ -1,5 +1,6 @@
 -- The laws of names in order.
 pub mod Less
+pub mod Numbers
 pub mod Searching
 pub mod Inserting
 pub mod Moving
