@@ -1,5 +1,5 @@
 -- The answers of epsilon elimination: the laws by which the functions that answer are proved.
-use Prim.Native.Nat.{ℕ, _-_, _≤_, _<_}
+use Prim.Native.Nat.{ℕ, _-_, _/_, _≤_, _<_}
 use mathlib.Core.Bool.{Bool, true, false, _||_}
 use mathlib.Core.List.{List, flatMap}
 use mathlib.Core.Path.{_≡_, sym, _∙_, ap}
@@ -7,11 +7,11 @@ use native.Mathlib.Omega.{arith}
 use borrow.Author.Needs.{needs}
 use borrow.Author.Tests.{lt-ltb, le-ltb}
 use lib.Dec.{ltb}
-use lib.ListN.{length, take, drop, length-replicate}
+use lib.ListN.{length, take, drop}
 use Rattle.lists.specs.Written.{Written}
 use Rattle.lists.proofs.Written.{written-length}
 use Rattle.automata.specs.Automaton.{states}
-use Rattle.automata.specs.WellFormed.{mostTransitions}
+use Rattle.automata.specs.Ordered.{inOrder}
 use Rattle.labels.specs.Checked as labelCheck
 use Rattle.labels.specs.Labels.{labelsFault, readLabels, writeLabels, labelCount}
 use Rattle.labels.specs.inner.Places.{LabelList}
@@ -22,6 +22,7 @@ use Rattle.output.specs.inner.Gathering.{Collected}
 use Rattle.output.specs.Made.{outputOf}
 use Rattle.output.specs.Output.{Output, Pattern, outputs, roomFirst, labelsFirst, transitionsFirst}
 use Rattle.output.specs.declared.Made.the-variants.{Lengths, Refused}
+use Rattle.output.proofs.Collecting.{small-memory, large-memory}
 use Rattle.output.proofs.Answers.{made-given, made-refused, labels-accepted, labels-passed, labels-refused, room-lacking, room-enough, room-words, room-bytes}
 use Rattle.refusal.specs.Answer.{Answer}
 use Rattle.refusal.specs.declared.InputRefusal.{InputRefusal}
@@ -35,30 +36,37 @@ use Rattle.sheets.specs.Fault.{fault}
 use Rattle.sheets.specs.Sheet.{stateCount, read, write}
 use Rattle.sheets.proofs.Accepted.{check-accepted}
 use Rattle.sheets.proofs.Checking.{sheet-passed, sheet-refused}
-use Rattle.words.proofs.Epsilons.{fresh}
 use Rattle.epsilon.specs.Eliminate.{closureRanges, eliminated, eliminatedWith, eliminateAnswer}
 use Rattle.epsilon.specs.inner.Tables.{TransitionsOf, Ready}
+use Rattle.epsilon.proofs.Gathering.{tables-closures}
 
 -- the transitions of all states are gathered
-module _ (s : List ℕ) (a : Accepted s) (buf : List ℕ) (end : ℕ) (t : Collected buf end (flatMap (closureRanges (read s)) (states (stateCount s)))) where
-  pub too-many : 10240 < end → (o l : List ℕ) (ls : List (List ℕ)) → outputOf (Refused (State Transitions)) o l ≡ outputs o l (eliminatedWith (read s) ls)
+module _ (s buf : List ℕ) (end : ℕ) (t : Collected buf end (flatMap (closureRanges (read s)) (states (stateCount s)))) where
+  pub too-many : length buf ≡ 20480 → 10240 < end → (o l : List ℕ) (ls : List (List ℕ)) → outputOf (Refused (State Transitions)) o l ≡ outputs o l (eliminatedWith (read s) ls)
   unfolding eliminatedWith transitionsFirst eliminated
-  too-many h o l ls = made-refused o l (State Transitions) _ (rw (lt-ltb 2048 _ (t .over h)))
+  too-many n h o l ls =
+      let k = t .over (omega arith) in
+      made-refused o l (State Transitions) _ (rw (lt-ltb 2048 (length (inOrder (flatMap (closureRanges (read s)) (states (stateCount s))))) (omega arith)))
 
-  few : end ≤ 10240 → length (eliminated (read s) .transitions) ≤ mostTransitions
+  few : end ≤ length buf / 2 → TransitionsOf s (take (end - 0) (drop 0 buf))
   unfolding eliminated
-  few h = omega (arith, t .listed h .behind)
+  few h = record { few = omega (arith, t .listed h .behind, t .memory .most); whole = t .listed h .words }
 
-  pub few-transitions : end ≤ 10240 → TransitionsOf s (take (end - 0) (drop 0 buf))
-  unfolding eliminated
-  few-transitions h = record { few = few h; whole = t .listed h .words }
+  pub few-small : length buf ≡ 640 → end ≤ 320 → TransitionsOf s (take (end - 0) (drop 0 buf))
+  few-small n h = few (omega arith)
 
-  pub all-written : end ≤ 10240 → (o l o′ l′ : List ℕ) (w k : ℕ) (ls : List (List ℕ)) → Written o 0 (write (eliminated (read s))) o′ w → Written l 0 (writeLabels ls) l′ k
-      → outputOf (Lengths w k) o′ l′ ≡ outputs o l (eliminatedWith (read s) ls)
-  unfolding eliminatedWith transitionsFirst
-  all-written h o l o′ l′ w k ls p q =
-      made-given o l o′ l′ w k (record { automaton = eliminated (read s); labels = ls }) p q
-      ∙ ap (outputs o l) (sym (rw (le-ltb 2048 (length (eliminated (read s) .transitions)) (few h))))
+  pub few-large : length buf ≡ 20480 → end ≤ 10240 → TransitionsOf s (take (end - 0) (drop 0 buf))
+  few-large n h = few (omega arith)
+
+pub ruleset memoryLaws = (small-memory, large-memory, tables-closures, too-many, few-small, few-large, needs)
+
+-- and written
+pub all-written : (s recs : List ℕ) → TransitionsOf s recs → (o l o′ l′ : List ℕ) (w k : ℕ) (ls : List (List ℕ)) → Written o 0 (write (eliminated (read s))) o′ w → Written l 0 (writeLabels ls) l′ k
+    → outputOf (Lengths w k) o′ l′ ≡ outputs o l (eliminatedWith (read s) ls)
+unfolding eliminatedWith transitionsFirst
+all-written s recs t o l o′ l′ w k ls p q =
+    made-given o l o′ l′ w k (record { automaton = eliminated (read s); labels = ls }) p q
+    ∙ ap (outputs o l) (sym (rw (le-ltb 2048 (length (eliminated (read s) .transitions)) (t .few))))
 
 -- the labels that are kept
 module _ (s b : List ℕ) (a : Accepted s) (h : labelsFault (stateCount s) b ≡ 0) where
@@ -68,7 +76,7 @@ module _ (s b : List ℕ) (a : Accepted s) (h : labelsFault (stateCount s) b ≡
   pub kept-count : labelCount b ≤ 256
   kept-count = omega (arith, count-read (stateCount s) b h, a .few-states)
 
-pub ruleset acceptedLaws = (fresh, length-replicate, too-many, few-transitions, all-written, kept-list, kept-count, written-length, needs)
+pub ruleset resultLaws = (all-written, kept-list, kept-count, written-length, needs)
 
 -- the check of the labels
 module _ (n : ℕ) (b : List ℕ) (r : labelled.Checked) (e : labelCheck.checkedNumber r ≡ labelsFault n b) (a : Answer Pattern) where

@@ -9,12 +9,11 @@ use borrow.Author.Tests.{eq-eqb, ne-eqb}
 use lib.Dec.{eqb}
 use lib.ListN.{length, getD, take, drop}
 use Rattle.lists.specs.Lists.{keep}
-use Rattle.automata.specs.Automaton.{Transition, states, leaving, rangesOf}
+use Rattle.automata.specs.Automaton.{Transition, leaving, rangesOf}
 use Rattle.automata.specs.Records.{readRecords, writeRecords}
 use Rattle.automata.specs.inner.Records.{recordAt}
-use Rattle.automata.proofs.States.{states-at, states-end}
 use Rattle.automata.proofs.Records.{records-at, records-end, part-record, read-write}
-use Rattle.output.specs.inner.Gathering.{Open, Gathered, Rest}
+use Rattle.output.specs.inner.Gathering.{Memory, Open, Gathered, Rest}
 use Rattle.output.specs.inner.Ordered.{recordsIn}
 use Rattle.output.proofs.Collecting.{gathered-same, rest-none, rest-begin, rest-end, rest-next, rest-over}
 use Rattle.sets.specs.Sets.{Set}
@@ -25,7 +24,8 @@ use Rattle.sets.proofs.BitSet.{at-canon, entry-at}
 use Rattle.sets.proofs.Members.{visit-start, visit-has, visit-next, from-end}
 use Rattle.sets.proofs.Sets.{has-below}
 use Rattle.sets.proofs.Stores.{put-same}
-use Rattle.sheets.specs.inner.Runs.{RunAt}
+use Rattle.sheets.specs.inner.Accepted.{Accepted}
+use Rattle.sheets.specs.inner.Runs.{RunAt, Indexed}
 use Rattle.sheets.specs.Sheet.{stateCount, read}
 use Rattle.sheets.proofs.Meaning.{read-well}
 use Rattle.sheets.proofs.Runs.{run-at}
@@ -33,11 +33,11 @@ use Rattle.words.specs.inner.Gather.{Tables}
 use Rattle.words.specs.Simulation.{closure}
 use Rattle.words.proofs.Closures.{closure-canon}
 use Rattle.words.proofs.Visiting.{member-here, member-later}
-use Rattle.epsilon.specs.Eliminate.{leavingFrom, movedTo, rangesFrom, closureRanges}
+use Rattle.epsilon.specs.Eliminate.{leavingFrom, movedTo, rangesFrom}
 use Rattle.epsilon.specs.inner.Tables.{ClosuresOf}
 
 -- one record
-module _ (buf : List ℕ) (end p : ℕ) (r : Open buf end) (e : Transition) where
+module _ (buf : List ℕ) (sorted end p : ℕ) (r : Open buf sorted end) (e : Transition) where
   moved-one : e .kind ≡ 1 → movedTo p (e ∷ []) ≡ leavingFrom p e ∷ []
   unfolding movedTo rangesOf keep
   moved-one h = rw (eq-eqb (e .kind) 1 h)
@@ -46,11 +46,11 @@ module _ (buf : List ℕ) (end p : ℕ) (r : Open buf end) (e : Transition) wher
   unfolding movedTo rangesOf keep
   moved-none h = rw (ne-eqb (e .kind) 1 h)
 
-  pub range-other : (e .kind ≡ 1 → ⊥) → Gathered buf end (recordsIn buf 0 end ++ movedTo p (e ∷ []))
-  range-other h = rw (moved-none h) (gathered-same buf end r)
+  pub range-other : (e .kind ≡ 1 → ⊥) → Gathered buf sorted end (recordsIn buf 0 end ++ movedTo p (e ∷ []))
+  range-other h = rw (moved-none h) (gathered-same buf sorted end r)
 
-  pub range-put : e .kind ≡ 1 → (m : List ℕ) (next : ℕ) → Gathered m next (recordsIn buf 0 end ++ leavingFrom p e ∷ []) → Gathered m next (recordsIn buf 0 end ++ movedTo p (e ∷ []))
-  range-put h m next g = rw (moved-one h) g
+  pub range-put : e .kind ≡ 1 → (m : List ℕ) (ahead next : ℕ) → Gathered m ahead next (recordsIn buf 0 end ++ leavingFrom p e ∷ []) → Gathered m ahead next (recordsIn buf 0 end ++ movedTo p (e ∷ []))
+  range-put h m ahead next g = rw (moved-one h) g
 
 pub ruleset rangeLaws = (range-other, range-put, needs)
 
@@ -63,50 +63,53 @@ moved-cons p e es = go (eqb (e .kind) 1)
     go true = refl
     go false = refl
 
-pub run-begins : (buf run : List ℕ) (end p : ℕ) → Open buf end → Rest buf end (movedTo p (readRecords (drop 0 run))) (recordsIn buf 0 end ++ movedTo p (readRecords run))
-run-begins buf run end p r = rest-begin buf end _ r
+pub run-begins : (buf run : List ℕ) (sorted end p : ℕ) → Open buf sorted end → Rest buf sorted end (movedTo p (readRecords (drop 0 run))) (recordsIn buf 0 end ++ movedTo p (readRecords run))
+run-begins buf run sorted end p r = rest-begin buf sorted end _ r
 
-module _ (buf run : List ℕ) (end p at : ℕ) (es : List Transition) (l : Rest buf end (movedTo p (readRecords (drop at run))) es) where
-  pub run-ended : length run - at < 5 → Gathered buf end es
+module _ (buf run : List ℕ) (sorted end p at : ℕ) (es : List Transition) (l : Rest buf sorted end (movedTo p (readRecords (drop at run))) es) where
+  pub run-ended : length run - at < 5 → Gathered buf sorted end es
   unfolding movedTo rangesOf keep
-  run-ended h = rest-end buf end es (subst (λ (x : List Transition). Rest buf end x es) (ap (movedTo p) (records-end run at h)) l)
+  run-ended h = rest-end buf sorted end es (subst (λ (x : List Transition). Rest buf sorted end x es) (ap (movedTo p) (records-end run at h)) l)
 
-  pub run-room : Open buf end
+  pub run-room : Open buf sorted end
   run-room = l .room
 
-  module _ (h : 5 ≤ length run - at) (m : List ℕ) (next : ℕ) (s : Gathered m next (recordsIn buf 0 end ++ movedTo p (recordAt (take (at + 5 - at) (drop at run)) 0 ∷ []))) where
+  module _ (h : 5 ≤ length run - at) (m : List ℕ) (ahead next : ℕ) (s : Gathered m ahead next (recordsIn buf 0 end ++ movedTo p (recordAt (take (at + 5 - at) (drop at run)) 0 ∷ []))) where
     first : List Transition
     first = movedTo p (recordAt run at ∷ [])
 
     rest : List Transition
     rest = movedTo p (readRecords (drop (at + 5) run))
 
-    split : Rest buf end (first ++ rest) es
+    split : Rest buf sorted end (first ++ rest) es
     unfolding first rest
-    split = subst (λ (x : List Transition). Rest buf end x es) (ap (movedTo p) (records-at run at h) ∙ moved-cons p (recordAt run at) _) l
+    split = subst (λ (x : List Transition). Rest buf sorted end x es) (ap (movedTo p) (records-at run at h) ∙ moved-cons p (recordAt run at) _) l
 
-    added : Gathered m next (recordsIn buf 0 end ++ first)
+    added : Gathered m ahead next (recordsIn buf 0 end ++ first)
     unfolding first
-    added = subst (λ (x : Transition). Gathered m next (recordsIn buf 0 end ++ movedTo p (x ∷ []))) (part-record run at) s
+    added = subst (λ (x : Transition). Gathered m ahead next (recordsIn buf 0 end ++ movedTo p (x ∷ []))) (part-record run at) s
 
-    pub run-next : next < 20480 → Rest m next (movedTo p (readRecords (drop (at + 5) run))) es
+    pub run-next : next < length m → Rest m ahead next (movedTo p (readRecords (drop (at + 5) run))) es
     unfolding rest
-    run-next = rest-next buf end es first rest split m next added
+    run-next = rest-next buf sorted end es first rest split m ahead next added
 
-    pub run-over : 20480 ≤ next → Gathered m next es
-    run-over = rest-over buf end es first rest split m next added
+    pub run-over : length m ≤ next → Gathered m ahead next es
+    run-over = rest-over buf sorted end es first rest split m ahead next added
 
 pub ruleset runLaws = (run-begins, run-room, run-ended, run-next, run-over, needs)
 
--- a closure, member by member; v is the row of p in the table of closures
+-- a closure; v is the row of p in the table of closures
 module _ (s c : List ℕ) (t : ClosuresOf s c) (p : ℕ) (l : p < stateCount s) where
   pub row-inside : 4 * p + 4 ≤ length c
   row-inside = omega (arith, t .long, t .accepted .few-states)
 
+  pub row-entry : setAt c (4 * p) ≡ closure (read s) p
+  unfolding closure
+  row-entry = sym (entry-at c (stateCount s) p l) ∙ ap (λ R. getD R p []) (t .closed)
+
   module _ (old v : List ℕ) (e : v ≡ putAt old 0 c (4 * p)) (o : 4 ≤ length old) where
     pub row-closure : setAt v 0 ≡ closure (read s) p
-    unfolding closure
-    row-closure = ap (λ x. setAt x 0) e ∙ put-same old 0 c (4 * p) o ∙ sym (entry-at c (stateCount s) p l) ∙ ap (λ R. getD R p []) (t .closed)
+    row-closure = ap (λ x. setAt x 0) e ∙ put-same old 0 c (4 * p) o ∙ row-entry
 
     pub row-canon : Canon (stateCount s) (setAt v 0)
     row-canon = subst (Canon (stateCount s)) (sym row-closure) (closure-canon (read s) (read-well s (t .accepted) .states) p l)
@@ -114,69 +117,35 @@ module _ (s c : List ℕ) (t : ClosuresOf s c) (p : ℕ) (l : p < stateCount s) 
 pub tables-closures : (s starts c : List ℕ) → Tables s starts c → ClosuresOf s c
 tables-closures s starts c t = record { accepted = t .accepted; long = t .long; closed = t .closed }
 
-module _ (s starts c : List ℕ) (t : Tables s starts c) (p : ℕ) (l : p < stateCount s) where
-  pub row-known : 4 * p + 4 ≤ length c
-  row-known = row-inside s c (tables-closures s starts c t) p l
+-- a set, member by member
+pub set-run : (s starts v : List ℕ) → Accepted s → Indexed s starts → Canon (stateCount s) (setAt v 0) → (q : ℕ) → q ≡ nextMember (setAt v 0) q → q < 256 → RunAt s starts q
+set-run s starts v a x n q h b = run-at s a starts q x (has-below (stateCount s) (setAt v 0) n q (visit-has (setAt v 0) (at-canon v 0) q h b))
 
-  module _ (old v : List ℕ) (e : v ≡ putAt old 0 c (4 * p)) (o : 4 ≤ length old) where
-    known : setAt v 0 ≡ closure (read s) p
-    known = row-closure s c (tables-closures s starts c t) p l old v e o
+pub set-begins : (s v : List ℕ) (p : ℕ) (buf : List ℕ) → Memory buf → (q : ℕ) → q ≡ nextMember (setAt v 0) 0 → Rest buf 0 0 (rangesFrom (read s) p (membersFrom q (setAt v 0))) (rangesFrom (read s) p (setAt v 0))
+set-begins s v p buf h q e =
+    subst (λ (S : Set). Rest buf 0 0 (rangesFrom (read s) p S) (rangesFrom (read s) p (setAt v 0))) (sym (visit-start (setAt v 0) (at-canon v 0) q e)) (rest-none buf h (rangesFrom (read s) p (setAt v 0)))
 
-    pub closure-begins : (buf : List ℕ) (end q : ℕ) → Open buf end → q ≡ nextMember (setAt v 0) 0 → Rest buf end (rangesFrom (read s) p (membersFrom q (setAt v 0))) (recordsIn buf 0 end ++ closureRanges (read s) p)
-    unfolding closureRanges
-    closure-begins buf end q r h =
-        let i : membersFrom q (setAt v 0) ≡ closure (read s) p = visit-start (setAt v 0) (at-canon v 0) q h ∙ known in
-        subst (λ (S : Set). Rest buf end (rangesFrom (read s) p S) (recordsIn buf 0 end ++ rangesFrom (read s) p (closure (read s) p))) (sym i) (rest-begin buf end (rangesFrom (read s) p (closure (read s) p)) r)
-
-    pub closure-run : (q : ℕ) → q ≡ nextMember (setAt v 0) q → q < 256 → RunAt s starts q
-    closure-run q h b = run-at s (t .accepted) starts q (t .indexed) (has-below (stateCount s) (setAt v 0) (row-canon s c (tables-closures s starts c t) p l old v e o) q (visit-has (setAt v 0) (at-canon v 0) q h b))
-
-module _ (s v : List ℕ) (p : ℕ) (buf : List ℕ) (end q : ℕ) (es : List Transition) (l : Rest buf end (rangesFrom (read s) p (membersFrom q (setAt v 0))) es) where
-  pub closure-ended : 256 ≤ q → Gathered buf end es
+module _ (s v : List ℕ) (p : ℕ) (buf : List ℕ) (sorted end q : ℕ) (es : List Transition) (l : Rest buf sorted end (rangesFrom (read s) p (membersFrom q (setAt v 0))) es) where
+  pub set-ended : 256 ≤ q → Gathered buf sorted end es
   unfolding rangesFrom flatMap
-  closure-ended h = rest-end buf end es (subst (λ (S : Set). Rest buf end (rangesFrom (read s) p S) es) (from-end (setAt v 0) (at-canon v 0) q h) l)
+  set-ended h = rest-end buf sorted end es (subst (λ (S : Set). Rest buf sorted end (rangesFrom (read s) p S) es) (from-end (setAt v 0) (at-canon v 0) q h) l)
 
-  pub closure-room : Open buf end
-  closure-room = l .room
+  pub set-room : Open buf sorted end
+  set-room = l .room
 
-  module _ (h : q ≡ nextMember (setAt v 0) q) (b : q < 256) (run : List ℕ) (e : run ≡ writeRecords (leaving (read s) q)) (m : List ℕ) (next : ℕ) (k : Gathered m next (recordsIn buf 0 end ++ movedTo p (readRecords run))) where
-    run-split : (x : ℕ) → x ≡ nextMember (setAt v 0) (q + 1) → Rest buf end (movedTo p (leaving (read s) q) ++ rangesFrom (read s) p (membersFrom x (setAt v 0))) es
+  module _ (h : q ≡ nextMember (setAt v 0) q) (b : q < 256) (run : List ℕ) (e : run ≡ writeRecords (leaving (read s) q)) (m : List ℕ) (ahead next : ℕ)
+      (k : Gathered m ahead next (recordsIn buf 0 end ++ movedTo p (readRecords run))) where
+    run-split : (x : ℕ) → x ≡ nextMember (setAt v 0) (q + 1) → Rest buf sorted end (movedTo p (leaving (read s) q) ++ rangesFrom (read s) p (membersFrom x (setAt v 0))) es
     unfolding rangesFrom flatMap
-    run-split x i = subst (λ (S : Set). Rest buf end (rangesFrom (read s) p S) es) (visit-next (setAt v 0) (at-canon v 0) q x h b i) l
+    run-split x i = subst (λ (S : Set). Rest buf sorted end (rangesFrom (read s) p S) es) (visit-next (setAt v 0) (at-canon v 0) q x h b i) l
 
-    run-added : Gathered m next (recordsIn buf 0 end ++ movedTo p (leaving (read s) q))
-    run-added = subst (λ (x : List Transition). Gathered m next (recordsIn buf 0 end ++ movedTo p x)) (ap readRecords e ∙ read-write (leaving (read s) q)) k
+    run-added : Gathered m ahead next (recordsIn buf 0 end ++ movedTo p (leaving (read s) q))
+    run-added = subst (λ (x : List Transition). Gathered m ahead next (recordsIn buf 0 end ++ movedTo p x)) (ap readRecords e ∙ read-write (leaving (read s) q)) k
 
-    pub closure-over : 20480 ≤ next → Gathered m next es
-    closure-over = rest-over buf end es _ _ (run-split _ refl) m next run-added
+    pub set-over : length m ≤ next → Gathered m ahead next es
+    set-over = rest-over buf sorted end es _ _ (run-split _ refl) m ahead next run-added
 
-    pub closure-next : (x : ℕ) → x ≡ nextMember (setAt v 0) (q + 1) → next < 20480 → Rest m next (rangesFrom (read s) p (membersFrom x (setAt v 0))) es
-    closure-next x i = rest-next buf end es _ _ (run-split x i) m next run-added
+    pub set-next : (x : ℕ) → x ≡ nextMember (setAt v 0) (q + 1) → next < length m → Rest m ahead next (rangesFrom (read s) p (membersFrom x (setAt v 0))) es
+    set-next x i = rest-next buf sorted end es _ _ (run-split x i) m ahead next run-added
 
-pub ruleset closureLaws = (row-known, closure-begins, closure-run, closure-ended, closure-room, closure-over, closure-next, member-here, member-later, needs)
-
--- all states, one after the other
-module _ (s : List ℕ) where
-  pub all-begins : (buf : List ℕ) → length buf ≡ 20480 → Rest buf 0 (flatMap (closureRanges (read s)) (drop 0 (states (stateCount s)))) (flatMap (closureRanges (read s)) (states (stateCount s)))
-  all-begins buf h = rest-none buf h _
-
-  module _ (buf : List ℕ) (end p : ℕ) (es : List Transition) (l : Rest buf end (flatMap (closureRanges (read s)) (drop p (states (stateCount s)))) es) where
-    pub all-room : Open buf end
-    all-room = l .room
-
-    pub all-ended : stateCount s ≤ p → Gathered buf end es
-    unfolding flatMap
-    all-ended h = rest-end buf end es (subst (λ (x : List ℕ). Rest buf end (flatMap (closureRanges (read s)) x) es) (states-end (stateCount s) p h) l)
-
-    module _ (h : p < stateCount s) (m : List ℕ) (next : ℕ) (k : Gathered m next (recordsIn buf 0 end ++ closureRanges (read s) p)) where
-      all-split : Rest buf end (closureRanges (read s) p ++ flatMap (closureRanges (read s)) (drop (p + 1) (states (stateCount s)))) es
-      unfolding flatMap
-      all-split = subst (λ (x : List ℕ). Rest buf end (flatMap (closureRanges (read s)) x) es) (states-at (stateCount s) p h) l
-
-      pub all-over : 20480 ≤ next → Gathered m next es
-      all-over = rest-over buf end es _ _ all-split m next k
-
-      pub all-next : next < 20480 → Rest m next (flatMap (closureRanges (read s)) (drop (p + 1) (states (stateCount s)))) es
-      all-next = rest-next buf end es _ _ all-split m next k
-
-pub ruleset allLaws = (all-begins, all-room, all-ended, all-over, all-next, needs)
+pub ruleset setLaws = (set-run, set-begins, set-ended, set-room, set-over, set-next, member-here, member-later, needs)

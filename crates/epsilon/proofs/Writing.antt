@@ -20,12 +20,11 @@ use Rattle.sets.specs.inner.BitSet.{setAt}
 use Rattle.sets.specs.inner.Words.{putAt}
 use Rattle.sheets.specs.Sheet.{stateCount, read, write}
 use Rattle.words.specs.Simulation.{closure, kindOf}
-use Rattle.words.proofs.Reading.{begin-tables}
 use Rattle.epsilon.specs.Eliminate.{closureKinds, eliminated}
 use Rattle.epsilon.specs.inner.Tables.{ClosuresOf, TransitionsOf}
 use Rattle.epsilon.proofs.Gathering.{row-inside, row-closure, row-canon}
 
-pub ruleset gatherLaws = (begin-tables, collect-all, needs)
+pub ruleset gatherLaws = (collect-all, needs)
 
 -- the accept word of a closure
 pub kind-row : (s c : List ℕ) (t : ClosuresOf s c) (p : ℕ) → p < stateCount s → (old v : List ℕ) → v ≡ putAt old 0 c (4 * p) → 4 ≤ length old → (k : ℕ) → k ≡ kindOf (read s) (setAt v 0) → k ≡ kindOf (read s) (closure (read s) p)

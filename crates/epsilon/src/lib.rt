@@ -9,103 +9,131 @@ ghost use Rattle.automata.specs.Automaton.{states};
 ghost use Rattle.automata.specs.Records.{readRecords};
 ghost use Rattle.automata.specs.inner.Records.{recordAt};
 ghost use Rattle.labels.specs.Labels.{labelsFault, readLabels};
-ghost use Rattle.output.specs.inner.Gathering.{Open, Gathered, Collected};
+ghost use Rattle.output.specs.inner.Gathering.{Memory, Open, Gathered, Collected};
 ghost use Rattle.output.specs.Made.{outputOf};
 ghost use Rattle.output.specs.inner.Ordered.{recordsIn};
 ghost use Rattle.output.specs.Output.{outputs, roomFirst, labelsFirst};
+ghost use Rattle.sets.specs.inner.BitSet.{setAt};
+ghost use Rattle.sets.specs.inner.Members.{Canon};
 ghost use Rattle.sheets.specs.inner.Accepted.{Accepted};
+ghost use Rattle.sheets.specs.inner.Runs.{Indexed};
 ghost use Rattle.sheets.specs.Sheet.{stateCount, read, write};
-ghost use Rattle.words.specs.inner.Epsilons.{Fresh};
 ghost use Rattle.words.specs.inner.Gather.{Tables};
 ghost use Rattle.words.specs.Simulation.{closure, kindOf};
-ghost use Rattle.epsilon.specs.Eliminate.{movedTo, closureRanges, closureKinds, eliminated, eliminatedWith, eliminateAnswer};
+ghost use Rattle.epsilon.specs.Eliminate.{movedTo, rangesFrom, closureRanges, closureKinds, eliminated, eliminatedWith, eliminateAnswer};
 ghost use Rattle.epsilon.specs.inner.Tables.{ClosuresOf, TransitionsOf, Ready};
+use output::Filled;
 use output::Made;
 use refusal::Refusal;
 use refusal::StateRefusal;
 
-// The record r as one of state p behind the others, if it is a range. Like the functions below it answers the place behind the records.
-fn add_range(r: &[u32], p: u32, buf: &mut [u32], end: usize) -> usize
-    requires { ⌜ (length (now r) ≡ 5) × Open (now buf) end ⌝ }
-    ensures { λ e. ⌜ Gathered (now (buf .exit)) e (recordsIn (now (buf .entry)) 0 end ++ movedTo p (recordAt (now (r .entry)) 0 ∷ [])) ⌝ }
+// The record r as one of state p behind the others, if it is a range.
+fn add_range(r: &[u32], p: u32, buf: &mut [u32], f: Filled) -> Filled
+    requires { ⌜ (length (now r) ≡ 5) × Open (now buf) (f .sorted) (f .end) ⌝ }
+    ensures { λ g. ⌜ Gathered (now (buf .exit)) (g .sorted) (g .end) (recordsIn (now (buf .entry)) 0 (f .end) ++ movedTo p (recordAt (now (r .entry)) 0 ∷ [])) ⌝ }
 {
     if r[1] != 1 {
-        return end;
+        return f;
     }
-    output::gather_record(buf, end, p, r[1], r[2], r[3], r[4])
+    output::gather_record(buf, f, p, r[1], r[2], r[3], r[4])
 }
 
 // The ranges of the run as those of state p, until there are too many.
-fn add_run(run: &[u32], p: u32, buf: &mut [u32], end: usize) -> usize
-    requires { ⌜ Open (now buf) end ⌝ }
-    ensures { λ e. ⌜ Gathered (now (buf .exit)) e (recordsIn (now (buf .entry)) 0 end ++ movedTo p (readRecords (now (run .entry)))) ⌝ }
+fn add_run(run: &[u32], p: u32, buf: &mut [u32], start: Filled) -> Filled
+    requires { ⌜ Open (now buf) (start .sorted) (start .end) ⌝ }
+    ensures { λ g. ⌜ Gathered (now (buf .exit)) (g .sorted) (g .end) (recordsIn (now (buf .entry)) 0 (start .end) ++ movedTo p (readRecords (now (run .entry)))) ⌝ }
 {
-    let mut e = end;
+    let mut f = start;
     let mut at: usize = 0;
     while 5 <= run.len() - at {
-        e = add_range(&run[at..at + 5], p, buf, e);
-        if 20480 <= e {
-            return e;
+        f = add_range(&run[at..at + 5], p, buf, f);
+        if buf.len() <= f.end {
+            return f;
         }
         at += 5;
     }
-    e
+    f
 }
 
-// The ranges of the closure of p as those of p.
-fn add_closure(
+// The ranges of the states of a set, as those of state 0.
+fn add_set(s: &[u32], starts: &[u32], set: &[u64], part: &mut [u32]) -> Filled
+    requires { ⌜ Accepted (now s) × Indexed (now s) (now starts) × Canon (stateCount (now s)) (setAt (now set) 0) × (4 ≤ length (now set)) × Memory (now part) ⌝ }
+    ensures { λ g. ⌜ Gathered (now (part .exit)) (g .sorted) (g .end) (rangesFrom (read (now (s .entry))) 0 (setAt (now (set .entry)) 0)) ⌝ }
+{
+    let mut f = Filled { sorted: 0, end: 0 };
+    let mut q = sets::next_member(set, 0);
+    while q < 256 {
+        f = add_run(sheets::run(s, starts, q as u32), 0, part, f);
+        if part.len() <= f.end {
+            return f;
+        }
+        q = sets::next_member(set, q + 1);
+    }
+    f
+}
+
+// The ranges of the closure of p as those of state 0, in order, equal ones once. In set is the closure whose ranges the part has already: states of
+// a cycle of epsilons have the same.
+fn closure_part(
     s: &[u32],
     starts: &[u32],
     closures: &[u64],
     p: u32,
-    buf: &mut [u32],
+    set: &mut [u64],
+    part: &mut [u32],
     end: usize,
 ) -> usize
-    requires { ⌜ Tables (now s) (now starts) (now closures) × (p < stateCount (now s)) × Open (now buf) end ⌝ }
-    ensures { λ e. ⌜ Gathered (now (buf .exit)) e (recordsIn (now (buf .entry)) 0 end ++ closureRanges (read (now (s .entry))) p) ⌝ }
+    requires { ⌜ Tables (now s) (now starts) (now closures) × (p < stateCount (now s)) × (4 ≤ length (now set)) × Collected (now part) end (rangesFrom (read (now s)) 0 (setAt (now set) 0)) ⌝ }
+    ensures { λ r. ⌜ (setAt (now (set .exit)) 0 ≡ closure (read (now (s .entry))) p) × Collected (now (part .exit)) r (rangesFrom (read (now (s .entry))) 0 (closure (read (now (s .entry))) p)) ⌝ }
 {
-    let mut row = [0u64; 4];
-    sets::copy_row(&mut row, closures, p as usize);
-    let mut e = end;
-    let mut q = sets::next_member(&row, 0);
-    while q < 256 {
-        e = add_run(sheets::run(s, starts, q as u32), p, buf, e);
-        if 20480 <= e {
-            return e;
-        }
-        q = sets::next_member(&row, q + 1);
+    if sets::same(closures, p as usize, set) {
+        return end;
     }
-    e
+    sets::copy_row(set, closures, p as usize);
+    let f = add_set(s, starts, set, part);
+    output::collect_records(part, f)
 }
 
-// The ranges of the closures of all states.
-fn add_closures(s: &[u32], starts: &[u32], closures: &[u64], buf: &mut [u32]) -> usize
-    requires { ⌜ Tables (now s) (now starts) (now closures) × (length (now buf) ≡ 20480) ⌝ }
-    ensures { λ e. ⌜ Gathered (now (buf .exit)) e (flatMap (closureRanges (read (now (s .entry)))) (states (stateCount (now (s .entry))))) ⌝ }
+// The ranges of the closures of all states. Those of each closure are gathered for themselves, so that equal ones are met among few.
+fn add_closures(
+    s: &[u32],
+    starts: &[u32],
+    closures: &[u64],
+    part: &mut [u32],
+    buf: &mut [u32],
+) -> Filled
+    requires { ⌜ Tables (now s) (now starts) (now closures) × Memory (now buf) × (length (now part) ≡ length (now buf)) ⌝ }
+    ensures { λ g. ⌜ Gathered (now (buf .exit)) (g .sorted) (g .end) (flatMap (closureRanges (read (now (s .entry)))) (states (stateCount (now (s .entry))))) ⌝ }
 {
     let n = s[2];
-    let mut e: usize = 0;
+    let mut set = [0u64; 4];
+    let mut end: usize = 0;
+    let mut f = Filled { sorted: 0, end: 0 };
     let mut p: u32 = 0;
     while p < n {
-        e = add_closure(s, starts, closures, p, buf, e);
-        if 20480 <= e {
-            return e;
+        end = closure_part(s, starts, closures, p, &mut set, part, end);
+        if part.len() / 2 < end {
+            return Filled {
+                sorted: 0,
+                end: buf.len(),
+            };
+        }
+        f = add_run(&part[0..end], p, buf, f);
+        if buf.len() <= f.end {
+            return f;
         }
         p += 1;
     }
-    e
+    f
 }
 
-// The closures of the sheet's states, and the ranges of them all in order, equal ones once, unless there are too many.
-fn gather(s: &[u32], closures: &mut [u64], buf: &mut [u32]) -> usize
-    requires { ⌜ Accepted (now s) × Fresh (now closures) × (length (now buf) ≡ 20480) ⌝ }
-    ensures { λ e. ⌜ ClosuresOf (now (s .entry)) (now (closures .exit)) × Collected (now (buf .exit)) e (flatMap (closureRanges (read (now (s .entry)))) (states (stateCount (now (s .entry))))) ⌝ }
+// The ranges of the closures of all states in order, equal ones once, unless there are too many.
+fn gather(s: &[u32], starts: &[u32], closures: &[u64], part: &mut [u32], buf: &mut [u32]) -> usize
+    requires { ⌜ Tables (now s) (now starts) (now closures) × Memory (now buf) × (length (now part) ≡ length (now buf)) ⌝ }
+    ensures { λ e. ⌜ Collected (now (buf .exit)) e (flatMap (closureRanges (read (now (s .entry)))) (states (stateCount (now (s .entry))))) ⌝ }
 {
-    let mut starts = [0u32; 257];
-    sheets::run_starts(s, &mut starts);
-    words::state_closures(s, closures);
-    let end = add_closures(s, &starts, closures, buf);
-    output::collect_records(buf, end)
+    let f = add_closures(s, starts, closures, part, buf);
+    output::collect_records(buf, f)
 }
 
 // The accept word of the closure of p.
@@ -145,20 +173,75 @@ fn put_sheet(s: &[u32], closures: &[u64], records: &[u32], out: &mut [u32]) -> u
     output::put_words(out, behind, records)
 }
 
+// The sheet whose records are these words, with its labels.
+fn put_result(
+    s: &[u32],
+    closures: &[u64],
+    records: &[u32],
+    labels: &[u8],
+    out: &mut [u32],
+    names: &mut [u8],
+) -> Made
+    requires { ⌜ ClosuresOf (now s) (now closures) × TransitionsOf (now s) (now records) × Ready (now s) (now out) (now names) × (labelsFault (stateCount (now s)) (now labels) ≡ 0) ⌝ }
+    ensures { λ r. ⌜ outputOf r (now (out .exit)) (now (names .exit)) ≡ outputs (now (out .entry)) (now (names .entry)) (eliminatedWith (read (now (s .entry))) (readLabels (now (labels .entry)))) ⌝ }
+{
+    let length = put_sheet(s, closures, records, out);
+    let bytes = labels::copy_all(names, labels);
+    Made::Lengths(length, bytes)
+}
+
+// Eliminates the epsilons of an accepted sheet with an accepted list of labels, in memory for as many transitions as a sheet may have.
+fn eliminate_large(
+    s: &[u32],
+    starts: &[u32],
+    closures: &[u64],
+    labels: &[u8],
+    out: &mut [u32],
+    names: &mut [u8],
+) -> Made
+    requires { ⌜ Tables (now s) (now starts) (now closures) × Ready (now s) (now out) (now names) × (labelsFault (stateCount (now s)) (now labels) ≡ 0) ⌝ }
+    ensures { λ r. ⌜ outputOf r (now (out .exit)) (now (names .exit)) ≡ outputs (now (out .entry)) (now (names .entry)) (eliminatedWith (read (now (s .entry))) (readLabels (now (labels .entry)))) ⌝ }
+{
+    let mut part = [0u32; 20480];
+    let mut buf = [0u32; 20480];
+    let end = gather(s, starts, closures, &mut part, &mut buf);
+    if 10240 < end {
+        return Made::Refused(Refusal::State(StateRefusal::Transitions));
+    }
+    put_result(s, closures, &buf[0..end], labels, out, names)
+}
+
+// The same; memory for 64 transitions is tried first.
+fn eliminate_tables(
+    s: &[u32],
+    starts: &[u32],
+    closures: &[u64],
+    labels: &[u8],
+    out: &mut [u32],
+    names: &mut [u8],
+) -> Made
+    requires { ⌜ Tables (now s) (now starts) (now closures) × Ready (now s) (now out) (now names) × (labelsFault (stateCount (now s)) (now labels) ≡ 0) ⌝ }
+    ensures { λ r. ⌜ outputOf r (now (out .exit)) (now (names .exit)) ≡ outputs (now (out .entry)) (now (names .entry)) (eliminatedWith (read (now (s .entry))) (readLabels (now (labels .entry)))) ⌝ }
+{
+    let mut part = [0u32; 640];
+    let mut buf = [0u32; 640];
+    let end = gather(s, starts, closures, &mut part, &mut buf);
+    if 320 < end {
+        return eliminate_large(s, starts, closures, labels, out, names);
+    }
+    put_result(s, closures, &buf[0..end], labels, out, names)
+}
+
 // Eliminates the epsilons of an accepted sheet with an accepted list of labels.
 fn eliminate_accepted(s: &[u32], labels: &[u8], out: &mut [u32], names: &mut [u8]) -> Made
     requires { ⌜ Ready (now s) (now out) (now names) × (labelsFault (stateCount (now s)) (now labels) ≡ 0) ⌝ }
     ensures { λ r. ⌜ outputOf r (now (out .exit)) (now (names .exit)) ≡ outputs (now (out .entry)) (now (names .entry)) (eliminatedWith (read (now (s .entry))) (readLabels (now (labels .entry)))) ⌝ }
 {
+    let mut starts = [0u32; 257];
     let mut closures = [0u64; 1024];
-    let mut buf = [0u32; 20480];
-    let end = gather(s, &mut closures, &mut buf);
-    if 10240 < end {
-        return Made::Refused(Refusal::State(StateRefusal::Transitions));
-    }
-    let length = put_sheet(s, &closures, &buf[0..end], out);
-    let bytes = labels::copy_all(names, labels);
-    Made::Lengths(length, bytes)
+    sheets::run_starts(s, &mut starts);
+    words::state_closures(s, &mut closures);
+    eliminate_tables(s, &starts, &closures, labels, out, names)
 }
 
 // Eliminates the epsilons of an accepted sheet.

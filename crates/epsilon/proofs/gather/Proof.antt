@@ -1,4 +1,4 @@
--- `gather` meets its contract: the tables are those of the sheet, and what is gathered is put in order.
+-- `gather` meets its contract: what is gathered is put in order.
 use Rattle.epsilon.proofs.Writing.{gatherLaws}
 use Rattle.epsilon.proofs.gather.Statement.{statement}
 use Rattle.epsilon.proofs.gather.Tie as tie
@@ -6,5 +6,4 @@ use Rattle.epsilon.proofs.gather.Tie as tie
 pub gather-spec : {M : Type 1} → statement M
 gather-spec =
     tie.close
-    (tie.spec (λ c. search gatherLaws) (λ c κs. search gatherLaws) (λ c κs. search gatherLaws) (λ c. search gatherLaws)
-    (λ c κs. search gatherLaws) (λ c κs. search gatherLaws) (λ c. search gatherLaws) (λ c. search gatherLaws) (λ c. search gatherLaws))
+    (tie.spec (λ c κs. search gatherLaws) (λ c κs. search gatherLaws) (λ c. search gatherLaws) (λ c. search gatherLaws) (λ c. search gatherLaws))
