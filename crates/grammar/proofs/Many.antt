@@ -1,5 +1,5 @@
 -- Laws of pieces that are read as long as a whole one can be read, free of the bound on their number.
-use Prim.Native.Nat.{ℕ, zero, suc, _+_, _-_, _*_, _≤_, _<_}
+use Prim.Native.Nat.{ℕ, zero, suc, _+_, _-_, _≤_, _<_}
 use mathlib.Core.List.{List, [], _∷_}
 use mathlib.Core.Path.{_≡_, refl, sym, _∙_, ap}
 use native.Mathlib.Omega.{arith}
@@ -46,29 +46,12 @@ module _ {X : Type 0} (p : ℕ → Found X) (n : ℕ) (a : Advances p n) where
   unfolding many
   many-nothing at e = enough n (suc n) at (omega arith) (omega arith) ∙ rw e
 
--- pieces of ten bytes or more
-tens : {X : Type 0} (p : ℕ → Found X) (n : ℕ) → ((at : ℕ) (x : X) (b : ℕ) → p at ≡ found x b → (at + 10 ≤ b) × (b ≤ n)) → (k at : ℕ) → 10 * length (many p k at .items) ≤ n - at
-unfolding many
-tens p n a zero at = omega arith
-tens {X} p n a (suc k) at = go (p at) refl (tens p n a k)
-  where
-    go : (r : Found X) → p at ≡ r → ((b : ℕ) → 10 * length (many p k b .items) ≤ n - b) → 10 * length (oneMore at r (many p k) .items) ≤ n - at
-    go nothing e h = omega arith
-    go (found x b) e h = let g = a at x b e in omega (arith, g .0, g .1, h b)
-
--- each transition takes ten bytes
-pub arrows-short : (t : List ℕ) (at : ℕ) → 10 * length (transitions t at .items) ≤ length t
-unfolding transitions
-arrows-short t at =
-    let h = tens (λ at. transition t (space t at)) (length t) (λ at e b q. let g = holds-found _ (spaced-holds t at) q in (g .1 .forward, g .1 .inside)) (length t) at in
-    omega arith
-
 module _ (t : List ℕ) where
   arrows-advance : Advances (λ at. transition t (space t at)) (length t)
-  arrows-advance at e b h = let g = holds-found _ (spaced-holds t at) h in (omega (arith, g .1 .forward), g .1 .inside)
+  arrows-advance at e b h = let g = holds-found _ (spaced-holds t at) h in (g .1 .forward, g .1 .inside)
 
   names-advance : Advances (nextName t) (length t)
-  names-advance at s b h = let g = holds-found _ (next-holds t at) h in (omega (arith, g .1 .forward), g .1 .inside)
+  names-advance at s b h = let g = holds-found _ (next-holds t at) h in (g .1 .forward, g .1 .inside)
 
   -- the answer p of `spaced_transition` at a place
   module _ (at : ℕ) (p : ArrowPiece) (told : arrowOf p ≡ transition t (space t at)) where
@@ -81,7 +64,7 @@ module _ (t : List ℕ) where
       unfolding transitions
       arrows-more = many-found _ (length t) arrows-advance at e (c .at) (sym told ∙ ap arrowOf h)
 
-      arrows-past : Past t 10 at (c .at)
+      pub arrows-past : Past t at (c .at)
       arrows-past = holds-found _ (spaced-holds t at) (sym told ∙ ap arrowOf h) .1
 
       pub arrow-drawn : Drawn t e
@@ -108,7 +91,7 @@ module _ (t : List ℕ) where
       unfolding nextNames
       names-more = many-found _ (length t) names-advance at s (c .at) (sym told ∙ ap nameOf h)
 
-      names-past : Past t 2 at (c .at)
+      names-past : Past t at (c .at)
       names-past = holds-found _ (next-holds t at) (sym told ∙ ap nameOf h) .1
 
       pub name-spelt : Spelt t s

@@ -42,9 +42,9 @@ pub holds-weaker : {X : Type 0} {Q P : X → ℕ → Type 0} {r : Found X} → H
 holds-weaker none g = none
 holds-weaker (some {x} {at} h) g = some (g x at h)
 
--- a place behind another by n bytes or more, within the text
-pub record Past (t : List ℕ) (n at b : ℕ) : Type 0 where
-  pub forward : at + n ≤ b
+-- a place behind another, within the text
+pub record Past (t : List ℕ) (at b : ℕ) : Type 0 where
+  pub forward : at < b
   pub inside : b ≤ length t
 
 module _ (t : List ℕ) (at : ℕ) where
@@ -58,7 +58,7 @@ module _ (t : List ℕ) (at : ℕ) where
   begins-long (x ∷ w) [] e = absurd (false≢true e)
   begins-long (x ∷ w) (b ∷ l) e = let h = begins-long w l (and-parts (eqb b x) (begins w l) e .1) in omega arith
 
-  token-holds : (x : ℕ) (w : List ℕ) → Holds (λ _ b. Past t (suc (length w)) at b) (token (x ∷ w) t at)
+  token-holds : (x : ℕ) (w : List ℕ) → Holds (λ _ b. Past t at b) (token (x ∷ w) t at)
   unfolding token
   token-holds x w =
       holds-cond _ (begins (x ∷ w) (drop at t)) mark (at + length (x ∷ w))
@@ -72,7 +72,7 @@ module _ (t : List ℕ) (at : ℕ) where
   unfolding isLetter
   letter-inside e h = false≢true (rw (List·getD-eq-default t 0 h) at e)
 
-  name-holds : Holds (λ s b. Spelt t s × Past t 1 at b) (name t at)
+  name-holds : Holds (λ s b. Spelt t s × Past t at b) (name t at)
   unfolding name
   name-holds =
       holds-cond _ (isLetter (getD t at 0) && leb n 64) (record { start = at; end = at + n }) (at + n) λ e.
@@ -89,7 +89,7 @@ module _ (t : List ℕ) (at : ℕ) where
       inside : (length t ≤ at → ⊥) → at < length t
       inside h = omega arith
 
-  number-holds : Holds (λ _ b. Past t 1 at b) (number t at)
+  number-holds : Holds (λ _ b. Past t at b) (number t at)
   unfolding number
   number-holds =
       holds-cond _ (ltb 0 n && leb v 4294967295) v (at + n) λ e.
@@ -107,13 +107,13 @@ module _ (t : List ℕ) (at : ℕ) where
 
 module _ (t : List ℕ) where
   -- a piece behind optional space
-  spaced-token : (x : ℕ) (w : List ℕ) (at : ℕ) → Holds (λ _ b. Past t (suc (length w)) at b) (token (x ∷ w) t (space t at))
+  spaced-token : (x : ℕ) (w : List ℕ) (at : ℕ) → Holds (λ _ b. Past t at b) (token (x ∷ w) t (space t at))
   spaced-token x w at = holds-weaker (token-holds t (space t at) x w) (λ _ b h. past-more h)
     where
-      past-more : {b : ℕ} → Past t (suc (length w)) (space t at) b → Past t (suc (length w)) at b
+      past-more : {b : ℕ} → Past t (space t at) b → Past t at b
       past-more h = let g = space-forward t at in record { forward = omega (arith, h .forward); inside = h .inside }
 
-  holds-ends : (at : ℕ) → Holds (λ r b. (r .first ≤ r .last) × Past t 3 at b) (ends t at)
+  holds-ends : (at : ℕ) → Holds (λ r b. (r .first ≤ r .last) × Past t at b) (ends t at)
   unfolding ends
   holds-ends at =
       holds-follow _ (number-holds t (space t at)) λ v a p.
@@ -122,7 +122,7 @@ module _ (t : List ℕ) where
       holds-cond _ (leb v w) (record { first = v; last = w }) c
       (λ e. let g = space-forward t at in let h = space-forward t b in (leb-true v w e, record { forward = omega (arith, p .forward, q .forward, r .forward); inside = r .inside }))
 
-  range-holds : (at : ℕ) → Holds (λ r b. (r .first ≤ r .last) × Past t 6 at b) (range t at)
+  range-holds : (at : ℕ) → Holds (λ r b. (r .first ≤ r .last) × Past t at b) (range t at)
   unfolding range
   range-holds at =
       holds-follow _ (spaced-token _ _ at) λ _ a p.
@@ -132,21 +132,21 @@ module _ (t : List ℕ) where
       some (q .0, record { forward = omega (arith, p .forward, q .1 .forward, u .forward, v .forward); inside = v .inside })
 
   -- a word and a name behind it
-  named : (x : ℕ) (w : List ℕ) (at : ℕ) → Holds (λ s b. Spelt t s × Past t (suc (suc (length w))) at b) (follow (token (x ∷ w) t (space t at)) λ _ a. name t (space t a))
+  named : (x : ℕ) (w : List ℕ) (at : ℕ) → Holds (λ s b. Spelt t s × Past t at b) (follow (token (x ∷ w) t (space t at)) λ _ a. name t (space t a))
   named x w at =
       holds-follow _ (spaced-token x w at) λ _ a p.
       holds-weaker (name-holds t (space t a)) λ s b q.
       let g = space-forward t a in (q .0, record { forward = omega (arith, p .forward, q .1 .forward); inside = q .1 .inside })
 
-  target-holds : (at : ℕ) → Holds (λ s b. Spelt t s × Past t 3 at b) (target t at)
+  target-holds : (at : ℕ) → Holds (λ s b. Spelt t s × Past t at b) (target t at)
   unfolding target
   target-holds at = named _ _ at
 
-  pub next-holds : (at : ℕ) → Holds (λ s b. Spelt t s × Past t 2 at b) (nextName t at)
+  pub next-holds : (at : ℕ) → Holds (λ s b. Spelt t s × Past t at b) (nextName t at)
   unfolding nextName
   next-holds at = named _ _ at
 
-  transition-holds : (at : ℕ) → Holds (λ e b. Drawn t e × Past t 10 at b) (transition t at)
+  pub transition-holds : (at : ℕ) → Holds (λ e b. Drawn t e × Past t at b) (transition t at)
   unfolding transition
   transition-holds at =
       holds-follow _ (name-holds t at) λ s a p.
@@ -154,7 +154,7 @@ module _ (t : List ℕ) where
       holds-follow _ (range-holds b) λ r c v.
       some (record { from-spelt = p .0; to-spelt = q .0; full = v .0 }, record { forward = omega (arith, p .1 .forward, q .1 .forward, v .1 .forward); inside = v .1 .inside })
 
-  pub spaced-holds : (at : ℕ) → Holds (λ e b. Drawn t e × Past t 10 at b) (transition t (space t at))
+  pub spaced-holds : (at : ℕ) → Holds (λ e b. Drawn t e × Past t at b) (transition t (space t at))
   spaced-holds at = holds-weaker (transition-holds (space t at)) (λ e b h. let g = space-forward t at in (h .0, record { forward = omega (arith, h .1 .forward); inside = h .1 .inside }))
 
   pub initial-holds : (at : ℕ) → Holds (λ s b. Spelt t s) (initial t at)

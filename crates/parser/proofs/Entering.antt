@@ -1,6 +1,6 @@
 -- Laws of the names and the record of one transition: a name keeps its number when others are added behind it.
 use Prim.Native.Nat.{ℕ, _≤_, _<_}
-use mathlib.Core.List.{List, [], _∷_, _++_, List·Memᴰ·head, List·Memᴰ·tail}
+use mathlib.Core.List.{List, [], _∷_, _++_, List·Memᴰ·head}
 use mathlib.Core.Path.{_≡_, refl, sym, _∙_, ap, subst}
 use native.Mathlib.Omega.{arith}
 use borrow.Author.Needs.{needs}
@@ -17,11 +17,11 @@ use Rattle.output.specs.declared.gathering.Filled.{Filled}
 use Rattle.output.specs.inner.Gathering.{Open, Held, Gathered}
 use Rattle.output.specs.inner.Ordered.{recordsIn}
 use Rattle.search.specs.Search.{index, add, meet}
-use Rattle.search.proofs.Tables.{Extends, extends-length, meet-extends, meet-in, add-known, add-new}
+use Rattle.search.proofs.Tables.{extends-length, meet-extends, meet-in, add-known, add-new}
 use Rattle.syntax.specs.Syntax.{Move}
 use Rattle.syntax.specs.Spelled.{spellMove}
 use Rattle.parser.specs.Pattern.{bothNames, transitionOf}
-use Rattle.parser.specs.inner.Arrows.{Entered, Entering, Noting, ArrowNoted, ArrowNoting}
+use Rattle.parser.specs.inner.Arrows.{Entered, Entering, Noting, ArrowNoted}
 use Rattle.parser.specs.inner.Names.{Table, namesIn, Addition}
 use Rattle.parser.specs.declared.arrows.Entry.{Entry}
 use Rattle.parser.specs.declared.arrows.Entry.the-variants.{At as EntryAt, Full as NoEntry}

@@ -7,9 +7,11 @@ use native.Mathlib.Omega.{arith}
 use borrow.Author.Needs.{needs}
 use borrow.Author.Tests.{ltb-true, ltb-false}
 use lib.Dec.{ltb}
-use lib.ListN.{length}
+use lib.ListN.{length, take, drop, replicate, length-append, length-replicate}
+use lib.Seq.{sets-eq, take-at, length-take-le}
 use Rattle.automata.specs.Automaton.{Transition}
-use Rattle.automata.specs.Ordered.{inOrder}
+use Rattle.automata.specs.Records.{readRecords}
+use Rattle.automata.proofs.Records.{length-read}
 use Rattle.grammar.specs.Grammar.{space, transition, transitions, Items}
 use Rattle.grammar.specs.Places.{spelled}
 use Rattle.grammar.specs.inner.Pieces.{arrowOf}
@@ -23,20 +25,25 @@ use Rattle.labels.specs.Labels.{sameLabel}
 use Rattle.lists.specs.Lists.{_∈_, tabulate}
 use Rattle.lists.proofs.Index.{same-decides}
 use Rattle.lists.proofs.Tests.{test}
+use Rattle.lists.specs.Written.{Written}
+use Rattle.lists.proofs.Written.{written-length}
+use Rattle.output.proofs.Halves.{inOrder-length}
 use Rattle.output.specs.declared.gathering.Filled.{Filled}
-use Rattle.output.specs.inner.Gathering.{Memory, Held, Gathered, Rest}
+use Rattle.output.specs.inner.Gathering.{Memory, Open, Held, Gathered, Rest}
 use Rattle.output.specs.inner.Ordered.{recordsIn}
-use Rattle.output.proofs.Collecting.{rest-none, rest-end, rest-next, rest-over}
+use Rattle.output.proofs.Collecting.{large-memory, rest-none, rest-end, rest-next, rest-over}
 use Rattle.search.specs.Search.{index, add, meet}
 use Rattle.search.proofs.Tables.{extends-length, meet-append, meet-extends, meet-in}
 use Rattle.syntax.specs.Syntax.{Move}
 use Rattle.syntax.specs.Spelled.{spellMove}
 use Rattle.parser.specs.Pattern.{bothNames, namesOf, transitionOf}
-use Rattle.parser.specs.inner.Arrows.{Noting, ArrowNoted, ArrowNoting, ArrowsRead}
-use Rattle.parser.specs.inner.Memory.{Zeros}
+use Rattle.parser.specs.inner.Arrows.{Noting, ArrowNoted, ArrowNoting, allNames, numbered, Going, Fitting, ArrowsRead, StoppedAt, Beginning, Continuing}
 use Rattle.parser.specs.inner.Names.{Table, namesIn, Addition, kept, full}
 use Rattle.parser.specs.inner.Places.{movesAt}
 use Rattle.parser.specs.declared.arrows.Arrows.{Arrows}
+use Rattle.parser.specs.declared.arrows.Begun.{Begun}
+use Rattle.parser.specs.declared.arrows.Begun.the-variants.{Ended, Stopped}
+use Rattle.parser.specs.declared.arrows.Stop.{Stop}
 use Rattle.parser.specs.declared.arrows.Noted.{Noted}
 use Rattle.parser.specs.declared.arrows.Noted.the-variants.{At as NotedAt, Full as NotNoted}
 use Rattle.parser.specs.declared.names.Added.{Added}
@@ -47,22 +54,24 @@ use Rattle.parser.proofs.Tables.{table-none, added-table, added-names, 
 pub below-or : (a b : ℕ) → (a < b) ⊎ (b ≤ a)
 below-or a b = ⊎-elim (λ t. inl (ltb-true a b t)) (λ t. inr (ltb-false a b t)) (test (ltb a b))
 
--- all names, where ls come before those of the transitions from a place on
-unfoldable pub allNames : List ℕ → ℕ → List (List ℕ) → List (List ℕ)
-allNames text at ls = meet sameLabel (namesOf (movesAt text at)) ls
+-- belongs to crate output: the records before end
+pub records-count : (buf : List ℕ) (sorted end : ℕ) → Open buf sorted end → length (recordsIn buf 0 end) ≡ end / 5
+unfolding recordsIn
+records-count buf sorted end o =
+    length-read (end / 5) (take (end - 0) (drop 0 buf)) (let n = length-take-le (end - 0) (drop 0 buf) (omega (arith, o .packed .inside)) in omega (arith, o .packed .whole))
 
--- the transitions from a place on between the numbers of these names
-unfoldable pub numbered : List ℕ → ℕ → List (List ℕ) → List Transition
-numbered text at ls = map (transitionOf ls) (movesAt text at)
+-- a record more in a memory that is not filled to its half
+note-few : (old new : List ℕ) (f g : Filled) (e : Transition) → Held old (f .sorted) (f .end) → f .end < length old / 2 → Noting old f e new g → g .end < length new
+note-few old new f g e h l n = ⊎-elim (λ (k : g .end < length new). k) (λ (k : length new ≤ g .end). absurd (crowded k)) (below-or (g .end) (length new))
+  where
+    o : Open old (f .sorted) (f .end)
+    o = h .room (omega arith)
 
--- the transitions from start on are read up to a place
-pub record Going (text : List ℕ) (start : ℕ) (ls : List (List ℕ)) (t buf : List ℕ) (at n : ℕ) (f : Filled) : Type 0 where
-  pub table : Table text t n
-  pub place : transitions text at .behind ≡ transitions text start .behind
-  pub names : allNames text at (namesIn text t n) ≡ allNames text start ls
-  pub held : Held buf (f .sorted) (f .end)
-  pub left : f .end < length buf → Rest buf (f .sorted) (f .end) (numbered text at (allNames text start ls)) (numbered text start (allNames text start ls))
-  pub over : length buf ≤ f .end → length buf / 10 < length (inOrder (numbered text start (allNames text start ls)))
+    crowded : length new ≤ g .end → ⊥
+    crowded k =
+        let x = n .more (omega arith) .over k in
+        let y = inOrder-length (recordsIn old 0 (f .end) ++ e ∷ []) in
+        omega (arith, n .long, length-append (recordsIn old 0 (f .end)) (e ∷ []), records-count old (f .sorted) (f .end) o, o .packed .whole, o .packed .memory .pairs)
 
 pub going-begin : (text t buf : List ℕ) (at n : ℕ) → Table text t n → Memory buf → Going text at (namesIn text t n) t buf at n (record { sorted = 0; end = 0 })
 going-begin text t buf at n k h =
@@ -104,15 +113,16 @@ module _ (text : List ℕ) (start : ℕ) (ls : List (List ℕ)) (t buf : List �
           (λ (l : length buf ≤ f .end). record { held = g .held; same = λ k. absurd (omega arith); over = λ k. g .over k })
           (below-or (f .end) (length buf))
 
-      pub going-ended : ArrowsRead text start ls t buf (record { behind = record { at = at }; added = Kept n; filled = f })
+      pub going-ended : Fitting buf f → ArrowsRead text start ls t buf (record { behind = record { at = at }; added = Kept n; filled = f })
       unfolding allNames numbered
-      going-ended =
+      going-ended u =
           record {
             behind = sym (ap (λ (i : Items Arrow). i .behind) ended) ∙ g .place;
             names = kept (g .table) ended-names;
             gathered = λ k e.
                 let q : n ≡ k = cc in
                 subst (λ (v : ℕ). Gathered buf (f .sorted) (f .end) (map (transitionOf (namesIn text t v)) (movesAt text start))) q (rw ended-names ended-gathered);
+            fitting = λ k e. u;
           }
 
     module _ (e : Arrow) (next : Cursor) (h : p ≡ ArrowRead e next) (m new : List ℕ) (r : Noted)
@@ -138,6 +148,7 @@ module _ (text : List ℕ) (start : ℕ) (ls : List (List ℕ)) (t buf : List �
             behind = b ∙ moved-place;
             names = full (omega (arith, ap length moved-names));
             gathered = λ k z. let y : _≡_ {A = ℕ} 0 1 = cc in absurd (omega arith);
+            fitting = λ k z. let y : _≡_ {A = ℕ} 0 1 = cc in absurd (omega arith);
           }
 
       module _ (u : ℕ) (d : Filled) (q : r ≡ NotedAt u d) where
@@ -184,7 +195,134 @@ module _ (text : List ℕ) (start : ℕ) (ls : List (List ℕ)) (t buf : List �
                   (λ (o : length buf ≤ f .end). let z = g .over o in omega (arith, noted .noting .long)) (below-or (f .end) (length buf));
             }
 
-pub ruleset goingLaws = (going-begin, going-table, going-held, going-ended, going-full, going-next, arrows-less, arrow-drawn, needs)
+        pub going-room : f .end < length buf / 2 → d .end < length new
+        going-room l = note-few buf new f d _ (g .held) l (noted .noting)
+
+  pub going-stopped : f .end < length buf → StoppedAt text start ls t buf (record { cursor = record { at = at }; count = n; filled = f })
+  going-stopped l = record { going = g; room = l }
+
+pub room-begin : (buf : List ℕ) → Memory buf → 0 < length buf
+room-begin buf h = omega (arith, h .some)
+
+pub half-fitting : (buf : List ℕ) (f : Filled) → f .end < length buf / 2 → Fitting buf f
+half-fitting buf f l = record { short = λ k. omega arith }
+
+pub ruleset goingLaws = (going-begin, going-table, going-held, going-ended, going-full, going-next, going-room, going-stopped, room-begin, half-fitting, arrows-less, arrow-drawn, needs)
+
+-- whatever was read with t₀ and buf₀ up to the place at₀ is read up to the place at
+pub record Carrying (text t₀ buf₀ : List ℕ) (at₀ n₀ : ℕ) (f₀ : Filled) (t buf : List ℕ) (at n : ℕ) (f : Filled) : Type 0 where
+  pub table : Table text t n
+  pub held : Held buf (f .sorted) (f .end)
+  pub large : length buf ≡ 20480
+  pub all : (start : ℕ) (ls : List (List ℕ)) → Going text start ls t₀ buf₀ at₀ n₀ f₀ → Going text start ls t buf at n f
+
+pub carry-begin : (text t buf : List ℕ) (at n : ℕ) (f : Filled) → Table text t n → Held buf (f .sorted) (f .end) → length buf ≡ 20480 → Carrying text t buf at n f t buf at n f
+carry-begin text t buf at n f k h l = record { table = k; held = h; large = l; all = λ start ls g. g }
+
+module _ (text t₀ buf₀ : List ℕ) (at₀ n₀ : ℕ) (f₀ : Filled) (t buf : List ℕ) (at n : ℕ) (f : Filled) (g : Carrying text t₀ buf₀ at₀ n₀ f₀ t buf at n f) where
+  pub carry-table : Table text t n
+  carry-table = g .table
+
+  pub carry-held : Held buf (f .sorted) (f .end)
+  carry-held = g .held
+
+  module _ (p : ArrowPiece) (told : arrowOf p ≡ transition text (space text at)) where
+    pub carry-ended : p ≡ NoArrow → Continuing text t₀ buf₀ at₀ n₀ f₀ t buf (record { behind = record { at = at }; added = Kept n; filled = f })
+    carry-ended h = record { all = λ start ls i. going-ended text start ls t buf at n f (g .all start ls i) p told h (record { short = λ k. absurd (omega (arith, g .large)) }) }
+
+    module _ (e : Arrow) (next : Cursor) (h : p ≡ ArrowRead e next) (m new : List ℕ) (r : Noted)
+        (a : ArrowNoting text (spellMove text e) (namesIn text t n) m buf f new r) where
+      pub carry-full : r ≡ NotNoted → (c : Cursor) → c .at ≡ transitions text (next .at) .behind → Continuing text t₀ buf₀ at₀ n₀ f₀ m new (record { behind = c; added = Full; filled = f })
+      carry-full q c b = record { all = λ start ls i. going-full text start ls t buf at n f (g .all start ls i) p told e next h m new r a q c b }
+
+      pub carry-next : (u : ℕ) (d : Filled) → r ≡ NotedAt u d → Carrying text t₀ buf₀ at₀ n₀ f₀ m new (next .at) u d
+      carry-next u d q =
+          let k = noted-at _ _ _ _ _ _ _ r a u d q in
+          record {
+            table = k .table;
+            held = k .noting .held;
+            large = k .noting .long ∙ g .large;
+            all = λ start ls i. going-next text start ls t buf at n f (g .all start ls i) p told e next h m new r a u d q;
+          }
+
+pub ruleset carryLaws = (carry-begin, carry-table, carry-held, carry-ended, carry-full, carry-next, arrows-less, arrow-drawn, needs)
+
+-- the records are copied to the front of a larger memory
+module _ (small : List ℕ) (f : Filled) (o : Open small (f .sorted) (f .end)) (big m : List ℕ) (r : ℕ) (k : Memory big) (q : length small ≤ length big)
+    (w : Written big 0 (take (f .end - 0) (drop 0 small)) m r) where
+  copied-long : length m ≡ length big
+  copied-long = written-length big m _ 0 r w
+
+  copied-words : take (f .end - 0) (drop 0 m) ≡ take (f .end - 0) (drop 0 small)
+  copied-words =
+      let n : length (take (f .end - 0) (drop 0 small)) ≡ f .end - 0 = length-take-le (f .end - 0) (drop 0 small) (omega (arith, o .packed .inside)) in
+      ap (λ (l : List ℕ). take (f .end - 0) l) (w .stored ∙ sets-eq (take (f .end - 0) (drop 0 small)) big 0 (omega (arith, o .packed .inside))) ∙ take-at (take (f .end - 0) (drop 0 small)) _ (f .end - 0) n
+
+  copied : recordsIn m 0 (f .end) ≡ recordsIn small 0 (f .end)
+  unfolding recordsIn
+  copied = ap readRecords copied-words
+
+  copied-memory : Memory m
+  copied-memory = record { pairs = omega (arith, k .pairs, copied-long); some = omega (arith, k .some, copied-long); most = omega (arith, k .most, copied-long) }
+
+  copied-open : Open m 0 (f .end)
+  copied-open =
+      record {
+        packed = record {
+          memory = copied-memory;
+          order = rest-none m copied-memory [] .room .packed .order;
+          front = omega arith;
+          inside = omega (arith, o .packed .inside, copied-long);
+          whole = o .packed .whole;
+        };
+        few = omega (arith, o .few, copied-long);
+      }
+
+  pub moved-held : Held m 0 (f .end)
+  moved-held = record { memory = copied-memory; room = λ l. copied-open }
+
+  pub moved-going : (text : List ℕ) (start : ℕ) (ls : List (List ℕ)) (t : List ℕ) (at n : ℕ) → Going text start ls t small at n f → Going text start ls t m at n (record { sorted = 0; end = f .end })
+  moved-going text start ls t at n g =
+      record {
+        table = g .table;
+        place = g .place;
+        names = g .names;
+        held = moved-held;
+        left = λ l. record { room = copied-open; left = rw copied (g .left (o .few) .left) };
+        over = λ l. absurd (omega (arith, copied-open .few));
+      }
+
+-- the reading goes on with the largest memory
+module _ (text : List ℕ) (at : ℕ) (ls : List (List ℕ)) (t small : List ℕ) (s : Stop) (a : StoppedAt text at ls t small s) (m : List ℕ) (r : ℕ)
+    (w : Written (replicate {A = ℕ} 20480 0) 0 (take (s .filled .end - 0) (drop 0 small)) m r) where
+  abbrev big : List ℕ
+  big = replicate {A = ℕ} 20480 0
+
+  opened : Open small (s .filled .sorted) (s .filled .end)
+  opened = a .going .held .room (a .room)
+
+  smaller : length small ≤ length big
+  smaller = omega (arith, opened .packed .memory .most, length-replicate {A = ℕ} 20480 0)
+
+  pub more-table : Table text t (s .count)
+  more-table = a .going .table
+
+  pub more-held : Held m 0 (s .filled .end)
+  more-held = moved-held small (s .filled) opened big m r large-memory smaller w
+
+  pub more-long : length m ≡ 20480
+  more-long = written-length big m _ 0 r w ∙ length-replicate {A = ℕ} 20480 0
+
+  pub more-read : (u new : List ℕ) (q : Arrows) → Continuing text t m (s .cursor .at) (s .count) (record { sorted = 0; end = s .filled .end }) u new q → ArrowsRead text at ls u new q
+  more-read u new q c = c .all at ls (moved-going small (s .filled) opened big m r large-memory smaller w text at ls t (s .cursor .at) (s .count) (a .going))
+
+-- what the answer of `read_states` says
+module _ (text : List ℕ) (at : ℕ) (ls : List (List ℕ)) (t buf : List ℕ) (r : Begun) (a : Beginning text at ls t buf r) where
+  pub begun-ended : (x : Arrows) → r ≡ Ended x → ArrowsRead text at ls t buf x
+  begun-ended x e = subst (Beginning text at ls t buf) e a
+
+  pub begun-stopped : (s : Stop) → r ≡ Stopped s → StoppedAt text at ls t buf s
+  begun-stopped s e = subst (Beginning text at ls t buf) e a
 
 -- the name of the initial state in an empty table
 module _ (text b m : List ℕ) (x : Span) (r : Added) (a : Addition text (add sameLabel (spelled text x) (namesIn text b 0)) m r) where
@@ -192,10 +330,10 @@ module _ (text b m : List ℕ) (x : Span) (r : Added) (a : Addition text (add sa
   unfolding add namesIn tabulate index
   one-name = refl
 
-  pub start-full : r ≡ Full → (at : ℕ) (buf : List ℕ) (q : Arrows) → ArrowsRead text at (spelled text x ∷ []) m buf q
+  pub start-full : r ≡ Full → (at : ℕ) (buf : List ℕ) (q : Begun) → Beginning text at (spelled text x ∷ []) m buf q
   start-full e at buf q = let h = added-full _ _ m r a e in absurd (omega (arith, ap length one-name))
 
-  pub start-kept : (n : ℕ) → r ≡ Kept n → (at : ℕ) (o buf : List ℕ) (q : Arrows) → ArrowsRead text at (namesIn text m n) o buf q → ArrowsRead text at (spelled text x ∷ []) o buf q
-  start-kept n e at o buf q h = subst (λ (ls : List (List ℕ)). ArrowsRead text at ls o buf q) (added-names _ _ m r a n e ∙ one-name) h
+  pub start-kept : (n : ℕ) → r ≡ Kept n → (at : ℕ) (o buf : List ℕ) (q : Begun) → Beginning text at (namesIn text m n) o buf q → Beginning text at (spelled text x ∷ []) o buf q
+  start-kept n e at o buf q h = subst (λ (ls : List (List ℕ)). Beginning text at ls o buf q) (added-names _ _ m r a n e ∙ one-name) h
 
 pub ruleset startLaws = (table-none, start-full, start-kept, added-table, needs)

@@ -8,9 +8,9 @@ use native.Mathlib.Omega.{arith}
 use borrow.Author.Needs.{needs}
 use borrow.Author.Tests.{le-ltb, lt-ltb}
 use lib.Dec.{ltb}
-use lib.ListN.{length, take, drop, replicate, length-map, length-take, length-drop, length-replicate}
+use lib.ListN.{length, take, drop, length-map, length-take, length-drop}
 use lib.Seq.{length-take-le}
-use Rattle.grammar.specs.Grammar.{Found, Told, transitions, nextNames}
+use Rattle.grammar.specs.Grammar.{Found, Told, nextNames}
 use Rattle.grammar.specs.Places.{spelled}
 use Rattle.grammar.specs.inner.Parts.{opening, closing, toldFrom}
 use Rattle.grammar.specs.inner.Pieces.{nameOf, acceptingOf}
@@ -22,7 +22,6 @@ use Rattle.grammar.specs.declared.tokens.NamePiece.the-variants.{Read as NameRe
 use Rattle.grammar.specs.declared.pieces.AcceptingPiece.{AcceptingPiece}
 use Rattle.grammar.specs.declared.pieces.AcceptingPiece.the-variants.{Read as AcceptingRead, Nothing as NoAccepting}
 use Rattle.grammar.specs.declared.text.Layout.{Layout}
-use Rattle.grammar.proofs.Many.{arrows-short}
 use Rattle.grammar.proofs.Parts.{opens-nothing, opens-found, start-spelt, closes-nothing, closes-found, first-spelt}
 use Rattle.lists.specs.Written.{Written}
 use Rattle.lists.proofs.Written.{written-append}
@@ -33,6 +32,7 @@ use Rattle.labels.specs.Labels.{writeLabels, sameLabel}
 use Rattle.output.proofs.Answers.{room-lacking, room-enough, room-words, room-bytes}
 use Rattle.output.proofs.Halves.{inOrder-length}
 use Rattle.output.specs.declared.gathering.Filled.{Filled}
+use Rattle.output.specs.inner.Ordered.{recordsIn}
 use Rattle.output.specs.inner.Gathering.{Held, Gathered, Collected, Settled}
 use Rattle.output.specs.Output.{Pattern, roomFirst, statesFirst, transitionsFirst}
 use Rattle.refusal.specs.Answer.{given}
@@ -41,10 +41,10 @@ use Rattle.refusal.specs.declared.StateRefusal.the-variants.{OutputLength, Stat
 use Rattle.refusal.specs.declared.Refusal.the-variants.{Input, State}
 use Rattle.search.specs.Search.{meet}
 use Rattle.sheets.specs.Sheet.{write}
-use Rattle.syntax.specs.Spelled.{spellMove, spell}
+use Rattle.syntax.specs.Spelled.{spell}
 use Rattle.parser.specs.inner.Accepts.{markAll}
-use Rattle.parser.specs.inner.Arrows.{ArrowsRead}
-use Rattle.parser.specs.inner.Memory.{Zeros, Suits}
+use Rattle.parser.specs.inner.Arrows.{Fitting, ArrowsRead}
+use Rattle.parser.specs.inner.Memory.{Zeros}
 use Rattle.parser.specs.inner.Names.{Table, namesIn}
 use Rattle.parser.specs.Parsed.{Output, parsed, parsedOf}
 use Rattle.parser.specs.inner.Records.{Recorded}
@@ -54,7 +54,7 @@ use Rattle.parser.specs.declared.Parsed.the-variants.{Read, Refused}
 use Rattle.parser.specs.declared.arrows.Arrows.{Arrows}
 use Rattle.parser.specs.declared.names.Added.the-variants.{Kept, Full}
 use Rattle.parser.proofs.Finding.{names-count}
-use Rattle.parser.proofs.Going.{below-or}
+use Rattle.parser.proofs.Going.{below-or, records-count}
 use Rattle.parser.proofs.Marking.{marks-words}
 use Rattle.parser.proofs.Tables.{added-table, added-names, added-full}
 
@@ -106,15 +106,17 @@ module _ (t : List ℕ) (l : Layout) (ls : List (List ℕ)) (old : List ℕ) (f 
   a : Collected buf end (map (transitionOf ls) (movesAt t (l .arrows .at)))
   a = s .all _ g
 
-  -- where the memory is not the largest, the text is too short for that many transitions
-  many : Suits (length t) (length old) → length buf ≡ length old → length buf / 2 < end → 2048 < length (transitionsAt t l ls)
+  -- where the memory is not the largest, no more transitions are gathered than half of it has room for
+  many : Fitting old f → length buf ≡ length old → length buf / 2 < end → 2048 < length (transitionsAt t l ls)
   many u z h =
-      let x = inOrder-length (map (transitionOf ls) (movesAt t (l .arrows .at))) in
-      let y : length (map (transitionOf ls) (movesAt t (l .arrows .at))) ≡ length (transitions t (l .arrows .at) .items) = length-map (movesAt t (l .arrows .at)) (transitionOf ls) ∙ length-map (transitions t (l .arrows .at) .items) (spellMove t) in
-      ⊎-elim (λ (k : length buf < 20480). absurd (omega (arith, a .over h, arrows-short t (l .arrows .at), u .short (omega arith)))) (λ (k : 20480 ≤ length buf). omega (arith, a .over h))
-      (below-or (length buf) 20480)
+      ⊎-elim (λ (k : length buf < 20480). let m = u .short (omega arith) in absurd (crowded (omega (arith, g .held .memory .some)) m)) (λ (k : 20480 ≤ length buf). omega (arith, a .over h)) (below-or (length buf) 20480)
+    where
+      crowded : f .end < length old → f .end ≤ length old / 2 → ⊥
+      crowded r k =
+          let x = inOrder-length (recordsIn old 0 (f .end)) in
+          omega (arith, a .over h, z, ap length (g .same r), records-count old (f .sorted) (f .end) (g .held .room r))
 
-  pub over-22 : Suits (length t) (length old) → length buf ≡ length old → length buf / 2 < end → (o n : List ℕ) (c : ℕ) → parsedOf (Refused (State Transitions)) o n ≡ parsed o n (fewTransitions (patternAt t l ls) c)
+  pub over-22 : Fitting old f → length buf ≡ length old → length buf / 2 < end → (o n : List ℕ) (c : ℕ) → parsedOf (Refused (State Transitions)) o n ≡ parsed o n (fewTransitions (patternAt t l ls) c)
   unfolding parsed fewTransitions transitionsFirst automatonOf spell
   over-22 u z h o n c = sym (rw (lt-ltb 2048 (length (transitionsAt t l ls)) (many u z h)))
 
@@ -161,6 +163,9 @@ module _ (t : List ℕ) (x : Span) (arrows : Cursor) (b buf : List ℕ) (r : Arr
       pub states-gathered : Gathered buf (r .filled .sorted) (r .filled .end) (map (transitionOf (namesIn t b i)) (movesAt t (arrows .at)))
       states-gathered = a .gathered i f
 
+      pub states-fitting : Fitting buf (r .filled)
+      states-fitting = a .fitting i f
+
       pub within-21 : (o n : List ℕ) (y : Output) → y ≡ parsed o n (fewTransitions (patternAt t (record { initial = x; arrows = arrows; first = first; more = more }) (namesIn t b i)) (c .at))
           → y ≡ parsed o n (meaning t (toldFrom t x (arrows .at)))
       unfolding meant statesFirst patternOf automatonOf
@@ -184,18 +189,8 @@ module _ (t o n : List ℕ) (f : Bool) (room : f ≡ (ltb (length o) 10500 || lt
     unfolding parse
     text-read x c e y q = q ∙ sym (ap (parsed o n) (room-enough o n (parse t) f room h ∙ ap (meaning t) (opens-found t p told x c e)))
 
--- the memory is as long as before
-pub suits-kept : (n : ℕ) (old new : List ℕ) → Suits n (length old) → length new ≡ length old → Suits n (length new)
-suits-kept n old new u e = rw e u
-
-pub suits-large : (n : ℕ) → Suits n (length (replicate {A = ℕ} 20480 0))
-suits-large n = record { short = λ h. absurd (omega (arith, length-replicate {A = ℕ} 20480 0)) }
-
-pub suits-small : (n : ℕ) → n ≤ 640 → Suits n (length (replicate {A = ℕ} 640 0))
-suits-small n h = record { short = λ k. omega (arith, length-replicate {A = ℕ} 640 0) }
-
 pub ruleset recordedLaws = (over-22, few-22, within-22, gathered-held, needs)
 
-pub ruleset closedLaws = (open-8, laid, over-21, states-table, states-gathered, within-21, needs)
+pub ruleset closedLaws = (open-8, laid, over-21, states-table, states-gathered, states-fitting, within-21, needs)
 
 pub ruleset textLaws = (over-20, outside-8, start-spelt, text-read, room-words, room-bytes, needs)

@@ -1,11 +1,13 @@
 // The transitions of a text, read once: the names of their states go into the table, and their records, between the numbers that the names have there,
-// into lent memory. A name keeps its number when others are added behind it.
+// into lent memory. A name keeps its number when others are added behind it. The memory is small as long as it is enough.
 ghost use mathlib.Core.List.{[], _∷_};
+ghost use mathlib.Core.Path.{_≡_};
+ghost use lib.ListN.{length};
 ghost use Rattle.grammar.specs.Places.{spelled};
 ghost use Rattle.grammar.specs.inner.Places.{Spelt, Drawn};
 ghost use Rattle.output.specs.inner.Gathering.{Memory, Held};
 ghost use Rattle.syntax.specs.Spelled.{spellMove};
-ghost use Rattle.parser.specs.inner.Arrows.{Entering, Noting, ArrowNoting, ArrowsRead};
+ghost use Rattle.parser.specs.inner.Arrows.{Entering, Noting, ArrowNoting, Beginning, Continuing};
 ghost use Rattle.parser.specs.inner.Memory.{Zeros};
 ghost use Rattle.parser.specs.inner.Names.{Table, namesIn};
 use crate::names::Added;
@@ -32,6 +34,19 @@ pub struct Arrows {
     pub behind: Cursor,
     pub added: Added,
     pub filled: Filled,
+}
+
+// Where the reading of the transitions stopped: the cursor, how many names the table has, and how far the memory is filled.
+pub struct Stop {
+    pub cursor: Cursor,
+    pub count: usize,
+    pub filled: Filled,
+}
+
+// The answer of reading transitions with a small memory: all were read, or half of the memory is filled.
+pub enum Begun {
+    Ended(Arrows),
+    Stopped(Stop),
 }
 
 // The number of the name that stands in the text, which goes behind the others unless it is one of them.
@@ -75,14 +90,72 @@ fn note_arrow(text: &[u8], e: Arrow, t: &mut [usize], n: usize, buf: &mut [u32],
     Noted::At(k, next)
 }
 
-// The names and the records of the transitions from a cursor on. Where the names are too many the others are only read.
-fn read_arrows(text: &[u8], c: Cursor, t: &mut [usize], n: usize, buf: &mut [u32]) -> Arrows
+// The names and the records of the transitions from a cursor on, until half of the memory is filled. Where the names are too many the others are only
+// read.
+fn read_first(text: &[u8], c: Cursor, t: &mut [usize], n: usize, buf: &mut [u32]) -> Begun
     requires { ⌜ Table (now text) (now t) n × Memory (now buf) ⌝ }
-    ensures { λ r. ⌜ ArrowsRead (now (text .entry)) (c .at) (namesIn (now (text .entry)) (now (t .entry)) n) (now (t .exit)) (now (buf .exit)) r ⌝ }
+    ensures { λ r. ⌜ Beginning (now (text .entry)) (c .at) (namesIn (now (text .entry)) (now (t .entry)) n) (now (t .exit)) (now (buf .exit)) r ⌝ }
 {
     let mut at = c.at;
     let mut count = n;
     let mut filled = Filled { sorted: 0, end: 0 };
+    while filled.end < buf.len() / 2 {
+        let ArrowPiece::Read(e, next) = grammar::spaced_transition(text, Cursor { at }) else {
+            return Begun::Ended(Arrows {
+                behind: Cursor { at },
+                added: Added::Kept(count),
+                filled,
+            });
+        };
+        let Noted::At(more, last) = note_arrow(text, e, t, count, buf, filled) else {
+            let behind = grammar::transitions(text, next);
+            return Begun::Ended(Arrows {
+                behind,
+                added: Added::Full,
+                filled,
+            });
+        };
+        count = more;
+        filled = last;
+        at = next.at;
+    }
+    Begun::Stopped(Stop {
+        cursor: Cursor { at },
+        count,
+        filled,
+    })
+}
+
+// The same behind the name of the initial state, which comes first.
+pub fn read_states(text: &[u8], x: Span, c: Cursor, t: &mut [usize], buf: &mut [u32]) -> Begun
+    requires { ⌜ Spelt (now text) x × Zeros 1024 (now t) × Memory (now buf) ⌝ }
+    ensures { λ r. ⌜ Beginning (now (text .entry)) (c .at) (spelled (now (text .entry)) x ∷ []) (now (t .exit)) (now (buf .exit)) r ⌝ }
+{
+    let Added::Kept(n) = crate::names::add_name(text, t, 0, x) else {
+        return Begun::Ended(Arrows {
+            behind: c,
+            added: Added::Full,
+            filled: Filled { sorted: 0, end: 0 },
+        });
+    };
+    read_first(text, c, t, n, buf)
+}
+
+// The names and the records of the other transitions with the largest memory.
+pub fn read_rest(
+    text: &[u8],
+    c: Cursor,
+    t: &mut [usize],
+    n: usize,
+    buf: &mut [u32],
+    f: Filled,
+) -> Arrows
+    requires { ⌜ Table (now text) (now t) n × Held (now buf) (f .sorted) (f .end) × (length (now buf) ≡ 20480) ⌝ }
+    ensures { λ r. ⌜ Continuing (now (text .entry)) (now (t .entry)) (now (buf .entry)) (c .at) n f (now (t .exit)) (now (buf .exit)) r ⌝ }
+{
+    let mut at = c.at;
+    let mut count = n;
+    let mut filled = f;
     loop {
         let ArrowPiece::Read(e, next) = grammar::spaced_transition(text, Cursor { at }) else {
             return Arrows {
@@ -103,19 +176,4 @@ fn read_arrows(text: &[u8], c: Cursor, t: &mut [usize], n: usize, buf: &mut [u32
         filled = last;
         at = next.at;
     }
-}
-
-// The same behind the name of the initial state, which comes first.
-pub fn read_states(text: &[u8], x: Span, c: Cursor, t: &mut [usize], buf: &mut [u32]) -> Arrows
-    requires { ⌜ Spelt (now text) x × Zeros 1024 (now t) × Memory (now buf) ⌝ }
-    ensures { λ r. ⌜ ArrowsRead (now (text .entry)) (c .at) (spelled (now (text .entry)) x ∷ []) (now (t .exit)) (now (buf .exit)) r ⌝ }
-{
-    let Added::Kept(n) = crate::names::add_name(text, t, 0, x) else {
-        return Arrows {
-            behind: c,
-            added: Added::Full,
-            filled: Filled { sorted: 0, end: 0 },
-        };
-    };
-    read_arrows(text, c, t, n, buf)
 }

@@ -1,5 +1,5 @@
 // Reading a pattern from its text: its parts in order, with the states and the transitions on the way, and only then the outputs.
-ghost use mathlib.Core.List.{_∷_, _++_, map};
+ghost use mathlib.Core.List.{[], _∷_, _++_, map};
 ghost use mathlib.Core.Path.{_≡_};
 ghost use Prim.Native.Nat.{_+_, _/_, _≤_, _<_};
 ghost use lib.ListN.{length};
@@ -11,12 +11,16 @@ ghost use Rattle.lists.specs.Written.{Written};
 ghost use Rattle.output.specs.Output.{roomFirst};
 ghost use Rattle.output.specs.inner.Gathering.{Memory, Gathered};
 ghost use Rattle.refusal.specs.Answer.{given};
-ghost use Rattle.parser.specs.inner.Memory.{Zeros, Suits};
+ghost use Rattle.parser.specs.inner.Arrows.{Fitting, ArrowsRead, StoppedAt};
+ghost use Rattle.parser.specs.inner.Memory.{Zeros};
 ghost use Rattle.parser.specs.inner.Names.{spanAt, namesIn, Table};
 ghost use Rattle.parser.specs.inner.Records.{Recorded};
 ghost use Rattle.parser.specs.Parsed.{parsedOf, parsed};
 ghost use Rattle.parser.specs.Pattern.{transitionOf, fewTransitions, meaning, parse};
 ghost use Rattle.parser.specs.inner.Places.{movesAt, transitionsAt, patternAt};
+use arrows::Arrows;
+use arrows::Begun;
+use arrows::Stop;
 use grammar::AcceptingPiece;
 use grammar::Cursor;
 use grammar::Layout;
@@ -110,7 +114,7 @@ fn with_names(
     names: &mut [u8],
 ) -> Parsed
     requires { ⌜ Table (now text) (now t) n × Laid (now text) l ⌝ }
-    requires { ⌜ Suits (length (now text)) (length (now buf)) ⌝ }
+    requires { ⌜ Fitting (now buf) f ⌝ }
     requires { ⌜ Gathered (now buf) (f .sorted) (f .end) (map (transitionOf (namesIn (now text) (now t) n)) (movesAt (now text) (l .arrows .at))) × Zeros 256 (now words) ⌝ }
     requires { ⌜ (10500 ≤ length (now out)) × (16642 ≤ length (now names)) ⌝ }
     ensures { λ r. ⌜ parsedOf r (now (out .exit)) (now (names .exit)) ≡ parsed (now (out .entry)) (now (names .entry)) (fewTransitions (patternAt (now (text .entry)) l (namesIn (now (text .entry)) (now (t .entry)) n)) (c .at)) ⌝ }
@@ -122,24 +126,23 @@ fn with_names(
     write_pattern(text, l, c, t, n, &buf[0..last], words, out, names)
 }
 
-// The outputs of a text whose initial state is x and whose transitions go on from c, or 8, 21 or 22, by tables that are lent: the text is read to its
-// end before it is said that there are too many states or transitions.
-fn with_tables(
+// The outputs of a text whose initial state is x and whose transitions, from the cursor arrows on, were read, or 8, 21 or 22: the text is read to its end
+// before it is said that there are too many states or transitions.
+fn with_read(
     text: &[u8],
     x: Span,
     arrows: Cursor,
-    t: &mut [usize],
+    read: Arrows,
+    t: &[usize],
     buf: &mut [u32],
     words: &mut [u32],
     out: &mut [u32],
     names: &mut [u8],
 ) -> Parsed
-    requires { ⌜ Spelt (now text) x × Zeros 1024 (now t) × Zeros 256 (now words) ⌝ }
-    requires { ⌜ Memory (now buf) × Suits (length (now text)) (length (now buf)) ⌝ }
+    requires { ⌜ Spelt (now text) x × ArrowsRead (now text) (arrows .at) (spelled (now text) x ∷ []) (now t) (now buf) read × Zeros 256 (now words) ⌝ }
     requires { ⌜ (10500 ≤ length (now out)) × (16642 ≤ length (now names)) ⌝ }
     ensures { λ r. ⌜ parsedOf r (now (out .exit)) (now (names .exit)) ≡ parsed (now (out .entry)) (now (names .entry)) (meaning (now (text .entry)) (toldFrom (now (text .entry)) x (arrows .at))) ⌝ }
 {
-    let read = arrows::read_states(text, x, arrows, t, buf);
     let AcceptingPiece::Read(first, more, c) = grammar::closing(text, read.behind) else {
         return Parsed::Refused(Refusal::Input(InputRefusal::Grammar));
     };
@@ -156,26 +159,66 @@ fn with_tables(
     with_names(text, l, c, t, n, buf, read.filled, words, out, names)
 }
 
-// The same by tables of its own, for a short text.
-fn with_small(text: &[u8], x: Span, arrows: Cursor, out: &mut [u32], names: &mut [u8]) -> Parsed
-    requires { ⌜ Spelt (now text) x × (length (now text) ≤ 640) ⌝ }
+// The same of a text whose transitions were read up to a stop: the records move to the largest memory, and the others follow.
+fn with_more(
+    text: &[u8],
+    x: Span,
+    arrows: Cursor,
+    s: Stop,
+    t: &mut [usize],
+    small: &[u32],
+    words: &mut [u32],
+    out: &mut [u32],
+    names: &mut [u8],
+) -> Parsed
+    requires { ⌜ Spelt (now text) x × StoppedAt (now text) (arrows .at) (spelled (now text) x ∷ []) (now t) (now small) s × Zeros 256 (now words) ⌝ }
     requires { ⌜ (10500 ≤ length (now out)) × (16642 ≤ length (now names)) ⌝ }
     ensures { λ r. ⌜ parsedOf r (now (out .exit)) (now (names .exit)) ≡ parsed (now (out .entry)) (now (names .entry)) (meaning (now (text .entry)) (toldFrom (now (text .entry)) x (arrows .at))) ⌝ }
 {
-    let mut t = [0usize; 1024];
-    let mut buf = [0u32; 640];
-    let mut words = [0u32; 256];
-    with_tables(text, x, arrows, &mut t, &mut buf, &mut words, out, names)
+    let mut buf = [0u32; 20480];
+    let end = s.filled.end;
+    output::put_words(&mut buf, 0, &small[0..end]);
+    let read = arrows::read_rest(
+        text,
+        s.cursor,
+        t,
+        s.count,
+        &mut buf,
+        Filled { sorted: 0, end },
+    );
+    with_read(text, x, arrows, read, t, &mut buf, words, out, names)
 }
 
-// The same for any text.
-fn with_large(text: &[u8], x: Span, arrows: Cursor, out: &mut [u32], names: &mut [u8]) -> Parsed
+// The same of a text whose transitions are not read yet, by tables that are lent.
+fn with_tables(
+    text: &[u8],
+    x: Span,
+    arrows: Cursor,
+    t: &mut [usize],
+    buf: &mut [u32],
+    words: &mut [u32],
+    out: &mut [u32],
+    names: &mut [u8],
+) -> Parsed
+    requires { ⌜ Spelt (now text) x × Zeros 1024 (now t) × Memory (now buf) × Zeros 256 (now words) ⌝ }
+    requires { ⌜ (10500 ≤ length (now out)) × (16642 ≤ length (now names)) ⌝ }
+    ensures { λ r. ⌜ parsedOf r (now (out .exit)) (now (names .exit)) ≡ parsed (now (out .entry)) (now (names .entry)) (meaning (now (text .entry)) (toldFrom (now (text .entry)) x (arrows .at))) ⌝ }
+{
+    let begun = arrows::read_states(text, x, arrows, t, buf);
+    match begun {
+        Begun::Ended(read) => with_read(text, x, arrows, read, t, buf, words, out, names),
+        Begun::Stopped(s) => with_more(text, x, arrows, s, t, buf, words, out, names),
+    }
+}
+
+// The same by tables of its own.
+fn from_start(text: &[u8], x: Span, arrows: Cursor, out: &mut [u32], names: &mut [u8]) -> Parsed
     requires { ⌜ Spelt (now text) x ⌝ }
     requires { ⌜ (10500 ≤ length (now out)) × (16642 ≤ length (now names)) ⌝ }
     ensures { λ r. ⌜ parsedOf r (now (out .exit)) (now (names .exit)) ≡ parsed (now (out .entry)) (now (names .entry)) (meaning (now (text .entry)) (toldFrom (now (text .entry)) x (arrows .at))) ⌝ }
 {
     let mut t = [0usize; 1024];
-    let mut buf = [0u32; 20480];
+    let mut buf = [0u32; 640];
     let mut words = [0u32; 256];
     with_tables(text, x, arrows, &mut t, &mut buf, &mut words, out, names)
 }
@@ -190,8 +233,5 @@ pub fn parse_automaton(text: &[u8], out: &mut [u32], names: &mut [u8]) -> Parsed
     let NamePiece::Read(x, arrows) = grammar::opening(text) else {
         return Parsed::Refused(Refusal::Input(InputRefusal::Grammar));
     };
-    if text.len() <= 640 {
-        return with_small(text, x, arrows, out, names);
-    }
-    with_large(text, x, arrows, out, names)
+    from_start(text, x, arrows, out, names)
 }

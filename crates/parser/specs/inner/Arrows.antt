@@ -1,14 +1,15 @@
 -- For inner contracts. The transitions of a text as they are read: the names that were met are in the table, and the records between their numbers in
 -- lent memory.
-use Prim.Native.Nat.{ℕ, _≤_, _<_}
+use Prim.Native.Nat.{ℕ, _/_, _≤_, _<_}
 use mathlib.Core.List.{List, [], _∷_, _++_, map}
 use mathlib.Core.Path.{_≡_}
 use lib.ListN.{length}
 use Rattle.automata.specs.Automaton.{Transition}
+use Rattle.automata.specs.Ordered.{inOrder}
 use Rattle.grammar.specs.Grammar.{transitions}
 use Rattle.labels.specs.Labels.{sameLabel}
 use Rattle.output.specs.declared.gathering.Filled.{Filled}
-use Rattle.output.specs.inner.Gathering.{Held, Gathered}
+use Rattle.output.specs.inner.Gathering.{Held, Gathered, Rest}
 use Rattle.output.specs.inner.Ordered.{recordsIn}
 use Rattle.search.specs.Search.{index, add, meet}
 use Rattle.syntax.specs.Syntax.{Move}
@@ -16,6 +17,9 @@ use Rattle.parser.specs.Pattern.{bothNames, namesOf, transitionOf}
 use Rattle.parser.specs.inner.Names.{Table, namesIn, Addition}
 use Rattle.parser.specs.inner.Places.{movesAt}
 use Rattle.parser.specs.declared.arrows.Arrows.{Arrows}
+use Rattle.parser.specs.declared.arrows.Begun.{Begun}
+use Rattle.parser.specs.declared.arrows.Begun.the-variants.{Ended, Stopped}
+use Rattle.parser.specs.declared.arrows.Stop.{Stop}
 use Rattle.parser.specs.declared.arrows.Entry.{Entry}
 use Rattle.parser.specs.declared.arrows.Entry.the-variants.{At as EntryAt, Full as NoEntry}
 use Rattle.parser.specs.declared.arrows.Noted.{Noted}
@@ -51,8 +55,45 @@ abbrev pub ArrowNoting : List ℕ → Move → List (List ℕ) → List ℕ → 
 ArrowNoting text m ls t old f new (NotedAt n g) = ArrowNoted text m ls t old f new n g
 ArrowNoting text m ls t old f new NotNoted = 256 < length (meet sameLabel (bothNames m) ls)
 
+-- all names, where ls come before those of the transitions from a place on
+unfoldable pub allNames : List ℕ → ℕ → List (List ℕ) → List (List ℕ)
+allNames text at ls = meet sameLabel (namesOf (movesAt text at)) ls
+
+-- the transitions from a place on between the numbers of these names
+unfoldable pub numbered : List ℕ → ℕ → List (List ℕ) → List Transition
+numbered text at ls = map (transitionOf ls) (movesAt text at)
+
+-- the transitions from start on, with the names ls before theirs, are read up to the place at: what is left of them gives all names with those of the
+-- table, and all records with those in memory, unless these are too many
+pub record Going (text : List ℕ) (start : ℕ) (ls : List (List ℕ)) (t buf : List ℕ) (at n : ℕ) (f : Filled) : Type 0 where
+  pub table : Table text t n
+  pub place : transitions text at .behind ≡ transitions text start .behind
+  pub names : allNames text at (namesIn text t n) ≡ allNames text start ls
+  pub held : Held buf (f .sorted) (f .end)
+  pub left : f .end < length buf → Rest buf (f .sorted) (f .end) (numbered text at (allNames text start ls)) (numbered text start (allNames text start ls))
+  pub over : length buf ≤ f .end → length buf / 10 < length (inOrder (numbered text start (allNames text start ls)))
+
+-- the records take at most half of the memory, unless it is the largest
+pub record Fitting (buf : List ℕ) (f : Filled) : Type 0 where
+  pub short : length buf < 20480 → f .end ≤ length buf / 2
+
 -- the transitions from a place on were read, with the names ls before theirs
 pub record ArrowsRead (text : List ℕ) (at : ℕ) (ls : List (List ℕ)) (t buf : List ℕ) (r : Arrows) : Type 0 where
   pub behind : r .behind .at ≡ transitions text at .behind
   pub names : Addition text (meet sameLabel (namesOf (movesAt text at)) ls) t (r .added)
   pub gathered : (n : ℕ) → r .added ≡ Kept n → Gathered buf (r .filled .sorted) (r .filled .end) (map (transitionOf (namesIn text t n)) (movesAt text at))
+  pub fitting : (n : ℕ) → r .added ≡ Kept n → Fitting buf (r .filled)
+
+-- so far, and the memory has room
+pub record StoppedAt (text : List ℕ) (at : ℕ) (ls : List (List ℕ)) (t buf : List ℕ) (s : Stop) : Type 0 where
+  pub going : Going text at ls t buf (s .cursor .at) (s .count) (s .filled)
+  pub room : s .filled .end < length buf
+
+-- by the answer of the small memory
+abbrev pub Beginning : List ℕ → ℕ → List (List ℕ) → List ℕ → List ℕ → Begun → Type 0
+Beginning text at ls t buf (Ended r) = ArrowsRead text at ls t buf r
+Beginning text at ls t buf (Stopped s) = StoppedAt text at ls t buf s
+
+-- whatever was read up to a place with t and buf is read to its end with u and new
+pub record Continuing (text t buf : List ℕ) (at n : ℕ) (f : Filled) (u new : List ℕ) (r : Arrows) : Type 0 where
+  pub all : (start : ℕ) (ls : List (List ℕ)) → Going text start ls t buf at n f → ArrowsRead text start ls u new r
