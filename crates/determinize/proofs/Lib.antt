@@ -16,6 +16,8 @@ pub mod Notes
 pub mod Placing
 pub mod Visits
 pub mod Queued
+pub mod Attempts
+pub mod Swept
 pub mod Sections
 pub mod Sheets
 pub mod Made

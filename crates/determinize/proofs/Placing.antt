@@ -1,11 +1,12 @@
 -- The laws by which the parts of the first pass are proved: a note, the place of a set in the table, and the next cut.
-use Prim.Native.Nat.{ℕ, suc, _+_, _-_, _*_, _≤_, _<_}
-use mathlib.Core.Bool.{Bool, true, false}
+use Prim.Native.Nat.{ℕ, suc, _+_, _-_, _*_, _/_, _%_, _≤_, _<_}
+use mathlib.Core.Bool.{Bool, true, false, cond}
 use mathlib.Core.List.{List, [], _∷_, _++_}
 use mathlib.Core.Path.{_≡_, refl, sym, _∙_, ap}
 use native.Mathlib.Omega.{arith}
 use borrow.Author.Needs.{needs}
 use borrow.Author.Tests.{le-leb, lt-leb}
+use lib.Dec.{leb}
 use mir.Syntax.{w32}
 use mir.Val.{Fits}
 use lib.ListN.{length}
@@ -14,6 +15,7 @@ use Rattle.lists.specs.Written.{Written}
 use Rattle.lists.proofs.Written.{written-none}
 use Rattle.automata.specs.Automaton.{Transition}
 use Rattle.automata.specs.Records.{writeRecords}
+use Rattle.automata.specs.WellFormed.{mostStates}
 use Rattle.lists.specs.Index.{index, same}
 use Rattle.sets.specs.Sets.{Set, isEmpty}
 use Rattle.sets.specs.inner.BitSet.{setAt, entries}
@@ -27,12 +29,12 @@ use Rattle.determinize.specs.inner.Notes.{number, sinkNotes, Placed, add
 use Rattle.determinize.proofs.Tables.{add-empty, add-known, add-new}
 use Rattle.determinize.proofs.Notes.{index-end}
 
--- a note behind 2,048 others is not stored
+-- a note past the end of the memory is not stored
 sets-past : (l : List ℕ) (i : ℕ) (vs : List ℕ) → length l ≤ i → sets l i vs ≡ l
 sets-past l i [] h = refl
 sets-past l i (v ∷ vs) h = ap (λ t. sets t (suc i) vs) (set-out l i v h) ∙ sets-past l (suc i) vs (omega arith)
 
-pub note-past : (l : List ℕ) (k a b c d e : ℕ) → length l ≡ 10240 → 2048 ≤ k → Written l (5 * k) (a ∷ b ∷ c ∷ d ∷ e ∷ []) l (5 * k + 5)
+pub note-past : (l : List ℕ) (k a b c d e : ℕ) → length l % 5 ≡ 0 → length l / 5 ≤ k → Written l (5 * k) (a ∷ b ∷ c ∷ d ∷ e ∷ []) l (5 * k + 5)
 note-past l k a b c d e h g = record { stored = sym (sets-past l (5 * k) (a ∷ b ∷ c ∷ d ∷ e ∷ []) (omega arith)); behind = refl }
 
 pub note-put : (l m : List ℕ) (k a b c d e r : ℕ) → Written l (5 * k) (a ∷ b ∷ c ∷ d ∷ e ∷ []) m r → Written l (5 * k) (a ∷ b ∷ c ∷ d ∷ e ∷ []) m (5 * k + 5)
@@ -49,6 +51,14 @@ sink-noted l m k lo hi j h w = rw (le-leb lo hi h) (record { stored = w .stored;
 pub sink-none : (l : List ℕ) (k lo hi j : ℕ) → hi < lo → Written l (5 * k) (writeRecords (sinkNotes lo hi j)) l (5 * k)
 unfolding sinkNotes writeRecords
 sink-none l k lo hi j h = rw (lt-leb lo hi h) (written-none l (5 * k))
+
+pub sink-count : (l m : List ℕ) (k lo hi j r : ℕ) → Written l (5 * k) (writeRecords (sinkNotes lo hi j)) m (5 * r) → r ≤ k + 1
+unfolding sinkNotes writeRecords
+sink-count l m k lo hi j r w = go (leb lo hi) (w .behind)
+  where
+    go : (b : Bool) → 5 * r ≡ 5 * k + length (writeRecords (cond b (record { from = j; kind = 1; first = lo; last = hi; to = mostStates } ∷ []) [])) → r ≤ k + 1
+    go true e = omega arith
+    go false e = omega arith
 
 pub ruleset sinkLaws = (sink-noted, sink-none, needs)
 

@@ -101,6 +101,14 @@ module _ (lo hi : ℕ) (A : Automaton) (before : List ℕ) where
             ∙ write-append (notesOf lo hi A F i S) (notesFrom lo hi A F (i + 1) (drop (i + 1) F)) in
             left-next _ _ _ _ _ _ g (writeRecords (notesOf lo hi A F i S)) _ s r′ (5 * c) (visited .noted more)
 
+        -- the first row is as it was
+        pub explore-start : setAt t 0 ≡ startSet A → setAt t′ 0 ≡ startSet A
+        explore-start e =
+            let y = meet-extends (targets lo hi A (getD (entries t n) i [])) (entries t n) in
+            let f : entries t′ m ≡ entries t n ++ y .rest = visited .met ∙ y .is in
+            let l : 0 < m = omega (arith, length-entries t′ m, ap length f, length-append (entries t n) (y .rest), length-entries t n) in
+            sym (entry-at t′ m 0 l) ∙ ap (λ T. getD T 0 []) f ∙ List·getD-append (entries t n) (y .rest) [] 0 (omega (arith, length-entries t n)) ∙ entry-at t n 0 (omega arith) ∙ e
+
         pub explore-next : Exploring lo hi A before t′ r′ m c (i + 1)
         explore-next =
             record { queued = queue-next lo hi A i (entries t n) b (q .queued) in-table (entries t′ m) (visited .met); noted = noted-more }

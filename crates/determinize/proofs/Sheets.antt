@@ -4,7 +4,7 @@ use mathlib.Core.List.{List, [], _∷_, _++_, map}
 use mathlib.Core.Path.{_≡_, refl, sym, _∙_, ap, ap₂, subst}
 use native.Mathlib.Numerals.{add-one}
 use native.Mathlib.Omega.{arith}
-use lib.ListN.{length, take, drop, replicate, length-map, length-replicate}
+use lib.ListN.{length, take, drop, length-map}
 use lib.Seq.{sets, sets-eq, length-take-le, take-append-seam}
 use Rattle.lists.specs.Written.{Written}
 use Rattle.lists.proofs.Written.{written-length}
@@ -24,6 +24,7 @@ use Rattle.determinize.specs.declared.Progress.the-variants.{Sets, Over}
 use Rattle.determinize.specs.declared.Determinized.the-variants.{Sheet, Refused}
 use Rattle.determinize.specs.Determinize.{states, built, determinize}
 use Rattle.determinize.specs.inner.Notes.{notesFrom, settle, Canonical, TableFinished, Explored}
+use Rattle.determinize.specs.inner.Attempts.{Complete}
 use Rattle.determinize.specs.inner.Sheets.{automatonOf, sheetOutput, determinizedOf}
 use Rattle.determinize.proofs.Answers.{answer-over, answer-many, answer-given}
 use Rattle.determinize.proofs.Notes.{settle-states}
@@ -54,8 +55,8 @@ module _ (lo hi : ℕ) (A : Automaton) (ok : InBounds A) (before t r : List ℕ)
   unfolding T
   finished-count = count-all ∙ sym (length-map all (settle (length T))) ∙ ap length finished-transitions
 
-  notes-read : length before ≡ 10240 → m ≤ 2048 → readRecords (take (5 * m) r) ≡ all
-  notes-read b h =
+  notes-read : 5 * m ≤ length before → readRecords (take (5 * m) r) ≡ all
+  notes-read b =
       let l : 5 * m ≡ length (writeRecords all) = noted .behind ∙ omega arith in
       let k : take (5 * m) r ≡ writeRecords all =
       ap (take (5 * m)) (noted .stored) ∙ ap (λ i. take i (sets before 0 (writeRecords all))) l ∙ take-sets before (writeRecords all) (omega arith) in
@@ -66,25 +67,22 @@ module _ (lo hi : ℕ) (A : Automaton) (ok : InBounds A) (before t r : List ℕ)
   accept-words [] = refl
   accept-words (R ∷ S) = ap (λ l. kindOf A R ∷ l) (accept-words S)
 
-  pub finished-sheet : length before ≡ 10240 → m ≤ 2048 → automatonOf A (entries t n) (readRecords (take (5 * m) r)) ≡ built lo hi A (entries t n)
+  pub finished-sheet : 5 * m ≤ length before → automatonOf A (entries t n) (readRecords (take (5 * m) r)) ≡ built lo hi A (entries t n)
   unfolding automatonOf built T states
-  finished-sheet b h =
+  finished-sheet b =
       ap₂ (λ x y. record { size = suc (length (entries t n)); start = 0; accept = x; transitions = y }) (accept-words (entries t n))
-      (ap (map (settle (length (entries t n)))) (notes-read b h) ∙ finished-transitions)
-
-notes-fresh : length {A = ℕ} (replicate 10240 0) ≡ 10240
-notes-fresh = length-replicate {A = ℕ} 10240 0
+      (ap (map (settle (length (entries t n)))) (notes-read b) ∙ finished-transitions)
 
 -- the answers of determinizing an accepted sheet
-module _ (lo hi : ℕ) (s : List ℕ) (a : Accepted s) (t r : List ℕ) (x : Progress) (p : Explored lo hi (read s) (replicate 10240 0) t r x) where
+module _ (lo hi : ℕ) (s : List ℕ) (a : Accepted s) (t r : List ℕ) (x : Progress) (p : Complete lo hi (read s) t r x) where
   pub accepted-over : (o : List ℕ) → x ≡ Over → determinizedOf (Refused States) o ≡ sheetOutput o (determinize lo hi (read s))
   unfolding Explored sheetOutput
-  accepted-over o e = sym (ap (sheetOutput o) (answer-over lo hi (read s) (subst (Explored lo hi (read s) (replicate 10240 0) t r) e p)))
+  accepted-over o e = sym (ap (sheetOutput o) (answer-over lo hi (read s) (subst (Explored lo hi (read s) (p .before) t r) e (p .explored))))
 
   module _ (n m : ℕ) (e : x ≡ Sets n m) where
-    finished : TableFinished lo hi (read s) (replicate 10240 0) t r n m
+    finished : TableFinished lo hi (read s) (p .before) t r n m
     unfolding Explored
-    finished = subst (Explored lo hi (read s) (replicate 10240 0) t r) e p
+    finished = subst (Explored lo hi (read s) (p .before) t r) e (p .explored)
 
     ok : InBounds (read s)
     ok = read-well s a .states
@@ -97,7 +95,7 @@ module _ (lo hi : ℕ) (s : List ℕ) (a : Accepted s) (t r : List ℕ) (x : Pro
 
     -- the notes stand at the front: i is the number that the code compares with
     pub accepted-part : (i : ℕ) → m ≤ i → i ≤ 2048 → 5 * m ≡ length (take (5 * m) r)
-    accepted-part i g h = sym (length-take-le (5 * m) r (omega (arith, notes-fresh, written-length (replicate 10240 0) r _ 0 (5 * m) (finished .noted))))
+    accepted-part i g h = sym (length-take-le (5 * m) r (omega (arith, p .room n m e (omega arith), written-length (p .before) r _ 0 (5 * m) (finished .noted))))
 
     pub accepted-room : m ≤ 2048 → length (take (5 * m) r) ≤ 10240
     accepted-room h = omega (arith, accepted-part m (omega arith) h)
@@ -108,15 +106,15 @@ module _ (lo hi : ℕ) (s : List ℕ) (a : Accepted s) (t r : List ℕ) (x : Pro
         let k : 2048 < m = omega arith in
         sym
         (ap (sheetOutput o)
-        (answer-many lo hi (read s) (entries t n) (finished .whole) (subst (λ k. 2048 < k) (finished-count lo hi (read s) ok (replicate 10240 0) t r n m finished) k)))
+        (answer-many lo hi (read s) (entries t n) (finished .whole) (subst (λ k. 2048 < k) (finished-count lo hi (read s) ok (p .before) t r n m finished) k)))
 
     pub accepted-given : m ≤ 2048 → (o o′ : List ℕ) (w : ℕ) → Written o 0 (write (automatonOf (read s) (entries t n) (readRecords (take (5 * m) r)))) o′ w
         → determinizedOf (Sheet w (n + 1)) o′ ≡ sheetOutput o (determinize lo hi (read s))
     unfolding sheetOutput built
     accepted-given h o o′ w v =
         let D = built lo hi (read s) (entries t n) in
-        let u : Written o 0 (write D) o′ w = subst (λ E. Written o 0 (write E) o′ w) (finished-sheet lo hi (read s) ok (replicate 10240 0) t r n m finished notes-fresh h) v in
+        let u : Written o 0 (write D) o′ w = subst (λ E. Written o 0 (write E) o′ w) (finished-sheet lo hi (read s) ok (p .before) t r n m finished (p .room n m e h)) v in
         let c : w ≡ length (write D) = u .behind ∙ omega arith in
         let k : n + 1 ≡ suc (length (entries t n)) = add-one n ∙ ap suc (sym (length-entries t n)) in
         rw (u .stored, c, k)
-        (sym (ap (sheetOutput o) (answer-given lo hi (read s) (entries t n) (finished .whole) (subst (λ k. k ≤ 2048) (finished-count lo hi (read s) ok (replicate 10240 0) t r n m finished) h))))
+        (sym (ap (sheetOutput o) (answer-given lo hi (read s) (entries t n) (finished .whole) (subst (λ k. k ≤ 2048) (finished-count lo hi (read s) ok (p .before) t r n m finished) h))))

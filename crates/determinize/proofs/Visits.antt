@@ -13,10 +13,10 @@ use Rattle.sets.specs.inner.Members.{Canon}
 use Rattle.sets.specs.inner.BitSet.{setAt, entries}
 use Rattle.sets.proofs.BitSet.{length-entries}
 use Rattle.sets.proofs.Tables.{In}
+use Rattle.sheets.specs.inner.Accepted.{Accepted}
 use Rattle.sheets.specs.Sheet.{stateCount, read}
 use Rattle.sheets.proofs.Meaning.{read-well}
 use Rattle.words.specs.Simulation.{outgoing, step}
-use Rattle.words.specs.inner.Gather.{Tables}
 use Rattle.words.proofs.Stepping.{step-canon}
 use Rattle.ranges.specs.Cuts.{nextCut}
 use Rattle.determinize.specs.declared.Progress.the-variants.{Sets, Over}
@@ -102,7 +102,8 @@ module _ (lo hi : ℕ) (A : Automaton) (S : Set) (j : ℕ) (before : List ℕ) (
           bounded = omega arith;
         }
 
-pub canonical-next : (s starts c : List ℕ) (S : Set) (T : List Set) (a j last k n : ℕ) (r t r′ : List ℕ) → Tables s starts c → Canonical (stateCount s) T → Visited (step (read s) S a) T j a last r k t r′ n
+-- a step leads to a set of states
+pub canonical-next : (s : List ℕ) → Accepted s → (S : Set) (T : List Set) (a j last k n : ℕ) (r t r′ : List ℕ) → Canonical (stateCount s) T → Visited (step (read s) S a) T j a last r k t r′ n
     → Canonical (stateCount s) (entries t n)
-canonical-next s starts c S T a j last k n r t r′ x d v =
-    subst (Canonical (stateCount s)) (sym (v .added)) (canonical-add (stateCount s) (step (read s) S a) T d (step-canon (read s) (read-well s (x .accepted) .states) a S))
+canonical-next s x S T a j last k n r t r′ d v =
+    subst (Canonical (stateCount s)) (sym (v .added)) (canonical-add (stateCount s) (step (read s) S a) T d (step-canon (read s) (read-well s x .states) a S))

@@ -1,3 +1,4 @@
 -- What only inner contracts cite.
 pub mod Notes
+pub mod Attempts
 pub mod Sheets

@@ -2,8 +2,10 @@
 // The entries of the table are the queue. Each span between cuts costs one reading of the runs of the set's members up to the first range behind it,
 // and one look-up.
 ghost use mathlib.Core.Path.{_≡_};
+ghost use mathlib.Core.Bool.{_&&_};
 ghost use mathlib.Core.List.{[], _∷_};
-ghost use Prim.Native.Nat.{_+_, _-_, _*_, _≤_, _<_};
+ghost use Prim.Native.Nat.{_+_, _-_, _*_, _%_, _≤_, _<_};
+ghost use lib.Dec.{ltb};
 ghost use lib.ListN.{length, getD};
 ghost use Rattle.lists.specs.Written.{Written};
 ghost use Rattle.automata.specs.Records.{writeRecords};
@@ -13,7 +15,9 @@ ghost use Rattle.sheets.specs.Sheet.{stateCount, read};
 ghost use Rattle.words.specs.Simulation.{outgoing, step, startSet};
 ghost use Rattle.words.specs.inner.Gather.{Tables};
 ghost use Rattle.ranges.specs.Cuts.{nextCut};
-ghost use Rattle.determinize.specs.inner.Notes.{sinkNotes, Canonical, Placed, Visited, SetVisited, Explored};
+ghost use Rattle.determinize.specs.inner.Notes.{sinkNotes, Canonical, Placed, Visited, SetVisited};
+ghost use Rattle.determinize.specs.inner.Attempts.{runLength, recordsOf, Attempted};
+use crate::Exploration;
 use crate::Progress;
 
 // Where a set stands in the table, and how many sets the table has.
@@ -29,7 +33,7 @@ pub struct SpanEnd {
 }
 
 // The number of a set in the table of n sets. A nonempty set that the table lacks goes to its end; the empty set has the number 256.
-fn place(table: &mut [u64], n: usize, set: &[u64]) -> Entry
+pub fn place(table: &mut [u64], n: usize, set: &[u64]) -> Entry
     requires { ⌜ (n < 256) × (length (now table) ≡ 1024) × (4 ≤ length (now set)) ⌝ }
     ensures { λ r. ⌜ Placed (setAt (now (set .entry)) 0) (entries (now (table .entry)) n) (now (table .exit)) (r .sets) (r .number) ⌝ }
 {
@@ -53,12 +57,12 @@ fn place(table: &mut [u64], n: usize, set: &[u64]) -> Entry
     }
 }
 
-// The note of a range behind `count` others. There is room for 2,048; past them nothing is stored.
-fn note(notes: &mut [u32], count: usize, from: u32, first: u32, last: u32, to: u32)
-    requires { ⌜ length (now notes) ≡ 10240 ⌝ }
+// The note of a range behind `count` others. Past the end of the memory nothing is stored.
+pub fn note(notes: &mut [u32], count: usize, from: u32, first: u32, last: u32, to: u32)
+    requires { ⌜ length (now notes) % 5 ≡ 0 ⌝ }
     ensures { λ u. ⌜ Written (now (notes .entry)) (5 * count) (from ∷ 1 ∷ first ∷ last ∷ to ∷ []) (now (notes .exit)) (5 * count + 5) ⌝ }
 {
-    if count < 2048 {
+    if count < notes.len() / 5 {
         output::put_record(notes, 5 * count, from, 1, first, last, to);
     }
 }
@@ -78,7 +82,7 @@ fn visit(
     notes: &mut [u32],
     count: usize,
 ) -> SpanEnd
-    requires { ⌜ Tables (now s) (now starts) (now closures) × Canon (stateCount (now s)) (setAt (now set) 0) × (4 ≤ length (now set)) × (n < 256) × (length (now table) ≡ 1024) × (length (now notes) ≡ 10240) × (first < top) × (top ≤ 4294967296) ⌝ }
+    requires { ⌜ Tables (now s) (now starts) (now closures) × Canon (stateCount (now s)) (setAt (now set) 0) × (4 ≤ length (now set)) × (n < 256) × (length (now table) ≡ 1024) × (length (now notes) % 5 ≡ 0) × (first < top) × (top ≤ 4294967296) ⌝ }
     ensures cut { λ r. ⌜ r .cut ≡ nextCut first top (outgoing (read (now (s .entry))) (setAt (now (set .entry)) 0)) ⌝ }
     ensures visited { λ r. ⌜ Visited (step (read (now (s .entry))) (setAt (now (set .entry)) 0) first) (entries (now (table .entry)) n) from first (r .cut - 1) (now (notes .entry)) count (now (table .exit)) (now (notes .exit)) (r .sets) ⌝ }
 {
@@ -109,7 +113,7 @@ pub fn visit_spans(
     noted: usize,
 ) -> Progress
     requires { ⌜ Tables (now s) (now starts) (now closures) × Canon (stateCount (now s)) (setAt (now set) 0) × (4 ≤ length (now set)) ⌝ }
-    requires { ⌜ (sets < 256) × (length (now table) ≡ 1024) × Canonical (stateCount (now s)) (entries (now table) sets) × (length (now notes) ≡ 10240) × (noted ≤ 1099511627776) ⌝ }
+    requires { ⌜ (sets < 256) × (length (now table) ≡ 1024) × Canonical (stateCount (now s)) (entries (now table) sets) × (length (now notes) % 5 ≡ 0) × (noted ≤ 1099511627776) ⌝ }
     ensures { λ r. ⌜ SetVisited lower upper (read (now (s .entry))) (setAt (now (set .entry)) 0) (entries (now (table .entry)) sets) from (now (notes .entry)) noted (now (table .exit)) (now (notes .exit)) r ⌝ }
 {
     let top = upper as u64 + 1;
@@ -153,7 +157,7 @@ fn visit_set(
     notes: &mut [u32],
     count: usize,
 ) -> Progress
-    requires { ⌜ Tables (now s) (now starts) (now closures) × (i < n) × (n < 256) × (length (now table) ≡ 1024) × Canonical (stateCount (now s)) (entries (now table) n) × (length (now notes) ≡ 10240) × (count ≤ 1099511627776) ⌝ }
+    requires { ⌜ Tables (now s) (now starts) (now closures) × (i < n) × (n < 256) × (length (now table) ≡ 1024) × Canonical (stateCount (now s)) (entries (now table) n) × (length (now notes) % 5 ≡ 0) × (count ≤ 1099511627776) ⌝ }
     ensures { λ r. ⌜ SetVisited lower upper (read (now (s .entry))) (getD (entries (now (table .entry)) n) i []) (entries (now (table .entry)) n) i (now (notes .entry)) count (now (table .exit)) (now (notes .exit)) r ⌝ }
 {
     let mut set = [0u64; 4];
@@ -174,8 +178,8 @@ fn visit_set(
 }
 
 // The note of the sink's loop, which holds all symbols, behind `count` others; answers how many notes there are then.
-fn note_sink(notes: &mut [u32], count: usize, sink: u32, lower: u32, upper: u32) -> usize
-    requires { ⌜ (length (now notes) ≡ 10240) × (count ≤ 1099511627776) ⌝ }
+pub fn note_sink(notes: &mut [u32], count: usize, sink: u32, lower: u32, upper: u32) -> usize
+    requires { ⌜ (length (now notes) % 5 ≡ 0) × (count ≤ 1099511627776) ⌝ }
     ensures { λ r. ⌜ Written (now (notes .entry)) (5 * count) (writeRecords (sinkNotes lower upper sink)) (now (notes .exit)) (5 * r) ⌝ }
 {
     if lower <= upper {
@@ -185,7 +189,63 @@ fn note_sink(notes: &mut [u32], count: usize, sink: u32, lower: u32, upper: u32)
     count
 }
 
-// The whole table, from the start's closure in its first row on, and the notes of all states, the sink's last.
+// How many records the run of q has, by the table of the runs.
+fn run_length(starts: &[u32], q: usize) -> u32
+    requires { ⌜ q < 256 ⌝ }
+    ensures { λ r. ⌜ r ≡ runLength (now (starts .entry)) q ⌝ }
+{
+    if starts.len() <= q + 1 {
+        return 0;
+    }
+    let start = starts[q];
+    let end = starts[q + 1];
+    if end <= start {
+        return 0;
+    }
+    end - start
+}
+
+// Whether the runs of the set's members have over 64 records together: then a pass over the events of the whole sheet is quicker than reading the runs
+// for each span.
+pub fn is_long(starts: &[u32], set: &[u64]) -> bool
+    requires { ⌜ 4 ≤ length (now set) ⌝ }
+    ensures { λ r. ⌜ r ≡ ltb 64 (recordsOf (now (starts .entry)) (setAt (now (set .entry)) 0)) ⌝ }
+{
+    let mut records: u64 = 0;
+    let mut q = sets::next_member(set, 0);
+    while q < 256 {
+        records += run_length(starts, q) as u64;
+        if 64 < records {
+            return true;
+        }
+        q = sets::next_member(set, q + 1);
+    }
+    false
+}
+
+// Whether entry i of the table is long.
+fn is_entry_long(starts: &[u32], table: &[u64], i: usize) -> bool
+    requires { ⌜ 4 * i + 4 ≤ length (now table) ⌝ }
+    ensures { λ r. ⌜ r ≡ ltb 64 (recordsOf (now (starts .entry)) (setAt (now (table .entry)) (4 * i))) ⌝ }
+{
+    let mut set = [0u64; 4];
+    sets::copy_row(&mut set, table, i);
+    is_long(starts, &set)
+}
+
+// Whether the memory has less room than notes could need, and less than for `count`.
+fn is_full(notes: &[u32], count: usize) -> bool
+    requires { ⌜ count ≤ 2199023255552 ⌝ }
+    ensures { λ r. ⌜ r ≡ (ltb (length (now (notes .entry))) 10240 && ltb (length (now (notes .entry))) (5 * count)) ⌝ }
+{
+    if 10240 <= notes.len() {
+        return false;
+    }
+    notes.len() < 5 * count
+}
+
+// The whole table, from the start's closure in its first row on, and the notes of all states, the sink's last. Gives up where a set is long, and where
+// the memory is short and the notes have no room in it: the first row of the table is then what it was.
 pub fn explore(
     s: &[u32],
     starts: &[u32],
@@ -194,22 +254,32 @@ pub fn explore(
     upper: u32,
     table: &mut [u64],
     notes: &mut [u32],
-) -> Progress
-    requires { ⌜ Tables (now s) (now starts) (now closures) × (setAt (now table) 0 ≡ startSet (read (now s))) × (length (now table) ≡ 1024) × (length (now notes) ≡ 10240) ⌝ }
-    ensures { λ r. ⌜ Explored lower upper (read (now (s .entry))) (now (notes .entry)) (now (table .exit)) (now (notes .exit)) r ⌝ }
+) -> Exploration
+    requires { ⌜ Tables (now s) (now starts) (now closures) × (setAt (now table) 0 ≡ startSet (read (now s))) × (length (now table) ≡ 1024) × (length (now notes) % 5 ≡ 0) ⌝ }
+    ensures { λ r. ⌜ Attempted lower upper (read (now (s .entry))) (now (table .exit)) (now (notes .exit)) r ⌝ }
 {
     let mut n: usize = 1;
     let mut count: usize = 0;
     let mut i: usize = 0;
     while i < n {
+        if is_full(notes, count) {
+            return Exploration::Unfinished;
+        }
+        if is_entry_long(starts, table, i) {
+            return Exploration::Unfinished;
+        }
         match visit_set(s, starts, closures, lower, upper, i, table, n, notes, count) {
             Progress::Sets(sets, noted) => {
                 n = sets;
                 count = noted;
                 i += 1;
             }
-            Progress::Over => return Progress::Over,
+            Progress::Over => return Exploration::Finished(Progress::Over),
         }
     }
-    Progress::Sets(n, note_sink(notes, count, n as u32, lower, upper))
+    let all = note_sink(notes, count, n as u32, lower, upper);
+    if is_full(notes, all) {
+        return Exploration::Unfinished;
+    }
+    Exploration::Finished(Progress::Sets(n, all))
 }

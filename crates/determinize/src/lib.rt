@@ -5,10 +5,14 @@ ghost use Prim.Native.Nat.{_≤_};
 ghost use lib.ListN.{length};
 ghost use Rattle.sheets.specs.inner.Accepted.{Accepted};
 ghost use Rattle.sheets.specs.Sheet.{read};
+ghost use Rattle.sets.specs.inner.BitSet.{setAt};
+ghost use Rattle.words.specs.Simulation.{startSet};
+ghost use Rattle.words.specs.inner.Gather.{Tables};
 ghost use Rattle.output.specs.Made.{outputOf};
 ghost use Rattle.output.specs.Output.{outputs};
 ghost use Rattle.determinize.specs.Determinize.{determinize};
 ghost use Rattle.determinize.specs.Sheets.{determinizeSheet};
+ghost use Rattle.determinize.specs.inner.Attempts.{Complete};
 ghost use Rattle.determinize.specs.inner.Sheets.{determinizedOf, sheetOutput};
 use output::Made;
 use refusal::Refusal;
@@ -16,6 +20,7 @@ use refusal::StateRefusal;
 use sheets::Checked;
 
 mod exploring;
+mod sweeping;
 mod writing;
 
 // How far the first pass has come: how many sets the table has and how many transitions are noted, or that the sets are too many.
@@ -30,6 +35,118 @@ pub enum Determinized {
     Refused(StateRefusal),
 }
 
+// What the first pass came to: its answer, or nothing, because a set is long or the memory for notes is too short.
+pub enum Exploration {
+    Finished(Progress),
+    Unfinished,
+}
+
+// The answer of determinizing, from what the first pass came to.
+fn finish(
+    s: &[u32],
+    lower: u32,
+    upper: u32,
+    table: &[u64],
+    notes: &[u32],
+    progress: Progress,
+    out: &mut [u32],
+) -> Determinized
+    requires { ⌜ Accepted (now s) × Complete lower upper (read (now s)) (now table) (now notes) progress × (length (now table) ≡ 1024) × (10500 ≤ length (now out)) ⌝ }
+    ensures { λ r. ⌜ determinizedOf r (now (out .exit)) ≡ sheetOutput (now (out .entry)) (determinize lower upper (read (now (s .entry)))) ⌝ }
+{
+    match progress {
+        Progress::Sets(n, count) => {
+            if 2048 < count {
+                return Determinized::Refused(StateRefusal::Transitions);
+            }
+            let words = writing::write_sheet(s, table, n, &notes[..5 * count], out);
+            Determinized::Sheet(words, n + 1)
+        }
+        Progress::Over => Determinized::Refused(StateRefusal::States),
+    }
+}
+
+// Determinizes by one pass over the events of the sheet for each set that is long. The memory of the notes is lent for putting the events in order.
+fn determinize_swept(
+    s: &[u32],
+    starts: &[u32],
+    closures: &[u64],
+    lower: u32,
+    upper: u32,
+    table: &mut [u64],
+    notes: &mut [u32],
+    out: &mut [u32],
+) -> Determinized
+    requires { ⌜ Tables (now s) (now starts) (now closures) × (setAt (now table) 0 ≡ startSet (read (now s))) × (length (now table) ≡ 1024) × (length (now notes) ≡ 10240) × (10500 ≤ length (now out)) ⌝ }
+    ensures { λ r. ⌜ determinizedOf r (now (out .exit)) ≡ sheetOutput (now (out .entry)) (determinize lower upper (read (now (s .entry)))) ⌝ }
+{
+    let mut opens = [0u32; 10240];
+    let mut ends = [0u32; 10240];
+    let opened = sweep::order_events(0, s, &mut opens, notes);
+    let ended = sweep::order_events(1, s, &mut ends, notes);
+    let progress = sweeping::explore_swept(
+        s,
+        starts,
+        closures,
+        &opens[0..opened],
+        &ends[0..ended],
+        lower,
+        upper,
+        table,
+        notes,
+    );
+    finish(s, lower, upper, table, notes, progress, out)
+}
+
+// Determinizes with room for 2,048 notes.
+fn determinize_large(
+    s: &[u32],
+    starts: &[u32],
+    closures: &[u64],
+    lower: u32,
+    upper: u32,
+    table: &mut [u64],
+    out: &mut [u32],
+) -> Determinized
+    requires { ⌜ Tables (now s) (now starts) (now closures) × (setAt (now table) 0 ≡ startSet (read (now s))) × (length (now table) ≡ 1024) × (10500 ≤ length (now out)) ⌝ }
+    ensures { λ r. ⌜ determinizedOf r (now (out .exit)) ≡ sheetOutput (now (out .entry)) (determinize lower upper (read (now (s .entry)))) ⌝ }
+{
+    let mut notes = [0u32; 10240];
+    match exploring::explore(s, starts, closures, lower, upper, table, &mut notes) {
+        Exploration::Finished(progress) => finish(s, lower, upper, table, &notes, progress, out),
+        Exploration::Unfinished => determinize_swept(
+            s,
+            starts,
+            closures,
+            lower,
+            upper,
+            table,
+            &mut notes,
+            out,
+        ),
+    }
+}
+
+// Determinizes a short sheet with room for 128 notes, or else with more.
+fn determinize_small(
+    s: &[u32],
+    starts: &[u32],
+    closures: &[u64],
+    lower: u32,
+    upper: u32,
+    table: &mut [u64],
+    out: &mut [u32],
+) -> Determinized
+    requires { ⌜ Tables (now s) (now starts) (now closures) × (setAt (now table) 0 ≡ startSet (read (now s))) × (length (now table) ≡ 1024) × (10500 ≤ length (now out)) ⌝ }
+    ensures { λ r. ⌜ determinizedOf r (now (out .exit)) ≡ sheetOutput (now (out .entry)) (determinize lower upper (read (now (s .entry)))) ⌝ }
+{
+    let mut notes = [0u32; 640];
+    match exploring::explore(s, starts, closures, lower, upper, table, &mut notes) {
+        Exploration::Finished(progress) => finish(s, lower, upper, table, &notes, progress, out),
+        Exploration::Unfinished => determinize_large(s, starts, closures, lower, upper, table, out),
+    }
+}
+
 // Determinizes an accepted sheet over the symbols from lower to upper, without labels.
 pub fn determinize_accepted(s: &[u32], lower: u32, upper: u32, out: &mut [u32]) -> Determinized
     requires { ⌜ Accepted (now s) × (10500 ≤ length (now out)) ⌝ }
@@ -38,18 +155,11 @@ pub fn determinize_accepted(s: &[u32], lower: u32, upper: u32, out: &mut [u32]) 
     let mut starts = [0u32; 257];
     let mut closures = [0u64; 1024];
     let mut table = [0u64; 1024];
-    let mut notes = [0u32; 10240];
     words::begin(s, &mut starts, &mut closures, &mut table);
-    match exploring::explore(s, &starts, &closures, lower, upper, &mut table, &mut notes) {
-        Progress::Sets(n, count) => {
-            if 2048 < count {
-                return Determinized::Refused(StateRefusal::Transitions);
-            }
-            let words = writing::write_sheet(s, &table, n, &notes[..5 * count], out);
-            Determinized::Sheet(words, n + 1)
-        }
-        Progress::Over => Determinized::Refused(StateRefusal::States),
+    if 100 < s.len() {
+        return determinize_large(s, &starts, &closures, lower, upper, &mut table, out);
     }
+    determinize_small(s, &starts, &closures, lower, upper, &mut table, out)
 }
 
 // Determinizes a sheet: the result at the front of out, its labels D0, D1 and so on at the front of names.

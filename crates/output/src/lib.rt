@@ -15,6 +15,7 @@ mod sorting;
 pub use gathering::Filled;
 pub use gathering::collect_records;
 pub use gathering::gather_record;
+pub use sorting::sort_records;
 
 // The answer of an operation with two outputs: how many words the sheet takes and how many bytes the labels, or a refusal.
 pub enum Made {

@@ -1,5 +1,5 @@
 -- `visit_spans` meets its contract: the spans below `a` are visited.
-use Prim.Native.Nat.{_+_, _-_, _≤_, _<_}
+use Prim.Native.Nat.{_+_, _-_, _%_, _≤_, _<_}
 use mathlib.Core.Path.{_≡_}
 use borrow.Author.Needs.{needs}
 use lib.ListN.{length}
@@ -13,7 +13,7 @@ use Rattle.determinize.proofs.exploring.visit_spans.Tie as tie
 
 abbrev Inv-loop : tie.InvT-loop
 Inv-loop s starts closures lower upper set from table₀ sets notes₀ noted top a₀ n₀ count₀ table notes a n count =
-    (top ≤ 4294967296) × (length table ≡ 1024) × (length notes ≡ 10240) × (n < 256) × (a ≤ 4294967296) × (count + lower ≤ noted + a)
+    (top ≤ 4294967296) × (length table ≡ 1024) × (length notes % 5 ≡ 0) × (length notes ≡ length notes₀) × (n < 256) × (a ≤ 4294967296) × (count + lower ≤ noted + a)
     × Canonical (stateCount s) (entries table n)
     × Visiting lower upper (read s) (setAt set 0) (entries table₀ sets) from notes₀ noted table notes n count a
 
@@ -25,5 +25,5 @@ visit-spans-spec =
     tie.close
     (tie.spec Inv-loop μ-loop (λ c. search needs) (λ c. search (visit-begins, needs)) (λ c. search needs) (λ c κs. search needs) (λ c. search needs)
     (λ c. search needs) (λ c. search (visit-over, needs)) (λ c. search needs) (λ c. search (cut-less, needs))
-    (λ c. (search needs, search needs, search needs, search needs, search cut-most, search cut-counts, search canonical-next, search visit-next))
+    (λ c. (search needs, search needs, search needs, search needs, search needs, search cut-most, search cut-counts, search canonical-next, search visit-next))
     (λ c. search needs) (λ c. search needs) (λ c. search (visit-ended, needs)))

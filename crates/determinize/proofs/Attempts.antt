@@ -1,0 +1,124 @@
+-- The laws by which the first pass gives up: the records of a set, the room for notes, and what the pass then came to.
+use Prim.Native.Nat.{ℕ, _+_, _-_, _*_, _≤_, _<_}
+use mathlib.Core.Bool.{Bool, true, false, cond, _&&_}
+use mathlib.Core.List.{List, [], _∷_}
+use mathlib.Core.Logic.{inl, inr, ⊎-elim}
+use mathlib.Core.Path.{_≡_, refl, sym, _∙_, ap, subst}
+use native.Mathlib.Omega.{arith}
+use borrow.Author.Needs.{needs}
+use borrow.Author.Tests.{lt-ltb, le-ltb, ltb-true, ltb-false}
+use lib.Dec.{ltb}
+use lib.ListN.{length, getD, replicate}
+use Rattle.lists.specs.Written.{Written}
+use Rattle.lists.proofs.Tests.{test}
+use Rattle.automata.specs.Automaton.{Automaton}
+use Rattle.sets.specs.Sets.{Set}
+use Rattle.sets.specs.inner.BitSet.{setAt}
+use Rattle.sets.specs.inner.Members.{membersFrom, nextMember}
+use Rattle.sets.specs.inner.Words.{putAt}
+use Rattle.sets.proofs.BitSet.{at-canon}
+use Rattle.sets.proofs.Members.{visit-start, visit-next, from-end}
+use Rattle.words.specs.Simulation.{startSet}
+use Rattle.words.proofs.Visiting.{member-here, member-later}
+use Rattle.determinize.specs.declared.Progress.{Progress}
+use Rattle.determinize.specs.declared.Progress.the-variants.{Sets, Over}
+use Rattle.determinize.specs.declared.Exploration.{Exploration}
+use Rattle.determinize.specs.declared.Exploration.the-variants.{Finished, Unfinished}
+use Rattle.determinize.specs.inner.Notes.{Explored}
+use Rattle.determinize.specs.inner.Attempts.{runLength, recordsOf, Complete, Attempted}
+use Rattle.determinize.proofs.Queued.{row-at}
+
+-- `run_length`
+module _ (starts : List ℕ) (q : ℕ) where
+  pub length-past : length starts ≤ q + 1 → 0 ≡ runLength starts q
+  unfolding runLength
+  length-past h = rw (le-ltb _ _ h)
+
+  pub length-none : q + 1 < length starts → getD starts (q + 1) 0 ≤ getD starts q 0 → 0 ≡ runLength starts q
+  unfolding runLength
+  length-none h l = rw (lt-ltb _ _ h) (omega arith)
+
+  pub length-some : q + 1 < length starts → getD starts (q + 1) 0 - getD starts q 0 ≡ runLength starts q
+  unfolding runLength
+  length-some h = rw (lt-ltb _ _ h)
+
+pub ruleset lengthLaws = (length-past, length-none, length-some, needs)
+
+-- `is_long`
+module _ (starts set : List ℕ) where
+  pub long-begins : (q : ℕ) → q ≡ nextMember (setAt set 0) 0 → 0 + recordsOf starts (membersFrom q (setAt set 0)) ≡ recordsOf starts (setAt set 0)
+  long-begins q h = rw (visit-start (setAt set 0) (at-canon set 0) q h) (omega arith)
+
+  module _ (q k : ℕ) (i : k + recordsOf starts (membersFrom q (setAt set 0)) ≡ recordsOf starts (setAt set 0)) where
+    pub long-ended : k ≤ 64 → 256 ≤ q → false ≡ ltb 64 (recordsOf starts (setAt set 0))
+    unfolding recordsOf
+    long-ended l h =
+        let z : recordsOf starts (membersFrom q (setAt set 0)) ≡ 0 = ap (recordsOf starts) (from-end (setAt set 0) (at-canon set 0) q h) in
+        sym (le-ltb 64 (recordsOf starts (setAt set 0)) (omega arith))
+
+    module _ (h : q < 256) (n : q ≡ nextMember (setAt set 0) q) (m : ℕ) (e : m ≡ runLength starts q) where
+      left : (x : ℕ) → x ≡ nextMember (setAt set 0) (q + 1) → recordsOf starts (membersFrom q (setAt set 0)) ≡ m + recordsOf starts (membersFrom x (setAt set 0))
+      unfolding recordsOf
+      left x j = ap (recordsOf starts) (visit-next (setAt set 0) (at-canon set 0) q x n h j) ∙ ap (λ y. y + recordsOf starts (membersFrom x (setAt set 0))) (sym e)
+
+      pub long-found : 64 < k + m → true ≡ ltb 64 (recordsOf starts (setAt set 0))
+      long-found l = sym (lt-ltb 64 (recordsOf starts (setAt set 0)) (omega (arith, left (nextMember (setAt set 0) (q + 1)) refl)))
+
+      pub long-next : (x : ℕ) → x ≡ nextMember (setAt set 0) (q + 1) → k + m + recordsOf starts (membersFrom x (setAt set 0)) ≡ recordsOf starts (setAt set 0)
+      long-next x j = omega (arith, left x j)
+
+pub ruleset longLaws = (long-begins, long-ended, long-found, long-next, member-here, member-later, needs)
+
+pub long-entry : (starts set t : List ℕ) (i : ℕ) (b : Bool) → set ≡ putAt (replicate 4 0) 0 t (4 * i) → b ≡ ltb 64 (recordsOf starts (setAt set 0)) → b ≡ ltb 64 (recordsOf starts (setAt t (4 * i)))
+long-entry starts set t i b e f = f ∙ ap (λ S. ltb 64 (recordsOf starts S)) (row-at set t i e)
+
+-- `is_full`
+pub full-never : (l k : ℕ) → 10240 ≤ l → false ≡ (ltb l 10240 && ltb l k)
+full-never l k h = rw (le-ltb _ _ h)
+
+pub full-short : (l k : ℕ) → l < 10240 → ltb l k ≡ (ltb l 10240 && ltb l k)
+full-short l k h = rw (lt-ltb _ _ h)
+
+pub ruleset fullLaws = (full-never, full-short, needs)
+
+-- what the first pass came to
+module _ (lo hi : ℕ) (A : Automaton) (t r : List ℕ) where
+  pub attempt-unfinished : setAt t 0 ≡ startSet A → Attempted lo hi A t r Unfinished
+  unfolding Attempted
+  attempt-unfinished e = e
+
+  pub attempt-over : (before : List ℕ) → Explored lo hi A before t r Over → Attempted lo hi A t r (Finished Over)
+  unfolding Attempted
+  attempt-over before p = record { before = before; explored = p; room = λ n m e. absurd (other n m e) }
+    where
+      other : (n m : ℕ) → Over ≡ Sets n m → ⊥
+      other n m e = let z : _≡_ {A = ℕ} 0 1 = cc in omega arith
+
+  pub attempt-done : (before : List ℕ) (n m : ℕ) → Explored lo hi A before t r (Sets n m) → length r ≡ length before → (b : Bool) → b ≡ (ltb (length r) 10240 && ltb (length r) (5 * m)) → b ≡ false → Attempted lo hi A t r (Finished (Sets n m))
+  unfolding Attempted
+  attempt-done before n m p l b e f = record { before = before; explored = p; room = λ i j q h. let z : m ≡ j = cc in fits j h z }
+    where
+      fits : (j : ℕ) → j ≤ 2048 → m ≡ j → 5 * j ≤ length before
+      fits j h z =
+          ⊎-elim
+          (λ (c : ltb (length r) 10240 ≡ true).
+          ⊎-elim (λ (d : ltb (length r) (5 * m) ≡ true). let y : _≡_ {A = Bool} true false = sym (rw (c, d)) ∙ sym e ∙ f in absurd (bools y)) (λ (d : ltb (length r) (5 * m) ≡ false). let y : 5 * m ≤ length r = ltb-false _ _ d in omega arith)
+          (test (ltb (length r) (5 * m))))
+          (λ (c : ltb (length r) 10240 ≡ false). let y : 10240 ≤ length r = ltb-false _ _ c in omega arith)
+          (test (ltb (length r) 10240))
+        where
+          bools : _≡_ {A = Bool} true false → ⊥
+          bools y = let z : _≡_ {A = ℕ} 0 1 = cc in omega arith
+
+  -- with room for all notes of a result
+  pub complete-all : (before : List ℕ) (x : Progress) → Explored lo hi A before t r x → length before ≡ 10240 → Complete lo hi A t r x
+  complete-all before x p l = record { before = before; explored = p; room = λ n m e h. omega arith }
+
+  module _ (x : Exploration) (p : Attempted lo hi A t r x) where
+    pub attempt-finished : (y : Progress) → x ≡ Finished y → Complete lo hi A t r y
+    unfolding Attempted
+    attempt-finished y e = subst (Attempted lo hi A t r) e p
+
+    pub attempt-start : x ≡ Unfinished → setAt t 0 ≡ startSet A
+    unfolding Attempted
+    attempt-start e = subst (Attempted lo hi A t r) e p

@@ -1,0 +1,28 @@
+-- `pass_openings` meets its contract.
+use Prim.Native.Nat.{_-_}
+use mathlib.Core.Path.{_≡_}
+use borrow.Author.Needs.{needs}
+use lib.ListN.{length}
+use Rattle.sets.specs.inner.BitSet.{setAt}
+use Rattle.sweep.proofs.Passing.{openLaws, open-noted, open-other}
+use Rattle.sweep.specs.inner.Passing.{Passing}
+use Rattle.sweep.proofs.pass_openings.Statement.{statement}
+use Rattle.sweep.proofs.pass_openings.Tie as tie
+
+abbrev Inv-loop : tie.InvT-loop
+Inv-loop s closures opens ends set symbol start ended reach₀ tree₀ at₀ reach tree at = Passing s closures opens ends (setAt set 0) at ended symbol reach tree × (length reach ≡ length reach₀) × (length tree ≡ length tree₀)
+
+abbrev μ-loop : tie.MeasureT-loop
+μ-loop s closures opens ends set symbol start ended reach₀ tree₀ at₀ reach tree at = length opens - at
+
+pub pass-openings-spec : {M : Type 1} → statement M
+pass-openings-spec =
+    tie.close
+    (tie.spec Inv-loop μ-loop (λ c. search openLaws) (λ c. search openLaws) (λ c. search openLaws) (λ c. search openLaws) (λ c. search openLaws)
+    (λ c. search openLaws) (λ c. search openLaws) (λ c. search openLaws) (λ c. search openLaws) (λ c. search openLaws) (λ c. search openLaws)
+    (λ c. search openLaws) (λ c. search openLaws) (λ c. search openLaws) (λ c κs. search openLaws) (λ c. search openLaws) (λ c. search openLaws)
+    (λ c. search openLaws) (λ c κs. search openLaws) (λ c. search openLaws)
+    (λ c. (open-noted _ _ _ _ _ _ _ _ _ _ (c .before .before .before .before .before .before .before .before .before .before .before .before .before .before .before .loop .inv .0) (c .before .before .before .before .before .before .before .before .before .before .before .before .before .before .loop-test .taken) _ (c .before .before .before .before .before .before .before .before .before .is-in .ensures) (c .before .before .before .before .before .before .before .before .if1 .taken) (c .before .before .before .before .before .before .before .if2 .left) _ _ (c .before .before .before .before .«open» .ensures), search needs, search needs))
+    (λ c. search openLaws)
+    (λ c. (open-other _ _ _ _ _ _ _ _ _ _ (c .before .before .before .before .before .before .before .loop .inv .0) (c .before .before .before .before .before .before .loop-test .taken) _ (c .before .is-in .ensures) (c .if1 .left), search needs, search needs))
+    (λ c. search openLaws) (λ c. search openLaws) (λ c. search openLaws))

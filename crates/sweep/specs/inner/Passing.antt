@@ -1,0 +1,56 @@
+-- For inner contracts. The pass as the code holds it: events as records of five words, the reaches in r, and the sets of the targets as the leaves of a tree.
+use Prim.Native.Nat.{ℕ, _+_, _-_, _*_, _≤_, _<_, min}
+use mathlib.Core.Bool.{true, cond}
+use mathlib.Core.List.{List, []}
+use mathlib.Core.Path.{_≡_}
+use lib.Dec.{ltb}
+use lib.ListN.{length, getD, set, drop}
+use Rattle.automata.specs.Records.{readRecords}
+use Rattle.sets.specs.Sets.{Set, has}
+use Rattle.sets.specs.inner.BitSet.{setAt}
+use Rattle.sheets.specs.inner.Accepted.{Accepted}
+use Rattle.sheets.specs.Sheet.{stateCount, read}
+use Rattle.words.specs.Simulation.{closure, outgoing}
+use Rattle.sweep.specs.inner.Tree.{Tree, leaf, LeafSet}
+use Rattle.sweep.specs.inner.Sweep.{Passes}
+
+-- the sheet s is accepted, and c has the closures of its states
+pub record Closed (s c : List ℕ) : Type 0 where
+  pub accepted : Accepted s
+  pub long : length c ≡ 1024
+  pub rows : (q : ℕ) → q < stateCount s → setAt c (4 * q) ≡ closure (read s) q
+
+-- the row of state q in the table c
+unfoldable pub row : List ℕ → ℕ → Set
+row c q = setAt c (4 * q)
+
+-- the pass over the ranges that leave S, at the symbol a: the openings from i on and the endings from j on are left
+pub record Passing (s c opens ends : List ℕ) (S : Set) (i j a : ℕ) (r t : List ℕ) : Type 0 where
+  pub closed : Closed s c
+  pub in-opens : i ≤ length opens
+  pub in-ends : j ≤ length ends
+  pub long : length r ≡ 256
+  pub tree : Tree t
+  pub passes : Passes (outgoing (read s) S) S (readRecords opens) (readRecords ends) (readRecords (drop i opens)) (readRecords (drop j ends)) a r (row c) (leaf t)
+
+-- the record at `at`, if there is one, is the next event of S, and lies above a
+pub record Stopped (k : ℕ) (ev : List ℕ) (S : Set) (at a : ℕ) : Type 0 where
+  pub mine : 5 ≤ length ev - at → has (getD ev (at + 2) 0) S ≡ true
+  pub above : 5 ≤ length ev - at → a < getD ev at 0 + k
+
+-- what is noted at the symbol a of a range to q that has opened and ends at l: nothing where it has ended or the target reaches as far, or else
+-- the target's reach, and its set where the target was not live
+pub data Noted (c : List ℕ) (a l q : ℕ) (r t : List ℕ) : List ℕ → List ℕ → Type 0 where
+  over : l < a → Noted c a l q r t r t
+  known : l < getD r q 0 → Noted c a l q r t r t
+  longer : a ≤ l → getD r q 0 ≤ l → a < getD r q 0 → Noted c a l q r t (set r q (l + 1)) t
+  begun : {u : List ℕ} → a ≤ l → getD r q 0 ≤ l → LeafSet t u q (setAt c (4 * q)) → Noted c a l q r t (set r q (l + 1)) u
+
+-- what the end of a range to q does to the tree, at the symbol a: nothing where the target is live, or else its set is empty
+pub data Closes (a q : ℕ) (r t : List ℕ) : List ℕ → Type 0 where
+  held : a < getD r q 0 → Closes a q r t t
+  empty : {u : List ℕ} → getD r q 0 ≤ a → LeafSet t u q [] → Closes a q r t u
+
+-- the symbol of the event at `at` plus k, or top if that is less or there is none
+unfoldable pub cutAt : ℕ → List ℕ → ℕ → ℕ → ℕ
+cutAt k ev at top = cond (ltb (length ev - at) 5) top (min (getD ev at 0 + k) top)
