@@ -211,7 +211,8 @@ fn eliminate_large(
     put_result(s, closures, &buf[0..end], labels, out, names)
 }
 
-// The same; memory for 64 transitions is tried first.
+// The same; memory for 64 transitions is tried first. Met is how many words of transitions were met there, or 0. (The compiler does not take a function
+// with a large array into one that calls itself, so few transitions do not pay for the large memory.)
 fn eliminate_tables(
     s: &[u32],
     starts: &[u32],
@@ -219,15 +220,19 @@ fn eliminate_tables(
     labels: &[u8],
     out: &mut [u32],
     names: &mut [u8],
+    met: usize,
 ) -> Made
     requires { ⌜ Tables (now s) (now starts) (now closures) × Ready (now s) (now out) (now names) × (labelsFault (stateCount (now s)) (now labels) ≡ 0) ⌝ }
     ensures { λ r. ⌜ outputOf r (now (out .exit)) (now (names .exit)) ≡ outputs (now (out .entry)) (now (names .entry)) (eliminatedWith (read (now (s .entry))) (readLabels (now (labels .entry)))) ⌝ }
 {
+    if 320 < met {
+        return eliminate_large(s, starts, closures, labels, out, names);
+    }
     let mut part = [0u32; 640];
     let mut buf = [0u32; 640];
     let end = gather(s, starts, closures, &mut part, &mut buf);
     if 320 < end {
-        return eliminate_large(s, starts, closures, labels, out, names);
+        return eliminate_tables(s, starts, closures, labels, out, names, end);
     }
     put_result(s, closures, &buf[0..end], labels, out, names)
 }
@@ -241,7 +246,7 @@ fn eliminate_accepted(s: &[u32], labels: &[u8], out: &mut [u32], names: &mut [u8
     let mut closures = [0u64; 1024];
     sheets::run_starts(s, &mut starts);
     words::state_closures(s, &mut closures);
-    eliminate_tables(s, &starts, &closures, labels, out, names)
+    eliminate_tables(s, &starts, &closures, labels, out, names, 0)
 }
 
 // Eliminates the epsilons of an accepted sheet.
