@@ -69,7 +69,8 @@ module _ (starts set : List ℕ) where
 
 pub ruleset longLaws = (long-begins, long-ended, long-found, long-next, member-here, member-later, needs)
 
-pub long-entry : (starts set t : List ℕ) (i : ℕ) (b : Bool) → set ≡ putAt (replicate 4 0) 0 t (4 * i) → b ≡ ltb 64 (recordsOf starts (setAt set 0)) → b ≡ ltb 64 (recordsOf starts (setAt t (4 * i)))
+pub long-entry : (starts set t : List ℕ) (i : ℕ) (b : Bool) → set ≡ putAt (replicate 4 0) 0 t (4 * i) → b ≡ ltb 64 (recordsOf starts (setAt set 0))
+    → b ≡ ltb 64 (recordsOf starts (setAt t (4 * i)))
 long-entry starts set t i b e f = f ∙ ap (λ S. ltb 64 (recordsOf starts S)) (row-at set t i e)
 
 -- `is_full`
@@ -94,7 +95,8 @@ module _ (lo hi : ℕ) (A : Automaton) (t r : List ℕ) where
       other : (n m : ℕ) → Over ≡ Sets n m → ⊥
       other n m e = let z : _≡_ {A = ℕ} 0 1 = cc in omega arith
 
-  pub attempt-done : (before : List ℕ) (n m : ℕ) → Explored lo hi A before t r (Sets n m) → length r ≡ length before → (b : Bool) → b ≡ (ltb (length r) 10240 && ltb (length r) (5 * m)) → b ≡ false → Attempted lo hi A t r (Finished (Sets n m))
+  pub attempt-done : (before : List ℕ) (n m : ℕ) → Explored lo hi A before t r (Sets n m) → length r ≡ length before → (b : Bool)
+      → b ≡ (ltb (length r) 10240 && ltb (length r) (5 * m)) → b ≡ false → Attempted lo hi A t r (Finished (Sets n m))
   unfolding Attempted
   attempt-done before n m p l b e f = record { before = before; explored = p; room = λ i j q h. let z : m ≡ j = cc in fits j h z }
     where

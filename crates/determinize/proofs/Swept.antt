@@ -43,7 +43,8 @@ number-some [] T h = absurd (omega arith)
 number-some (q ∷ R) T h = (λ e. let z : _≡_ {A = ℕ} 0 1 = cc in omega arith, refl)
 
 -- `place_near`
-pub near-known : (t set : List ℕ) (n j : ℕ) (b : Bool) → n < 256 → Numbered (entries t n) j → b ≡ (ltb j n && same (setAt set 0) (setAt t (4 * j))) → b ≡ true → Placed (setAt set 0) (entries t n) t n j
+pub near-known : (t set : List ℕ) (n j : ℕ) (b : Bool) → n < 256 → Numbered (entries t n) j → b ≡ (ltb j n && same (setAt set 0) (setAt t (4 * j)))
+    → b ≡ true → Placed (setAt set 0) (entries t n) t n j
 near-known t set n j b few k e h =
     let p = and-parts (ltb j n) _ (sym e ∙ h) in
     let l : j < n = ltb-true _ _ (p .0) in
@@ -69,10 +70,12 @@ numbered-placed R T t n j p =
     }
 
 -- `visit_swept`
-pub visit-swept-done : (R : Set) (T : List Set) (tree next t r v : List ℕ) (m j first last k to : ℕ) → setAt tree 4 ≡ R → next ≡ putAt (replicate 4 0) 0 tree (4 * 1) → Placed (setAt next 0) T t m to
+pub visit-swept-done : (R : Set) (T : List Set) (tree next t r v : List ℕ) (m j first last k to : ℕ) → setAt tree 4 ≡ R
+    → next ≡ putAt (replicate 4 0) 0 tree (4 * 1) → Placed (setAt next 0) T t m to
     → Written r (5 * k) (j ∷ 1 ∷ first ∷ last ∷ to ∷ []) v (5 * k + 5) → Visited R T j first last r k t v m
 visit-swept-done R T tree next t r v m j first last k to e f p w = visit-done R T t next r v m j first last k to (row-at next tree 1 f ∙ e) p w
 
 -- `sweep_spans`
-pub passing-next : (s c opens ends : List ℕ) (S : Set) (i j a : ℕ) (r t : List ℕ) → Passing s c opens ends S i j a r t → (top x : ℕ) (es : List Transition) → a < top → x ≡ nextCut a top es → Passing s c opens ends S i j x r t
+pub passing-next : (s c opens ends : List ℕ) (S : Set) (i j a : ℕ) (r t : List ℕ) → Passing s c opens ends S i j a r t
+    → (top x : ℕ) (es : List Transition) → a < top → x ≡ nextCut a top es → Passing s c opens ends S i j x r t
 passing-next s c opens ends S i j a r t p top x es h e = passing-later s c opens ends S i j a r t p x (omega (arith, next-gt a top es h))

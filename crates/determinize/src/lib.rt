@@ -66,38 +66,6 @@ fn finish(
     }
 }
 
-// Determinizes by one pass over the events of the sheet for each set that is long. The memory of the notes is lent for putting the events in order.
-fn determinize_swept(
-    s: &[u32],
-    starts: &[u32],
-    closures: &[u64],
-    lower: u32,
-    upper: u32,
-    table: &mut [u64],
-    notes: &mut [u32],
-    out: &mut [u32],
-) -> Determinized
-    requires { ⌜ Tables (now s) (now starts) (now closures) × (setAt (now table) 0 ≡ startSet (read (now s))) × (length (now table) ≡ 1024) × (length (now notes) ≡ 10240) × (10500 ≤ length (now out)) ⌝ }
-    ensures { λ r. ⌜ determinizedOf r (now (out .exit)) ≡ sheetOutput (now (out .entry)) (determinize lower upper (read (now (s .entry)))) ⌝ }
-{
-    let mut opens = [0u32; 10240];
-    let mut ends = [0u32; 10240];
-    let opened = sweep::order_events(0, s, &mut opens, notes);
-    let ended = sweep::order_events(1, s, &mut ends, notes);
-    let progress = sweeping::explore_swept(
-        s,
-        starts,
-        closures,
-        &opens[0..opened],
-        &ends[0..ended],
-        lower,
-        upper,
-        table,
-        notes,
-    );
-    finish(s, lower, upper, table, notes, progress, out)
-}
-
 // Determinizes with room for 2,048 notes.
 fn determinize_large(
     s: &[u32],
@@ -114,16 +82,18 @@ fn determinize_large(
     let mut notes = [0u32; 10240];
     match exploring::explore(s, starts, closures, lower, upper, table, &mut notes) {
         Exploration::Finished(progress) => finish(s, lower, upper, table, &notes, progress, out),
-        Exploration::Unfinished => determinize_swept(
-            s,
-            starts,
-            closures,
-            lower,
-            upper,
-            table,
-            &mut notes,
-            out,
-        ),
+        Exploration::Unfinished => {
+            let progress = sweeping::explore_by_events(
+                s,
+                starts,
+                closures,
+                lower,
+                upper,
+                table,
+                &mut notes,
+            );
+            finish(s, lower, upper, table, &notes, progress, out)
+        }
     }
 }
 

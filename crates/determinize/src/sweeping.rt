@@ -15,7 +15,7 @@ ghost use Rattle.ranges.specs.Cuts.{nextCut};
 ghost use Rattle.sweep.specs.inner.Events.{Lined};
 ghost use Rattle.sweep.specs.inner.Passing.{Closed, Passing};
 ghost use Rattle.determinize.specs.inner.Notes.{Canonical, Placed, Visited, SetVisited, Explored};
-ghost use Rattle.determinize.specs.inner.Attempts.{Numbered};
+ghost use Rattle.determinize.specs.inner.Attempts.{Complete, Numbered};
 use crate::Progress;
 use crate::exploring::Entry;
 use sweep::Turn;
@@ -84,7 +84,18 @@ fn visit_swept(
         ends: at.ends,
         cut: at.cut,
     };
-    let turn = sweep::step(s, closures, opens, ends, set, first, before, reach, tree, top);
+    let turn = sweep::step(
+        s,
+        closures,
+        opens,
+        ends,
+        set,
+        first,
+        before,
+        reach,
+        tree,
+        top,
+    );
     let cut = turn.cut;
     let mut next = [0u64; 4];
     sets::copy_row(&mut next, tree, 1);
@@ -206,7 +217,7 @@ fn visit_entry(
 }
 
 // The whole table like `explore`, with the openings and the endings of the sheet in order.
-pub fn explore_swept(
+fn explore_swept(
     s: &[u32],
     starts: &[u32],
     closures: &[u64],
@@ -246,5 +257,38 @@ pub fn explore_swept(
             Progress::Over => return Progress::Over,
         }
     }
-    Progress::Sets(n, crate::exploring::note_sink(notes, count, n as u32, lower, upper))
+    Progress::Sets(
+        n,
+        crate::exploring::note_sink(notes, count, n as u32, lower, upper),
+    )
+}
+
+// The whole table like `explore`: the events of the sheet are put in order, with the memory of the notes lent for it.
+pub fn explore_by_events(
+    s: &[u32],
+    starts: &[u32],
+    closures: &[u64],
+    lower: u32,
+    upper: u32,
+    table: &mut [u64],
+    notes: &mut [u32],
+) -> Progress
+    requires { ⌜ Tables (now s) (now starts) (now closures) × (setAt (now table) 0 ≡ startSet (read (now s))) × (length (now table) ≡ 1024) × (length (now notes) ≡ 10240) ⌝ }
+    ensures { λ r. ⌜ Complete lower upper (read (now (s .entry))) (now (table .exit)) (now (notes .exit)) r ⌝ }
+{
+    let mut opens = [0u32; 10240];
+    let mut ends = [0u32; 10240];
+    let opened = sweep::order_events(0, s, &mut opens, notes);
+    let ended = sweep::order_events(1, s, &mut ends, notes);
+    explore_swept(
+        s,
+        starts,
+        closures,
+        &opens[0..opened],
+        &ends[0..ended],
+        lower,
+        upper,
+        table,
+        notes,
+    )
 }

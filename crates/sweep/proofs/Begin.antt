@@ -41,7 +41,8 @@ lined-line : (k : ℕ) (s ev : List ℕ) → Accepted s → Lined k s ev → (S 
 lined-line k s ev ok w S =
     subst (Timeline k (outgoing (read s) S) S) (sym (w .words)) (timeline k (read s) (read-well s ok .states) (ok .few-states) S)
 
-pub passing-begin : (s c opens ends : List ℕ) → Closed s c → Lined 0 s opens → Lined 1 s ends → (S : Set) (a : ℕ) → Passing s c opens ends S 0 0 a (replicate 256 0) (replicate 2048 0)
+pub passing-begin : (s c opens ends : List ℕ) → Closed s c → Lined 0 s opens → Lined 1 s ends → (S : Set) (a : ℕ)
+    → Passing s c opens ends S 0 0 a (replicate 256 0) (replicate 2048 0)
 passing-begin s c opens ends k o e S a =
     record {
       closed = k;

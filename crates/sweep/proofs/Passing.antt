@@ -62,7 +62,8 @@ module _ (s c opens ends : List ℕ) (S : Set) (i j a : ℕ) (r t : List ℕ) (p
     open-other x e n = after (p .long) (p .tree) (opening-past opening-here (λ m. absurd (false≢true (sym (sym e ∙ n) ∙ m))))
 
     -- one of the set, up to a
-    pub open-noted : (x : Bool) → x ≡ has (getD opens (i + 2) 0) S → x ≡ true → getD opens i 0 ≤ a → (u v : List ℕ) → Noted c a (getD opens (i + 3) 0) (getD opens (i + 4) 0) r t u v
+    pub open-noted : (x : Bool) → x ≡ has (getD opens (i + 2) 0) S → x ≡ true → getD opens i 0 ≤ a → (u v : List ℕ)
+        → Noted c a (getD opens (i + 3) 0) (getD opens (i + 4) 0) r t u v
         → Passing s c opens ends S (i + 5) j a u v
     open-noted x e y g u v (over l) = after (p .long) (p .tree) (opening-past opening-here (λ m. record { before = g; noted = inr l }))
     open-noted x e y g u v (known l) = after (p .long) (p .tree) (opening-past opening-here (λ m. record { before = g; noted = inl l }))
@@ -90,14 +91,16 @@ module _ (s c opens ends : List ℕ) (S : Set) (i j a : ℕ) (r t : List ℕ) (p
     pub ending-target : getD ends (j + 4) 0 < 256
     ending-target = p .passes .ending .targets _ ending-in
 
-    behind : {v : List ℕ} → Tree v → Passes (outgoing (read s) S) S (readRecords opens) (readRecords ends) (readRecords (drop i opens)) (readRecords (drop (j + 5) ends)) a r (row c) (leaf v)
+    behind : {v : List ℕ} → Tree v
+        → Passes (outgoing (read s) S) S (readRecords opens) (readRecords ends) (readRecords (drop i opens)) (readRecords (drop (j + 5) ends)) a r (row c) (leaf v)
         → Passing s c opens ends S i (j + 5) a r v
     behind w q = record { closed = p .closed; in-opens = p .in-opens; in-ends = omega (arith, p .in-ends); long = p .long; tree = w; passes = q }
 
     pub end-other : (x : Bool) → x ≡ has (getD ends (j + 2) 0) S → x ≡ false → Passing s c opens ends S i (j + 5) a r t
     end-other x e n = behind (p .tree) (ending-other ending-here (sym e ∙ n))
 
-    pub end-noted : (x : Bool) → x ≡ has (getD ends (j + 2) 0) S → x ≡ true → getD ends j 0 < a → (v : List ℕ) → Closes a (getD ends (j + 4) 0) r t v → Passing s c opens ends S i (j + 5) a r v
+    pub end-noted : (x : Bool) → x ≡ has (getD ends (j + 2) 0) S → x ≡ true → getD ends j 0 < a → (v : List ℕ) → Closes a (getD ends (j + 4) 0) r t v
+        → Passing s c opens ends S i (j + 5) a r v
     end-noted x e y g v (held l) = behind (p .tree) (ending-held ending-here g l)
     end-noted x e y g v (empty l f) = behind (f .tree) (ending-gone ending-here g l (leaf v) (f .here) (f .others))
 

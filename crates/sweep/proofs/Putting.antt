@@ -41,10 +41,12 @@ module _ (k : ℕ) (r o : List ℕ) (at : ℕ) where
     pub event-room : at + length (recordWords k r) ≤ length o → at + 5 ≤ length o
     event-room l = omega (arith, ap length words)
 
-    pub event-opens : k ≡ 0 → (m : List ℕ) (e : ℕ) → Written o at (getD r 2 0 ∷ k ∷ getD r 0 0 ∷ getD r 3 0 ∷ getD r 4 0 ∷ []) m e → Written o at (recordWords k r) m e
+    pub event-opens : k ≡ 0 → (m : List ℕ) (e : ℕ) → Written o at (getD r 2 0 ∷ k ∷ getD r 0 0 ∷ getD r 3 0 ∷ getD r 4 0 ∷ []) m e
+        → Written o at (recordWords k r) m e
     event-opens z m e w = rw (words, eq-eqb k 0 z) w
 
-    pub event-ends : (k ≡ 0 → ⊥) → (m : List ℕ) (e : ℕ) → Written o at (getD r 3 0 ∷ k ∷ getD r 0 0 ∷ getD r 3 0 ∷ getD r 4 0 ∷ []) m e → Written o at (recordWords k r) m e
+    pub event-ends : (k ≡ 0 → ⊥) → (m : List ℕ) (e : ℕ) → Written o at (getD r 3 0 ∷ k ∷ getD r 0 0 ∷ getD r 3 0 ∷ getD r 4 0 ∷ []) m e
+        → Written o at (recordWords k r) m e
     event-ends z m e w = rw (words, ne-eqb k 0 z) w
 
 pub ruleset eventLaws = (event-not, event-room, event-opens, event-ends, needs)

@@ -69,7 +69,8 @@ swept-begin : {k : ℕ} {es : List Transition} {S : Set} {W : List Transition} (
 swept-begin P w = record { rises = w .rises; inside = λ v m. m; passed = λ v m h. inl m }
 
 module _ {es : List Transition} {S : Set} {U W : List Transition} {C : ℕ → Set} where
-  pub passes-begin : Timeline 0 es S U → Timeline 1 es S W → (a : ℕ) (r : List ℕ) (L : ℕ → Set) → ((q : ℕ) → getD r q 0 ≡ 0) → ((q : ℕ) → L q ≡ []) → Passes es S U W U W a r C L
+  pub passes-begin : Timeline 0 es S U → Timeline 1 es S W → (a : ℕ) (r : List ℕ) (L : ℕ → Set) → ((q : ℕ) → getD r q 0 ≡ 0) → ((q : ℕ) → L q ≡ [])
+      → Passes es S U W U W a r C L
   passes-begin o e a r L z n =
       record {
         opening = o;
@@ -103,7 +104,8 @@ module _ {es : List Transition} {S : Set} {U W : List Transition} {C : ℕ → S
         record { opening = p .opening; ending = p .ending; opened = swept-past (p .opened) here; ended = p .ended; made = p .made; live = p .live; dead = p .dead }
 
     -- of one that reaches further than the target
-    pub opening-noted : {v : Transition} → Passes es S U W (v ∷ Q) R a r C L → has (v .first) S ≡ true → v .from ≤ a → a ≤ v .last → getD r (v .to) 0 ≤ v .last → v .to < length r
+    pub opening-noted : {v : Transition} → Passes es S U W (v ∷ Q) R a r C L → has (v .first) S ≡ true → v .from ≤ a → a ≤ v .last
+        → getD r (v .to) 0 ≤ v .last → v .to < length r
         → (u : List ℕ) → u ≡ set r (v .to) (v .last + 1) → (M : ℕ → Set) → M (v .to) ≡ C (v .to) → ((q : ℕ) → (q ≡ v .to → ⊥) → M q ≡ L q)
         → Passes es S U W Q R a u C M
     unfolding event

@@ -19,7 +19,8 @@ use Rattle.sets.proofs.Stores.{put-same, put-other, unioned}
 use Rattle.sweep.specs.inner.Tree.{both, Node, Tree, Almost, Joined, leaf, Climbed, LeafSet}
 
 -- a node is kept where the three rows are
-kept : (t u : List ℕ) (k : ℕ) → Node t k → setAt u (4 * k) ≡ setAt t (4 * k) → setAt u (4 * (2 * k)) ≡ setAt t (4 * (2 * k)) → setAt u (4 * (2 * k + 1)) ≡ setAt t (4 * (2 * k + 1)) → Node u k
+kept : (t u : List ℕ) (k : ℕ) → Node t k → setAt u (4 * k) ≡ setAt t (4 * k) → setAt u (4 * (2 * k)) ≡ setAt t (4 * (2 * k))
+    → setAt u (4 * (2 * k + 1)) ≡ setAt t (4 * (2 * k + 1)) → Node u k
 kept t u k n a b c = record { joined = a ∙ n .joined ∙ ap₂ both (sym b) (sym c) }
 
 -- `join`
@@ -27,7 +28,8 @@ length-row : (t : List ℕ) (o : ℕ) → length (putAt (replicate 4 0) 0 t o) �
 unfolding putAt
 length-row t o = simp length-set (length-replicate {A = ℕ} 4 0)
 
-pub join-done : (t y z u : List ℕ) (k : ℕ) → 1 ≤ k → k < 256 → length t ≡ 2048 → y ≡ putAt (replicate 4 0) 0 t (4 * (2 * k)) → z ≡ unionAt y 0 t (4 * (2 * k + 1)) → u ≡ putAt t (4 * k) z 0 → Joined t u k
+pub join-done : (t y z u : List ℕ) (k : ℕ) → 1 ≤ k → k < 256 → length t ≡ 2048 → y ≡ putAt (replicate 4 0) 0 t (4 * (2 * k))
+    → z ≡ unionAt y 0 t (4 * (2 * k + 1)) → u ≡ putAt t (4 * k) z 0 → Joined t u k
 unfolding both
 join-done t y z u k l b n f g e =
     let four : length y ≡ 4 = ap length f ∙ length-row t (4 * (2 * k)) in

@@ -10,7 +10,8 @@ use Rattle.sweep.proofs.pass_endings.Statement.{statement}
 use Rattle.sweep.proofs.pass_endings.Tie as tie
 
 abbrev Inv-loop : tie.InvT-loop
-Inv-loop s closures opens ends set symbol opened start reach tree₀ at₀ tree at = Passing s closures opens ends (setAt set 0) opened at symbol reach tree × (length tree ≡ length tree₀)
+Inv-loop s closures opens ends set symbol opened start reach tree₀ at₀ tree at =
+    Passing s closures opens ends (setAt set 0) opened at symbol reach tree × (length tree ≡ length tree₀)
 
 abbrev μ-loop : tie.MeasureT-loop
 μ-loop s closures opens ends set symbol opened start reach tree₀ at₀ tree at = length ends - at
@@ -21,7 +22,20 @@ pass-endings-spec =
     (tie.spec Inv-loop μ-loop (λ c. search endLaws) (λ c. search endLaws) (λ c. search endLaws) (λ c. search endLaws) (λ c. search endLaws)
     (λ c. search endLaws) (λ c. search endLaws) (λ c. search endLaws) (λ c. search endLaws) (λ c. search endLaws) (λ c. search endLaws)
     (λ c κs. search endLaws) (λ c. search endLaws) (λ c. search endLaws) (λ c κs. search endLaws) (λ c. search endLaws)
-    (λ c. (end-noted _ _ _ _ _ _ _ _ _ _ (c .before .before .before .before .before .before .before .before .before .before .before .loop .inv .0) (c .before .before .before .before .before .before .before .before .before .before .loop-test .taken) _ (c .before .before .before .before .before .before .is-in .ensures) (c .before .before .before .before .before .if1 .taken) (c .before .before .before .before .if2 .left) _ (c .before .before .close .ensures), search needs))
+    (λ c.
+    let at-close = c .before .before in
+    let at-if = at-close .before .before in
+    let at-if′ = at-if .before in
+    let at-is-in = at-if′ .before in
+    let at-loop-test = at-is-in .before .before .before .before in
+    let at-loop = at-loop-test .before in (
+      end-noted _ _ _ _ _ _ _ _ _ _ (at-loop .loop .inv .0) (at-loop-test .loop-test .taken) _ (at-is-in .is-in .ensures) (at-if′ .if1 .taken) (at-if .if2 .left) _ (at-close .close .ensures),
+      search needs,
+    ))
     (λ c. search endLaws)
-    (λ c. (end-other _ _ _ _ _ _ _ _ _ _ (c .before .before .before .before .before .before .loop .inv .0) (c .before .before .before .before .before .loop-test .taken) _ (c .before .is-in .ensures) (c .if1 .left), search needs))
+    (λ c.
+    let at-is-in = c .before in
+    let at-loop-test = at-is-in .before .before .before .before in
+    let at-loop = at-loop-test .before in
+    (end-other _ _ _ _ _ _ _ _ _ _ (at-loop .loop .inv .0) (at-loop-test .loop-test .taken) _ (at-is-in .is-in .ensures) (c .if1 .left), search needs))
     (λ c. search endLaws) (λ c. search endLaws))

@@ -10,7 +10,8 @@ use Rattle.sweep.proofs.pass_openings.Statement.{statement}
 use Rattle.sweep.proofs.pass_openings.Tie as tie
 
 abbrev Inv-loop : tie.InvT-loop
-Inv-loop s closures opens ends set symbol start ended reach₀ tree₀ at₀ reach tree at = Passing s closures opens ends (setAt set 0) at ended symbol reach tree × (length reach ≡ length reach₀) × (length tree ≡ length tree₀)
+Inv-loop s closures opens ends set symbol start ended reach₀ tree₀ at₀ reach tree at =
+    Passing s closures opens ends (setAt set 0) at ended symbol reach tree × (length reach ≡ length reach₀) × (length tree ≡ length tree₀)
 
 abbrev μ-loop : tie.MeasureT-loop
 μ-loop s closures opens ends set symbol start ended reach₀ tree₀ at₀ reach tree at = length opens - at
@@ -22,7 +23,24 @@ pass-openings-spec =
     (λ c. search openLaws) (λ c. search openLaws) (λ c. search openLaws) (λ c. search openLaws) (λ c. search openLaws) (λ c. search openLaws)
     (λ c. search openLaws) (λ c. search openLaws) (λ c. search openLaws) (λ c κs. search openLaws) (λ c. search openLaws) (λ c. search openLaws)
     (λ c. search openLaws) (λ c κs. search openLaws) (λ c. search openLaws)
-    (λ c. (open-noted _ _ _ _ _ _ _ _ _ _ (c .before .before .before .before .before .before .before .before .before .before .before .before .before .before .before .loop .inv .0) (c .before .before .before .before .before .before .before .before .before .before .before .before .before .before .loop-test .taken) _ (c .before .before .before .before .before .before .before .before .before .is-in .ensures) (c .before .before .before .before .before .before .before .before .if1 .taken) (c .before .before .before .before .before .before .before .if2 .left) _ _ (c .before .before .before .before .«open» .ensures), search needs, search needs))
+    (λ c.
+    let at-open = c .before .before .before .before in
+    let at-if = at-open .before .before .before in
+    let at-if′ = at-if .before in
+    let at-is-in = at-if′ .before in
+    let at-loop-test = at-is-in .before .before .before .before .before in
+    let at-loop = at-loop-test .before in (
+      open-noted _ _ _ _ _ _ _ _ _ _ (at-loop .loop .inv .0) (at-loop-test .loop-test .taken) _ (at-is-in .is-in .ensures) (at-if′ .if1 .taken) (at-if .if2 .left) _ _ (at-open .«open» .ensures),
+      search needs,
+      search needs,
+    ))
     (λ c. search openLaws)
-    (λ c. (open-other _ _ _ _ _ _ _ _ _ _ (c .before .before .before .before .before .before .before .loop .inv .0) (c .before .before .before .before .before .before .loop-test .taken) _ (c .before .is-in .ensures) (c .if1 .left), search needs, search needs))
+    (λ c.
+    let at-is-in = c .before in
+    let at-loop-test = at-is-in .before .before .before .before .before in
+    let at-loop = at-loop-test .before in (
+      open-other _ _ _ _ _ _ _ _ _ _ (at-loop .loop .inv .0) (at-loop-test .loop-test .taken) _ (at-is-in .is-in .ensures) (c .if1 .left),
+      search needs,
+      search needs,
+    ))
     (λ c. search openLaws) (λ c. search openLaws) (λ c. search openLaws))

@@ -10,7 +10,9 @@ use Rattle.sweep.proofs.ordering.put_events.Statement.{statement}
 use Rattle.sweep.proofs.ordering.put_events.Tie as tie
 
 abbrev Inv-loop : tie.InvT-loop
-Inv-loop kind records out₀ end₀ at₀ out end at = (at ≤ length records) × (length out ≡ length out₀) × Left out₀ 0 (eventWords kind (readRecords records)) out end (eventWords kind (readRecords (drop at records)))
+Inv-loop kind records out₀ end₀ at₀ out end at =
+    (at ≤ length records) × (length out ≡ length out₀)
+    × Left out₀ 0 (eventWords kind (readRecords records)) out end (eventWords kind (readRecords (drop at records)))
 
 abbrev μ-loop : tie.MeasureT-loop
 μ-loop kind records out₀ end₀ at₀ out end at = length records - at
