@@ -6,7 +6,6 @@ use mathlib.Core.Logic.{⊎-elim}
 use mathlib.Core.Path.{_≡_, refl, sym, _∙_, ap, subst}
 use native.Mathlib.Omega.{arith}
 use borrow.Author.Needs.{needs}
-use borrow.Author.Tests.{eq-eqb, eqb-true}
 use lib.Dec.{eqb}
 use lib.ListN.{length, take, drop, replicate, length-map}
 use Rattle.lists.specs.Index.{same}
@@ -22,7 +21,7 @@ use Rattle.automata.proofs.Ordered.{lex-irreflexive, inOrder-in, inOrder-out, i
 use Rattle.automata.proofs.Records.{read-write}
 use Rattle.automata.proofs.States.{states-at, states-end}
 use Rattle.output.specs.inner.Gathering.{Memory, Open, Gathered, Rest, Collected, Settled}
-use Rattle.output.specs.inner.Ordered.{Listed, recordsIn}
+use Rattle.output.specs.inner.Ordered.{recordsIn}
 use Rattle.output.proofs.Collecting.{rest-none, rest-end, rest-next, rest-over, collect-all, same-memory}
 use Rattle.sets.specs.Sets.{Set}
 use Rattle.sets.specs.inner.BitSet.{setAt}

@@ -1,5 +1,6 @@
-// Epsilon elimination: each state gets the ranges and the acceptance of its closure. Closures and runs are found once; the
-// ranges are gathered and put in order in local memory, and nothing is written to an output before it is known that they are few enough.
+// Epsilon elimination: each state gets the ranges and the acceptance of its closure. Closures and runs are found once. The ranges of a closure are
+// gathered and put in order by themselves, once for states in a row that have the same closure, and then those of all states one behind the other, in
+// local memory; nothing is written to an output before it is known that they are few enough.
 ghost use mathlib.Core.List.{[], _∷_, _++_, flatMap};
 ghost use mathlib.Core.Path.{_≡_};
 ghost use Prim.Native.Nat.{_+_, _≤_, _<_};
@@ -211,8 +212,8 @@ fn eliminate_large(
     put_result(s, closures, &buf[0..end], labels, out, names)
 }
 
-// The same; memory for 64 transitions is tried first. Met is how many words of transitions were met there, or 0. (The compiler does not take a function
-// with a large array into one that calls itself, so few transitions do not pay for the large memory.)
+// The same; memory for 64 transitions is tried first, and where it is too small the call is made again. Met is how many words of transitions were met
+// there, or 0. The compiler does not take a function with a large array into one that calls itself, so few transitions do not pay for the large memory.
 fn eliminate_tables(
     s: &[u32],
     starts: &[u32],

@@ -1,7 +1,7 @@
 -- Records in order, halved until one is left: the laws by which a record is found among them.
 use Prim.Native.Nat.{ℕ, _+_, _-_, _*_, _/_, _≤_, _<_}
 use mathlib.Core.Bool.{Bool, true, false, cond, _&&_, true≢false}
-use mathlib.Core.List.{List, [], _∷_, _++_, List·Memᴰ·head, List·Memᴰ·tail, List·Memᴰ·not-nil, List·Memᴰ·cases-cons, List·Memᴰ·append-cases, Memᴰ·append-left, Memᴰ·append-right}
+use mathlib.Core.List.{List, [], _∷_, _++_, List·Memᴰ·head, List·Memᴰ·not-nil, List·Memᴰ·cases-cons, List·Memᴰ·append-cases, Memᴰ·append-left, Memᴰ·append-right}
 use mathlib.Core.Logic.{_⊎_, ⊎-elim}
 use mathlib.Core.Path.{_≡_, refl, sym, _∙_, ap, subst}
 use native.Mathlib.Omega.{arith}
@@ -10,7 +10,7 @@ use borrow.Author.Tests.{eq-eqb, eqb-true}
 use lib.Dec.{eqb}
 use lib.ListN.{length, take, drop}
 use Rattle.lists.specs.Lists.{_∈_, Ascending, none, more}
-use Rattle.lists.proofs.Tests.{test, and-both, and-parts}
+use Rattle.lists.proofs.Tests.{test, and-parts}
 use Rattle.automata.specs.Automaton.{Transition}
 use Rattle.automata.specs.Ordered.{less}
 use Rattle.automata.specs.Records.{wordsOf, readRecords}
@@ -19,7 +19,7 @@ use Rattle.automata.specs.WellFormed.{Before}
 use Rattle.automata.proofs.Ordered.{less-lex, lex-less, lex-trans, lex-irreflexive}
 use Rattle.output.specs.inner.Finding.{sameRecord, Placed, Tells}
 use Rattle.output.specs.inner.Ordered.{Listed, recordsIn}
-use Rattle.output.proofs.Heads.{listed-five, listed-read, listed-first, listed-before}
+use Rattle.output.proofs.Heads.{listed-read, listed-first, listed-before}
 use Rattle.output.proofs.Halves.{records-halves}
 use Rattle.output.proofs.Joining.{last-record}
 

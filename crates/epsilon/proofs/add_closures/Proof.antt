@@ -24,24 +24,23 @@ abbrev μ-loop : tie.MeasureT-loop
 pub add-closures-spec : {M : Type 1} → statement M
 add-closures-spec =
     tie.close
-    (tie.spec Inv-loop μ-loop
-    (λ c. search allLaws)
-    (λ c. (search allLaws, search allLaws, search allLaws, search allLaws, search allLaws, search allLaws))
-    (λ c. search allLaws)
-    (λ c κs. (search allLaws, search allLaws, search allLaws, search allLaws))
-    (λ c. search allLaws)
-    (λ c. search allLaws)
-    (λ c. part-over (c .before .before .before .before .before .before .before .before .before .before .before .before .before .before .before .args .s .now) _ _ _ _ _ (c .before .before .before .before .before .before .before .before .loop .inv .5) (c .before .before .before .before .before .before .before .loop-test .taken) _ _ (c .before .before .before .before .closure-part .ensures .1) (c .if1 .taken) (omega arith))
-    (λ c. search allLaws)
-    (λ c. search allLaws)
-    (λ c. search allLaws)
-    (λ c κs. search allLaws)
-    (λ c. search allLaws)
-    (λ c. search allLaws)
-    (λ c. all-over (c .before .before .before .before .before .before .before .before .before .before .before .before .before .before .before .before .before .before .before .before .before .before .before .args .s .now) _ _ _ _ _ (c .before .before .before .before .before .before .before .before .before .before .before .before .before .before .before .before .loop .inv .5) (c .before .before .before .before .before .before .before .before .before .before .before .before .before .before .before .loop-test .taken) _ _ (c .before .before .before .before .before .before .before .before .before .before .before .before .closure-part .ensures .1) (c .before .before .before .before .before .before .before .before .if1 .left) _ _ _ (c .before .before .before .before .add-run .ensures) (c .if2 .taken))
-    (λ c. search allLaws)
-    (λ c. search allLaws)
-    (λ c. (search allLaws, search allLaws, search allLaws, search allLaws, part-again (c .before .before .before .before .before .before .before .before .before .before .before .before .before .before .before .before .before .before .before .before .before .before .before .args .s .now) _ _ _ (c .before .before .before .before .before .before .before .before .before .before .before .before .before .before .before .before .loop .p) (c .before .before .before .before .before .before .before .before .before .before .before .before .closure-part .ensures .0) (c .before .before .before .before .before .before .before .before .before .before .before .before .closure-part .ensures .1), all-next (c .before .before .before .before .before .before .before .before .before .before .before .before .before .before .before .before .before .before .before .before .before .before .before .args .s .now) _ _ _ _ _ (c .before .before .before .before .before .before .before .before .before .before .before .before .before .before .before .before .loop .inv .5) (c .before .before .before .before .before .before .before .before .before .before .before .before .before .before .before .loop-test .taken) _ _ (c .before .before .before .before .before .before .before .before .before .before .before .before .closure-part .ensures .1) (c .before .before .before .before .before .before .before .before .if1 .left) _ _ _ (c .before .before .before .before .add-run .ensures) (c .if2 .left)))
-    (λ c. search allLaws)
-    (λ c. search allLaws)
-    (λ c. search allLaws))
+    (tie.spec Inv-loop μ-loop (λ c. search allLaws)
+    (λ c. (search allLaws, search allLaws, search allLaws, search allLaws, search allLaws, search allLaws)) (λ c. search allLaws)
+    (λ c κs. (search allLaws, search allLaws, search allLaws, search allLaws)) (λ c. search allLaws) (λ c. search allLaws)
+    (λ c. let w = c .before .before .before .before .before .before .before in let k = c .before .before .before .before .closure-part .ensures in
+    part-over (c .before .before .before .before .before .before .before .before .before .before .before .before .before .before .before .args .s .now) _ _ _ _ _ (w .before .loop .inv .5) (w .loop-test .taken) _ _ (k .1) (c .if1 .taken) (omega arith))
+    (λ c. search allLaws) (λ c. search allLaws) (λ c. search allLaws) (λ c κs. search allLaws) (λ c. search allLaws) (λ c. search allLaws)
+    (λ c. let w = c .before .before .before .before .before .before .before .before .before .before .before .before .before .before .before in let k = c .before .before .before .before .before .before .before .before .before .before .before .before .closure-part .ensures in let g = c .before .before .before .before .add-run .ensures in
+    let s = c .before .before .before .before .before .before .before .before .before .before .before .before .before .before .before .before .before .before .before .before .before .before .before .args .s .now in
+    all-over s _ _ _ _ _ (w .before .loop .inv .5) (w .loop-test .taken) _ _ (k .1) (c .before .before .before .before .before .before .before .before .if1 .left) _ _ _ g (c .if2 .taken))
+    (λ c. search allLaws) (λ c. search allLaws)
+    (λ c. let w = c .before .before .before .before .before .before .before .before .before .before .before .before .before .before .before in let k = c .before .before .before .before .before .before .before .before .before .before .before .before .closure-part .ensures in let g = c .before .before .before .before .add-run .ensures in
+    let s = c .before .before .before .before .before .before .before .before .before .before .before .before .before .before .before .before .before .before .before .before .before .before .before .args .s .now in (
+      search allLaws,
+      search allLaws,
+      search allLaws,
+      search allLaws,
+      part-again s _ _ _ (w .before .loop .p) (k .0) (k .1),
+      all-next s _ _ _ _ _ (w .before .loop .inv .5) (w .loop-test .taken) _ _ (k .1) (c .before .before .before .before .before .before .before .before .if1 .left) _ _ _ g (c .if2 .left),
+    ))
+    (λ c. search allLaws) (λ c. search allLaws) (λ c. search allLaws))

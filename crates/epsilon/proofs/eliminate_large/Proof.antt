@@ -6,4 +6,5 @@ use Rattle.epsilon.proofs.eliminate_large.Tie as tie
 pub eliminate-large-spec : {M : Type 1} → statement M
 eliminate-large-spec =
     tie.close
-    (tie.spec (λ c. search memoryLaws) (λ c. search memoryLaws) (λ c κs. search memoryLaws) (λ c. search memoryLaws) (λ c. search memoryLaws) (λ c. search memoryLaws) (λ c. search memoryLaws) (λ c κs. search memoryLaws) (λ c. search memoryLaws) (λ c. search memoryLaws) (λ c. search memoryLaws))
+    (tie.spec (λ c. search memoryLaws) (λ c. search memoryLaws) (λ c κs. search memoryLaws) (λ c. search memoryLaws)
+    (λ c. search memoryLaws) (λ c. search memoryLaws) (λ c. search memoryLaws) (λ c κs. search memoryLaws) (λ c. search memoryLaws) (λ c. search memoryLaws) (λ c. search memoryLaws))

@@ -12,4 +12,5 @@ abbrev μ-loop : tie.MeasureT-loop
 pub find-place-spec : {M : Type 1} → statement M
 find-place-spec =
     tie.close
-    (tie.spec Inv-loop μ-loop (λ c. search amongLaws) (λ c. search amongLaws) (λ c. search amongLaws) (λ c κs. search amongLaws) (λ c. search amongLaws) (λ c. search amongLaws) (λ c. search amongLaws) (λ c. search amongLaws))
+    (tie.spec Inv-loop μ-loop (λ c. search amongLaws) (λ c. search amongLaws) (λ c. search amongLaws)
+    (λ c κs. search amongLaws) (λ c. search amongLaws) (λ c. search amongLaws) (λ c. search amongLaws) (λ c. search amongLaws))

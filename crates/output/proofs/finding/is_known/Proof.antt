@@ -6,4 +6,5 @@ use Rattle.output.proofs.finding.is_known.Tie as tie
 pub is-known-spec : {M : Type 1} → statement M
 is-known-spec =
     tie.close
-    (tie.spec (λ c. search knownLaws) (λ c. search knownLaws) (λ c κs. search knownLaws) (λ c. search knownLaws) (λ c κs. search knownLaws) (λ c. search knownLaws) (λ c κs. search knownLaws) (λ c κs. search knownLaws) (λ c. search knownLaws))
+    (tie.spec (λ c. search knownLaws) (λ c. search knownLaws) (λ c κs. search knownLaws) (λ c. search knownLaws) (λ c κs. search knownLaws) (λ c. search knownLaws)
+    (λ c κs. search knownLaws) (λ c κs. search knownLaws) (λ c. search knownLaws))
