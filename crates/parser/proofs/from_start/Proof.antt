@@ -8,10 +8,7 @@ use Rattle.parser.proofs.from_start.Tie as tie
 pub from-start-spec : {M : Type 1} → statement M
 from-start-spec =
     tie.close
-    (tie.spec (λ c. search needs)
-    (λ c. search needs)
-    (λ c. search needs)
-    (λ c κs. let p = c .before .before .before .before .before .before .before .before .pre in ((p .0, zeros 1024, small-memory, zeros 256), p .1))
-    (λ c. search needs)
-    (λ c. search needs)
-    (λ c. search needs))
+    (tie.spec (λ c. search needs) (λ c. search needs) (λ c. search needs)
+    (λ c κs. let p = c .before .before .before .before .before .before .before .before .pre in
+    ((p .0, zeros 1024, small-memory, zeros 256), p .1))
+    (λ c. search needs) (λ c. search needs) (λ c. search needs))

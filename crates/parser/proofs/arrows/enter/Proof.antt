@@ -6,14 +6,5 @@ use Rattle.parser.proofs.arrows.enter.Tie as tie
 pub enter-spec : {M : Type 1} → statement M
 enter-spec =
     tie.close
-    (tie.spec (λ c κs. search enterLaws)
-    (λ c. search enterLaws)
-    (λ c. search enterLaws)
-    (λ c. search enterLaws)
-    (λ c κs. search enterLaws)
-    (λ c. search enterLaws)
-    (λ c. search enterLaws)
-    (λ c. search enterLaws)
-    (λ c. search enterLaws)
-    (λ c. search enterLaws)
-    (λ c. search enterLaws))
+    (tie.spec (λ c κs. search enterLaws) (λ c. search enterLaws) (λ c. search enterLaws) (λ c. search enterLaws) (λ c κs. search enterLaws)
+    (λ c. search enterLaws) (λ c. search enterLaws) (λ c. search enterLaws) (λ c. search enterLaws) (λ c. search enterLaws) (λ c. search enterLaws))

@@ -6,7 +6,4 @@ use Rattle.parser.proofs.arrows.note.Tie as tie
 pub note-spec : {M : Type 1} → statement M
 note-spec =
     tie.close
-    (tie.spec (λ c. search noteLaws)
-    (λ c κs. search noteLaws)
-    (λ c. search noteLaws)
-    (λ c. search noteLaws))
+    (tie.spec (λ c. search noteLaws) (λ c κs. search noteLaws) (λ c. search noteLaws) (λ c. search noteLaws))

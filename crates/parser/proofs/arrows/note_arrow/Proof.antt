@@ -6,17 +6,6 @@ use Rattle.parser.proofs.arrows.note_arrow.Tie as tie
 pub note-arrow-spec : {M : Type 1} → statement M
 note-arrow-spec =
     tie.close
-    (tie.spec (λ c κs. search bothLaws)
-    (λ c. search bothLaws)
-    (λ c. search bothLaws)
-    (λ c. search bothLaws)
-    (λ c. search bothLaws)
-    (λ c κs. search bothLaws)
-    (λ c. search bothLaws)
-    (λ c. search bothLaws)
-    (λ c. search bothLaws)
-    (λ c. search bothLaws)
-    (λ c κs. search bothLaws)
-    (λ c. search bothLaws)
-    (λ c. search bothLaws)
-    (λ c. search bothLaws))
+    (tie.spec (λ c κs. search bothLaws) (λ c. search bothLaws) (λ c. search bothLaws) (λ c. search bothLaws) (λ c. search bothLaws)
+    (λ c κs. search bothLaws) (λ c. search bothLaws) (λ c. search bothLaws) (λ c. search bothLaws) (λ c. search bothLaws) (λ c κs. search bothLaws)
+    (λ c. search bothLaws) (λ c. search bothLaws) (λ c. search bothLaws))

@@ -19,22 +19,17 @@ abbrev μ-loop : tie.MeasureT-loop
 pub read-first-spec : {M : Type 1} → statement M
 read-first-spec =
     tie.close
-    (tie.spec Inv-loop μ-loop (λ c. search goingLaws)
-    (λ c κs. search goingLaws)
-    (λ c. search goingLaws)
-    (λ c. search goingLaws)
-    (λ c. search goingLaws)
-    (λ c. search goingLaws)
-    (λ c. search goingLaws)
-    (λ c κs. search goingLaws)
-    (λ c. search goingLaws)
-    (λ c. search goingLaws)
-    (λ c κs. search goingLaws)
-    (λ c. search goingLaws)
-    (λ c. search goingLaws)
-    (λ c. search goingLaws)
-    (λ c. search goingLaws)
-    (λ c. (search goingLaws, search goingLaws, search goingLaws, going-room _ _ _ _ _ _ _ _ (c .before .before .before .before .before .before .before .before .before .before .before .before .before .before .before .before .loop .inv .2) _ (c .before .before .before .before .before .before .before .before .before .before .before .before .before .spaced-transition .ensures) _ _ (c .before .before .before .before .before .before .before .before .before .before .before .e .given .1) _ _ _ (c .before .before .before .before .before .before .before .note-arrow .ensures) _ _ (c .before .more .given .1) (search needs)))
-    (λ c. search goingLaws)
-    (λ c. search goingLaws)
-    (λ c. search goingLaws))
+    (tie.spec Inv-loop μ-loop (λ c. search goingLaws) (λ c κs. search goingLaws) (λ c. search goingLaws) (λ c. search goingLaws)
+    (λ c. search goingLaws) (λ c. search goingLaws) (λ c. search goingLaws) (λ c κs. search goingLaws) (λ c. search goingLaws) (λ c. search goingLaws)
+    (λ c κs. search goingLaws) (λ c. search goingLaws) (λ c. search goingLaws) (λ c. search goingLaws) (λ c. search goingLaws)
+    (λ c. (
+      search goingLaws,
+      search goingLaws,
+      search goingLaws,
+      going-room _ _ _ _ _ _ _ _ (c .before .before .before .before .before .before .before
+          .before .before .before .before .before .before .before .before .before .loop .inv .2) _ (c .before .before .before .before .before .before
+          .before .before .before .before .before .before .before .spaced-transition .ensures) _ _ (c .before .before .before .before .before .before
+          .before .before .before .before .before .e .given .1) _ _ _ (c .before .before .before .before .before .before .before .note-arrow .ensures) _ _
+          (c .before .more .given .1) (search needs),
+    ))
+    (λ c. search goingLaws) (λ c. search goingLaws) (λ c. search goingLaws))

@@ -16,19 +16,7 @@ abbrev μ-loop : tie.MeasureT-loop
 pub read-rest-spec : {M : Type 1} → statement M
 read-rest-spec =
     tie.close
-    (tie.spec Inv-loop μ-loop (λ c. search carryLaws)
-    (λ c κs. search carryLaws)
-    (λ c. search carryLaws)
-    (λ c. search carryLaws)
-    (λ c. search carryLaws)
-    (λ c. search carryLaws)
-    (λ c. search carryLaws)
-    (λ c κs. search carryLaws)
-    (λ c. search carryLaws)
-    (λ c. search carryLaws)
-    (λ c κs. search carryLaws)
-    (λ c. search carryLaws)
-    (λ c. search carryLaws)
-    (λ c. search carryLaws)
-    (λ c. search carryLaws)
+    (tie.spec Inv-loop μ-loop (λ c. search carryLaws) (λ c κs. search carryLaws) (λ c. search carryLaws) (λ c. search carryLaws)
+    (λ c. search carryLaws) (λ c. search carryLaws) (λ c. search carryLaws) (λ c κs. search carryLaws) (λ c. search carryLaws) (λ c. search carryLaws)
+    (λ c κs. search carryLaws) (λ c. search carryLaws) (λ c. search carryLaws) (λ c. search carryLaws) (λ c. search carryLaws)
     (λ c. (search carryLaws, search carryLaws, search carryLaws)))

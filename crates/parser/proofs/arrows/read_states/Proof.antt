@@ -6,12 +6,5 @@ use Rattle.parser.proofs.arrows.read_states.Tie as tie
 pub read-states-spec : {M : Type 1} → statement M
 read-states-spec =
     tie.close
-    (tie.spec (λ c κs. search startLaws)
-    (λ c. search startLaws)
-    (λ c. search startLaws)
-    (λ c. search startLaws)
-    (λ c. search startLaws)
-    (λ c κs. search startLaws)
-    (λ c. search startLaws)
-    (λ c. search startLaws)
-    (λ c. search startLaws))
+    (tie.spec (λ c κs. search startLaws) (λ c. search startLaws) (λ c. search startLaws) (λ c. search startLaws) (λ c. search startLaws)
+    (λ c κs. search startLaws) (λ c. search startLaws) (λ c. search startLaws) (λ c. search startLaws))
