@@ -1,17 +1,18 @@
 -- The laws by which the check is proved: each says what one more word, record or section does.
 use Prim.Native.Nat.{ℕ, zero, suc, _+_, _-_, _*_, _≤_, _<_}
 use mathlib.Core.Path.{_≡_, refl, sym, ap, _∙_}
-use mathlib.Core.Bool.{Bool, true, false, cond, _||_, or-false}
+use mathlib.Core.Bool.{Bool, true, false, cond, _&&_, _||_, or-false, and-true, and-assoc}
 use mathlib.Core.List.{List, [], _∷_}
 use native.Mathlib.Nat.{add-sub-cancel-left}
 use native.Mathlib.Numerals.{add-one, sub-one}
 use native.Mathlib.Omega.{arith}
-use borrow.Author.Tests.{lt-leb, le-leb, le-ltb, eq-eqb, ne-eqb}
+use borrow.Author.Tests.{leb-true, le-leb, le-ltb, eq-eqb, ne-eqb}
 use borrow.Author.Needs.{needs}
+use lib.Bits.{bitAnd, bitOr, or-add-and, and-le-l, and-le-r, or-lt}
 use lib.Dec.{leb, ltb, eqb}
 use lib.ListN.{length, getD, take, drop, drop-of-length-le, length-drop, length-take}
 use Rattle.lists.proofs.Parts.{drop-at, part-all}
-use Rattle.lists.proofs.Tests.{tests, cond-no}
+use Rattle.lists.proofs.Tests.{tests, and-both, and-parts, true-same, cond-no}
 use Rattle.automata.specs.Ordered.{less}
 use Rattle.automata.specs.Records.{wordsOf, readRecords}
 use Rattle.automata.specs.inner.Records.{recordAt}
@@ -26,18 +27,30 @@ use Rattle.sheets.specs.Checked.{checkedNumber, sheetFirst}
 use Rattle.sheets.specs.inner.Passed.{faultBehind, Passed}
 use Rattle.sheets.specs.Fault.{acceptWords, isBad, recordFault, recordsFault, orElse, transitionsFault, statesFault, fault}
 
--- the accept words from i on decide
-module _ (s : List ℕ) (i : ℕ) (e : acceptWords s ≡ acceptWords (drop i s)) where
-  pub accept-ended : length s ≤ i → true ≡ acceptWords s
-  accept-ended h = sym (e ∙ rw (drop-of-length-le s h))
+-- the bits of the accept words up to i and the accept words from i on decide
+or-small : (a x : ℕ) → leb (bitOr a x) 1 ≡ (leb a 1 && leb x 1)
+or-small a x = true-same _ _ (λ h. let l = leb-true (bitOr a x) 1 h in and-both (leb a 1) (leb x 1) (le-leb a 1 (omega (arith, sum, right))) (le-leb x 1 (omega (arith, sum, left)))) (λ h. let p = and-parts (leb a 1) (leb x 1) h in both (leb-true a 1 (p .0)) (leb-true x 1 (p .1)))
+  where
+    sum : bitOr a x + bitAnd a x ≡ a + x
+    sum = or-add-and a x
 
-  pub accept-stopped : i < length s → 1 < getD s i 0 → false ≡ acceptWords s
-  accept-stopped h p = sym (e ∙ rw (drop-at s i h, lt-leb _ _ p))
+    left : bitAnd a x ≤ a
+    left = and-le-l a x
 
-  pub accept-next : i < length s → getD s i 0 ≤ 1 → acceptWords s ≡ acceptWords (drop (i + 1) s)
-  accept-next h p = e ∙ ap acceptWords (drop-at s i h) ∙ rw (le-leb _ _ p)
+    right : bitAnd a x ≤ x
+    right = and-le-r a x
 
-pub ruleset acceptLaws = (accept-ended, accept-stopped, accept-next, tests)
+    both : a ≤ 1 → x ≤ 1 → leb (bitOr a x) 1 ≡ true
+    both l r = let o : bitOr a x < 2 = or-lt 1 a x (omega arith) (omega arith) in le-leb (bitOr a x) 1 (omega arith)
+
+module _ (s : List ℕ) (all i : ℕ) (e : acceptWords s ≡ (leb all 1 && acceptWords (drop i s))) where
+  pub accept-ended : length s ≤ i → leb all 1 ≡ acceptWords s
+  accept-ended h = sym (e ∙ rw (drop-of-length-le s h) (and-true (leb all 1)))
+
+  pub accept-next : i < length s → acceptWords s ≡ (leb (bitOr all (getD s i 0)) 1 && acceptWords (drop (i + 1) s))
+  accept-next h = e ∙ ap (λ l. leb all 1 && acceptWords l) (drop-at s i h) ∙ sym (ap (λ b. b && acceptWords (drop (i + 1) s)) (or-small all (getD s i 0)) ∙ and-assoc (leb all 1) (leb (getD s i 0) 1) (acceptWords (drop (i + 1) s)))
+
+pub ruleset acceptLaws = (accept-ended, tests)
 
 -- a record of kind 1
 pub bad-range : (n f k x y z : ℕ) (b : Bool) → b ≡ isBad n (record { from = f; kind = 1; first = x; last = y; to = z }) → k ≡ 1

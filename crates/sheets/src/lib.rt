@@ -25,18 +25,17 @@ pub enum Checked {
     Refused(InputRefusal),
 }
 
-// Whether each accept word is 0 or 1.
+// Whether each accept word is 0 or 1: no other bit is set in one of them.
 fn are_accept_words(s: &[u32]) -> bool
     ensures { λ r. ⌜ r ≡ acceptWords (now (s .entry)) ⌝ }
 {
+    let mut all: u32 = 0;
     let mut i = 0;
     while i < s.len() {
-        if 1 < s[i] {
-            return false;
-        }
+        all = all | s[i];
         i += 1;
     }
-    true
+    all <= 1
 }
 
 // Whether a comes before b, word by word.
