@@ -3,7 +3,7 @@ pub mod Labels
 pub mod Checking
 pub mod Places
 pub mod Same
-pub mod Finding
+pub mod Reading
 pub mod Putting
 pub mod Listing
 pub mod Whole

@@ -1,10 +1,9 @@
-// Label lists: the check, and finding a label. `writing` writes lists of labels.
+// Label lists: the check, and reading labels one after the other. `writing` writes lists of labels.
 use refusal::InputRefusal;
 ghost use mathlib.Core.Path.{_≡_};
 ghost use Prim.Native.Nat.{_+_, _≤_, _<_};
 ghost use lib.ListN.{length, getD, take, drop};
-ghost use Rattle.lists.specs.Index.{index};
-ghost use Rattle.labels.specs.Labels.{entriesOk, labelsFault, readLabels, sameLabel};
+ghost use Rattle.labels.specs.Labels.{entriesOk, labelsFault, sameLabel};
 ghost use Rattle.labels.specs.Checked.{checkedNumber};
 
 mod writing;
@@ -115,21 +114,4 @@ pub fn same_label(a: &[u8], b: &[u8]) -> bool
         i += 1;
     }
     true
-}
-
-// The number of the first of the n labels of b that is x, or n.
-pub fn find(b: &[u8], n: usize, x: &[u8]) -> usize
-    requires { ⌜ labelsFault n (now b) ≡ 0 ⌝ }
-    ensures { λ r. ⌜ (r ≡ index sameLabel (now (x .entry)) (readLabels (now (b .entry)))) × (r ≤ n) ⌝ }
-{
-    let mut at: usize = 2;
-    let mut k: usize = 0;
-    while k < n {
-        if same_label(x, label_from(b, at)) {
-            return k;
-        }
-        at = next_label(b, at);
-        k += 1;
-    }
-    k
 }

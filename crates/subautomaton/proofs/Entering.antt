@@ -12,7 +12,7 @@ use lib.ListN.{length, getD, drop, length-append, drop-of-length-le}
 use lib.Seq.{drop-cons}
 use Rattle.labels.specs.Labels.{labelsFault, readLabels, sameLabel}
 use Rattle.labels.specs.inner.Places.{labelPlace}
-use Rattle.labels.proofs.Finding.{seek-inside, seek-whole, label-is}
+use Rattle.labels.proofs.Reading.{seek-inside, seek-whole, label-is}
 use Rattle.labels.proofs.Labels.{length-read}
 use Rattle.labels.proofs.Places.{place-first, place-next}
 use Rattle.lists.specs.Index.{index}

@@ -18,7 +18,7 @@ use Rattle.labels.specs.inner.Places.{labelPlace}
 use Rattle.labels.proofs.Places.{place-first}
 use Rattle.lists.specs.Index.{index}
 use Rattle.lists.proofs.Index.{same-equal, equal-same, same-decides, index-le, index-in, index-lt, index-at}
-use Rattle.labels.proofs.Finding.{seek-inside, seek-whole, seek-next, label-is}
+use Rattle.labels.proofs.Reading.{seek-inside, seek-whole, seek-next, label-is}
 use Rattle.name_table.specs.inner.Names.{namesIn, Table}
 use Rattle.name_table.proofs.Finding.{names-count}
 use Rattle.subautomaton.specs.inner.Tables.{Numbered}
