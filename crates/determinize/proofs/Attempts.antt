@@ -1,21 +1,19 @@
 -- The laws by which the first pass gives up: the records of a set, the room for notes, and what the pass then came to.
 use Prim.Native.Nat.{ℕ, _+_, _-_, _*_, _≤_, _<_}
-use mathlib.Core.Bool.{Bool, true, false, cond, _&&_}
-use mathlib.Core.List.{List, [], _∷_}
-use mathlib.Core.Logic.{inl, inr, ⊎-elim}
+use mathlib.Core.Bool.{Bool, true, false, _&&_}
+use mathlib.Core.List.{List}
+use mathlib.Core.Logic.{⊎-elim}
 use mathlib.Core.Path.{_≡_, refl, sym, _∙_, ap, subst}
 use native.Mathlib.Omega.{arith}
 use borrow.Author.Needs.{needs}
-use borrow.Author.Tests.{lt-ltb, le-ltb, ltb-true, ltb-false}
-use lib.Dec.{ltb}
-use lib.ListN.{length, getD, replicate}
-use Rattle.lists.specs.Written.{Written}
+use borrow.Author.Tests.{lt-ltb, le-ltb, ltb-false, eq-eqb, ne-eqb}
+use lib.Dec.{eqb, ltb}
+use lib.ListN.{length, getD}
 use Rattle.lists.proofs.Tests.{test}
 use Rattle.automata.specs.Automaton.{Automaton}
 use Rattle.sets.specs.Sets.{Set}
 use Rattle.sets.specs.inner.BitSet.{setAt}
 use Rattle.sets.specs.inner.Members.{membersFrom, nextMember}
-use Rattle.sets.specs.inner.Words.{putAt}
 use Rattle.sets.proofs.BitSet.{at-canon}
 use Rattle.sets.proofs.Members.{visit-start, visit-next, from-end}
 use Rattle.words.specs.Simulation.{startSet}
@@ -24,9 +22,8 @@ use Rattle.determinize.specs.declared.Progress.{Progress}
 use Rattle.determinize.specs.declared.Progress.the-variants.{Sets, Over}
 use Rattle.determinize.specs.declared.Exploration.{Exploration}
 use Rattle.determinize.specs.declared.Exploration.the-variants.{Finished, Unfinished}
-use Rattle.determinize.specs.inner.Notes.{Explored}
-use Rattle.determinize.specs.inner.Attempts.{runLength, recordsOf, Complete, Attempted}
-use Rattle.determinize.proofs.Queued.{row-at}
+use Rattle.determinize.specs.inner.Notes.{SetVisited, Explored}
+use Rattle.determinize.specs.inner.Attempts.{runLength, recordsOf, SetTried, Complete, Attempted}
 
 -- `run_length`
 module _ (starts : List ℕ) (q : ℕ) where
@@ -69,9 +66,33 @@ module _ (starts set : List ℕ) where
 
 pub ruleset longLaws = (long-begins, long-ended, long-found, long-next, member-here, member-later, needs)
 
-pub long-entry : (starts set t : List ℕ) (i : ℕ) (b : Bool) → set ≡ putAt (replicate 4 0) 0 t (4 * i) → b ≡ ltb 64 (recordsOf starts (setAt set 0))
-    → b ≡ ltb 64 (recordsOf starts (setAt t (4 * i)))
-long-entry starts set t i b e f = f ∙ ap (λ S. ltb 64 (recordsOf starts S)) (row-at set t i e)
+-- `is_found_long`
+pub found-not : (n : ℕ) (b : Bool) → (n ≡ 4 → ⊥) → false ≡ (eqb n 4 && b)
+found-not n b h = rw (ne-eqb n 4 h)
+
+pub found-long : (n : ℕ) (b c : Bool) → n ≡ 4 → c ≡ b → c ≡ (eqb n 4 && b)
+found-long n b c h e = e ∙ sym (rw (eq-eqb n 4 h))
+
+pub ruleset foundLaws = (found-not, found-long, needs)
+
+-- a try to visit the spans of a state
+module _ (lo hi : ℕ) (A : Automaton) (S : Set) (T : List Set) (j : ℕ) (before : List ℕ) (k : ℕ) (t u r : List ℕ) where
+  pub try-unfinished : setAt u 0 ≡ setAt t 0 → SetTried lo hi A S T j before k t u r Unfinished
+  unfolding SetTried
+  try-unfinished e = e
+
+  pub try-finished : (x : Progress) → SetVisited lo hi A S T j before k u r x → SetTried lo hi A S T j before k t u r (Finished x)
+  unfolding SetTried
+  try-finished x p = p
+
+  module _ (x : Exploration) (p : SetTried lo hi A S T j before k t u r x) where
+    pub tried-visited : (y : Progress) → x ≡ Finished y → SetVisited lo hi A S T j before k u r y
+    unfolding SetTried
+    tried-visited y e = subst (SetTried lo hi A S T j before k t u r) e p
+
+    pub tried-start : x ≡ Unfinished → setAt t 0 ≡ startSet A → setAt u 0 ≡ startSet A
+    unfolding SetTried
+    tried-start e f = subst (SetTried lo hi A S T j before k t u r) e p ∙ f
 
 -- `is_full`
 pub full-never : (l k : ℕ) → 10240 ≤ l → false ≡ (ltb l 10240 && ltb l k)

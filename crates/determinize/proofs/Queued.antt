@@ -25,8 +25,11 @@ use Rattle.lists.proofs.Members.{at-in}
 use Rattle.determinize.specs.declared.Progress.{Progress}
 use Rattle.determinize.specs.declared.Progress.the-variants.{Sets, Over}
 use Rattle.determinize.specs.Determinize.{targets, table, states}
+use Rattle.determinize.specs.declared.Exploration.{Exploration}
+use Rattle.determinize.specs.inner.Attempts.{SetTried}
 use Rattle.determinize.specs.inner.Notes.{notesOf, notesFrom, sinkNotes, Canonical, SpansVisited, SetVisited, Explored}
 use Rattle.determinize.proofs.Tables.{meet-extends}
+use Rattle.determinize.proofs.Visits.{first-row}
 use Rattle.determinize.proofs.Laws.{queue-begins, queue-next, queue-ended, queue-full, queue}
 use Rattle.lists.proofs.Left.{Left, left-start, left-done, left-next}
 use Rattle.determinize.proofs.Notes.{notes-states, notes-at, notes-past}
@@ -47,7 +50,11 @@ module _ (set t : List ℕ) (i : ℕ) (e : set ≡ putAt (replicate 4 0) 0 t (4 
         → SetVisited lo hi A (getD (entries t n) i []) (entries t n) j before k t′ after x
     row-visited lo hi A j before k t′ after x p = subst (λ S. SetVisited lo hi A S (entries t n) j before k t′ after x) row-set p
 
-pub ruleset rowLaws = (row-canon, row-visited, needs)
+    pub row-tried : (lo hi : ℕ) (A : Automaton) (j : ℕ) (before : List ℕ) (k : ℕ) (u t′ after : List ℕ) (x : Exploration) → SetTried lo hi A (setAt set 0) (entries t n) j before k u t′ after x
+        → SetTried lo hi A (getD (entries t n) i []) (entries t n) j before k u t′ after x
+    row-tried lo hi A j before k u t′ after x p = subst (λ S. SetTried lo hi A S (entries t n) j before k u t′ after x) row-set p
+
+pub ruleset rowLaws = (row-canon, row-visited, row-tried, needs)
 
 -- i entries of the table are taken: t has n sets, r has k notes
 pub record Exploring (lo hi : ℕ) (A : Automaton) (before t r : List ℕ) (n k i : ℕ) : Type 0 where
@@ -81,6 +88,9 @@ module _ (lo hi : ℕ) (A : Automaton) (before : List ℕ) where
         pub explore-few : m < 256
         explore-few = visited .few
 
+        pub explore-canonical : Canonical (A .size) (entries t′ m)
+        explore-canonical = visited .canonical
+
         pub explore-bounded : k ≤ 4294967296 * i → c ≤ 4294967296 * (i + 1)
         explore-bounded g = let d = visited .bounded in omega arith
 
@@ -105,9 +115,7 @@ module _ (lo hi : ℕ) (A : Automaton) (before : List ℕ) where
         pub explore-start : setAt t 0 ≡ startSet A → setAt t′ 0 ≡ startSet A
         explore-start e =
             let y = meet-extends (targets lo hi A (getD (entries t n) i [])) (entries t n) in
-            let f : entries t′ m ≡ entries t n ++ y .rest = visited .met ∙ y .is in
-            let l : 0 < m = omega (arith, length-entries t′ m, ap length f, length-append (entries t n) (y .rest), length-entries t n) in
-            sym (entry-at t′ m 0 l) ∙ ap (λ T. getD T 0 []) f ∙ List·getD-append (entries t n) (y .rest) [] 0 (omega (arith, length-entries t n)) ∙ entry-at t n 0 (omega arith) ∙ e
+            first-row t t′ n m (y .rest) (omega arith) (visited .met ∙ y .is) .1 ∙ e
 
         pub explore-next : Exploring lo hi A before t′ r′ m c (i + 1)
         explore-next =
@@ -131,13 +139,6 @@ module _ (lo hi : ℕ) (A : Automaton) (before : List ℕ) where
           canonical = c;
           noted = subst (λ ws. Written before 0 ws r′ (5 * m)) s (written-append before r r′ _ _ 0 (5 * k) (5 * m) v w);
         }
-
-pub explore-canonical : (lo hi : ℕ) (s : List ℕ) (S : Set) (T : List Set) (i : ℕ) (r : List ℕ) (k : ℕ) (t r′ : List ℕ) (x : Progress) (m c : ℕ) → SetVisited lo hi (read s) S T i r k t r′ x → x ≡ Sets m c
-    → Canonical (stateCount s) (entries t m)
-unfolding SetVisited
-explore-canonical lo hi s S T i r k t r′ x m c p e =
-    let v : SpansVisited lo hi (read s) S T i r k t r′ m c = subst (SetVisited lo hi (read s) S T i r k t r′) e p in
-    v .canonical
 
 pub start-canonical : (s starts c t : List ℕ) → Tables s starts c → setAt t 0 ≡ startSet (read s) → Canonical (stateCount s) (entries t 1)
 unfolding entries tabulate

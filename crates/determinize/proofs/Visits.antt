@@ -5,13 +5,14 @@ use mathlib.Core.Logic.{⊎-elim}
 use mathlib.Core.Path.{_≡_, refl, sym, _∙_, ap, subst}
 use native.Mathlib.Omega.{arith}
 use borrow.Author.Needs.{needs}
+use lib.ListN.{length, getD, length-append, List·getD-append}
 use Rattle.lists.specs.Written.{Written}
 use Rattle.automata.specs.Automaton.{Automaton}
 use Rattle.automata.specs.Records.{writeRecords}
 use Rattle.sets.specs.Sets.{Set}
 use Rattle.sets.specs.inner.Members.{Canon}
 use Rattle.sets.specs.inner.BitSet.{setAt, entries}
-use Rattle.sets.proofs.BitSet.{length-entries}
+use Rattle.sets.proofs.BitSet.{entry-at, length-entries}
 use Rattle.sets.proofs.Tables.{In}
 use Rattle.sheets.specs.inner.Accepted.{Accepted}
 use Rattle.sheets.specs.Sheet.{stateCount, read}
@@ -107,3 +108,16 @@ pub canonical-next : (s : List ℕ) → Accepted s → (S : Set) (T : List Set) 
     → Canonical (stateCount s) (entries t n)
 canonical-next s x S T a j last k n r t r′ d v =
     subst (Canonical (stateCount s)) (sym (v .added)) (canonical-add (stateCount s) (step (read s) S a) T d (step-canon (read s) (read-well s x .states) a S))
+
+-- the first row of a table that has grown
+pub first-row : (t t′ : List ℕ) (n n′ : ℕ) (more : List Set) → 0 < n → entries t′ n′ ≡ entries t n ++ more → (0 < n′) × (setAt t′ 0 ≡ setAt t 0)
+first-row t t′ n n′ more h f =
+    let l : 0 < n′ = omega (arith, length-entries t′ n′, ap length f, length-append (entries t n) more, length-entries t n) in
+    (l, sym (entry-at t′ n′ 0 l) ∙ ap (λ T. getD T 0 []) f ∙ List·getD-append (entries t n) more [] 0 (omega (arith, length-entries t n)) ∙ entry-at t n 0 h)
+
+module _ (R : Set) (t : List ℕ) (n j first last : ℕ) (r : List ℕ) (k : ℕ) (t′ r′ : List ℕ) (n′ : ℕ) (v : Visited R (entries t n) j first last r k t′ r′ n′) (h : 0 < n) where
+  pub first-some : 0 < n′
+  first-some = let x = add-extends R (entries t n) in first-row t t′ n n′ (x .rest) h (v .added ∙ x .is) .0
+
+  pub first-kept : (u : List ℕ) → setAt t 0 ≡ setAt u 0 → setAt t′ 0 ≡ setAt u 0
+  first-kept u e = let x = add-extends R (entries t n) in first-row t t′ n n′ (x .rest) h (v .added ∙ x .is) .1 ∙ e

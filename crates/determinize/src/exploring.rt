@@ -1,11 +1,11 @@
 // The first pass: the table of the nonempty sets that words reach, in the order in which a queue meets them, and a note of each transition.
 // The entries of the table are the queue. Each span between cuts costs one reading of the runs of the set's members up to the first range behind it,
-// and one look-up.
+// and one look-up. Where the members have over 64 records the pass gives up, and `sweeping` takes its place.
 ghost use mathlib.Core.Path.{_≡_};
 ghost use mathlib.Core.Bool.{_&&_};
 ghost use mathlib.Core.List.{[], _∷_};
 ghost use Prim.Native.Nat.{_+_, _-_, _*_, _%_, _≤_, _<_};
-ghost use lib.Dec.{ltb};
+ghost use lib.Dec.{eqb, ltb};
 ghost use lib.ListN.{length, getD};
 ghost use Rattle.lists.specs.Written.{Written};
 ghost use Rattle.automata.specs.Records.{writeRecords};
@@ -16,7 +16,7 @@ ghost use Rattle.words.specs.Simulation.{outgoing, step, startSet};
 ghost use Rattle.words.specs.inner.Gather.{Tables};
 ghost use Rattle.ranges.specs.Cuts.{nextCut};
 ghost use Rattle.determinize.specs.inner.Notes.{sinkNotes, Canonical, Placed, Visited, SetVisited};
-ghost use Rattle.determinize.specs.inner.Attempts.{runLength, recordsOf, Attempted};
+ghost use Rattle.determinize.specs.inner.Attempts.{runLength, recordsOf, SetTried, Attempted};
 use crate::Exploration;
 use crate::Progress;
 
@@ -144,39 +144,6 @@ pub fn visit_spans(
     Progress::Sets(n, count)
 }
 
-// Visits the spans of entry i of the table.
-fn visit_set(
-    s: &[u32],
-    starts: &[u32],
-    closures: &[u64],
-    lower: u32,
-    upper: u32,
-    i: usize,
-    table: &mut [u64],
-    n: usize,
-    notes: &mut [u32],
-    count: usize,
-) -> Progress
-    requires { ⌜ Tables (now s) (now starts) (now closures) × (i < n) × (n < 256) × (length (now table) ≡ 1024) × Canonical (stateCount (now s)) (entries (now table) n) × (length (now notes) % 5 ≡ 0) × (count ≤ 1099511627776) ⌝ }
-    ensures { λ r. ⌜ SetVisited lower upper (read (now (s .entry))) (getD (entries (now (table .entry)) n) i []) (entries (now (table .entry)) n) i (now (notes .entry)) count (now (table .exit)) (now (notes .exit)) r ⌝ }
-{
-    let mut set = [0u64; 4];
-    sets::copy_row(&mut set, table, i);
-    visit_spans(
-        s,
-        starts,
-        closures,
-        lower,
-        upper,
-        &set,
-        i as u32,
-        table,
-        n,
-        notes,
-        count,
-    )
-}
-
 // The note of the sink's loop, which holds all symbols, behind `count` others; answers how many notes there are then.
 pub fn note_sink(notes: &mut [u32], count: usize, sink: u32, lower: u32, upper: u32) -> usize
     requires { ⌜ (length (now notes) % 5 ≡ 0) × (count ≤ 1099511627776) ⌝ }
@@ -223,14 +190,97 @@ pub fn is_long(starts: &[u32], set: &[u64]) -> bool
     false
 }
 
-// Whether entry i of the table is long.
-fn is_entry_long(starts: &[u32], table: &[u64], i: usize) -> bool
-    requires { ⌜ 4 * i + 4 ≤ length (now table) ⌝ }
-    ensures { λ r. ⌜ r ≡ ltb 64 (recordsOf (now (starts .entry)) (setAt (now (table .entry)) (4 * i))) ⌝ }
+// Whether the set is long, asked once its fourth span is visited: most sets have no more.
+fn is_found_long(starts: &[u32], set: &[u64], spans: usize) -> bool
+    requires { ⌜ 4 ≤ length (now set) ⌝ }
+    ensures { λ r. ⌜ r ≡ (eqb spans 4 && ltb 64 (recordsOf (now (starts .entry)) (setAt (now (set .entry)) 0))) ⌝ }
+{
+    if spans != 4 {
+        return false;
+    }
+    is_long(starts, set)
+}
+
+// Visits the spans of a set like `visit_spans`, but gives up where the set is long: the first row of the table is then what it was.
+fn try_spans(
+    s: &[u32],
+    starts: &[u32],
+    closures: &[u64],
+    lower: u32,
+    upper: u32,
+    set: &[u64],
+    from: u32,
+    table: &mut [u64],
+    sets: usize,
+    notes: &mut [u32],
+    noted: usize,
+) -> Exploration
+    requires { ⌜ Tables (now s) (now starts) (now closures) × Canon (stateCount (now s)) (setAt (now set) 0) × (4 ≤ length (now set)) ⌝ }
+    requires { ⌜ (0 < sets) × (sets < 256) × (length (now table) ≡ 1024) × Canonical (stateCount (now s)) (entries (now table) sets) × (length (now notes) % 5 ≡ 0) × (noted ≤ 1099511627776) ⌝ }
+    ensures { λ r. ⌜ SetTried lower upper (read (now (s .entry))) (setAt (now (set .entry)) 0) (entries (now (table .entry)) sets) from (now (notes .entry)) noted (now (table .entry)) (now (table .exit)) (now (notes .exit)) r ⌝ }
+{
+    let top = upper as u64 + 1;
+    let mut a = lower as u64;
+    let mut n = sets;
+    let mut count = noted;
+    while a < top {
+        let visited = visit(
+            s,
+            starts,
+            closures,
+            set,
+            from,
+            a as u32,
+            top,
+            table,
+            n,
+            notes,
+            count,
+        );
+        n = visited.sets;
+        if n == 256 {
+            return Exploration::Finished(Progress::Over);
+        }
+        count += 1;
+        a = visited.cut;
+        if is_found_long(starts, set, count - noted) {
+            return Exploration::Unfinished;
+        }
+    }
+    Exploration::Finished(Progress::Sets(n, count))
+}
+
+// Visits the spans of entry i of the table, or gives up.
+fn visit_set(
+    s: &[u32],
+    starts: &[u32],
+    closures: &[u64],
+    lower: u32,
+    upper: u32,
+    i: usize,
+    table: &mut [u64],
+    n: usize,
+    notes: &mut [u32],
+    count: usize,
+) -> Exploration
+    requires { ⌜ Tables (now s) (now starts) (now closures) × (i < n) × (n < 256) × (length (now table) ≡ 1024) × Canonical (stateCount (now s)) (entries (now table) n) × (length (now notes) % 5 ≡ 0) × (count ≤ 1099511627776) ⌝ }
+    ensures { λ r. ⌜ SetTried lower upper (read (now (s .entry))) (getD (entries (now (table .entry)) n) i []) (entries (now (table .entry)) n) i (now (notes .entry)) count (now (table .entry)) (now (table .exit)) (now (notes .exit)) r ⌝ }
 {
     let mut set = [0u64; 4];
     sets::copy_row(&mut set, table, i);
-    is_long(starts, &set)
+    try_spans(
+        s,
+        starts,
+        closures,
+        lower,
+        upper,
+        &set,
+        i as u32,
+        table,
+        n,
+        notes,
+        count,
+    )
 }
 
 // Whether the memory has less room than notes could need, and less than for `count`.
@@ -265,16 +315,16 @@ pub fn explore(
         if is_full(notes, count) {
             return Exploration::Unfinished;
         }
-        if is_entry_long(starts, table, i) {
-            return Exploration::Unfinished;
-        }
         match visit_set(s, starts, closures, lower, upper, i, table, n, notes, count) {
-            Progress::Sets(sets, noted) => {
-                n = sets;
-                count = noted;
-                i += 1;
-            }
-            Progress::Over => return Exploration::Finished(Progress::Over),
+            Exploration::Finished(progress) => match progress {
+                Progress::Sets(sets, noted) => {
+                    n = sets;
+                    count = noted;
+                    i += 1;
+                }
+                Progress::Over => return Exploration::Finished(Progress::Over),
+            },
+            Exploration::Unfinished => return Exploration::Unfinished,
         }
     }
     let all = note_sink(notes, count, n as u32, lower, upper);

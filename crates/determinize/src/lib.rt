@@ -126,7 +126,7 @@ pub fn determinize_accepted(s: &[u32], lower: u32, upper: u32, out: &mut [u32]) 
     let mut closures = [0u64; 1024];
     let mut table = [0u64; 1024];
     words::begin(s, &mut starts, &mut closures, &mut table);
-    if 100 < s.len() {
+    if 40 < s.len() {
         return determinize_large(s, &starts, &closures, lower, upper, &mut table, out);
     }
     determinize_small(s, &starts, &closures, lower, upper, &mut table, out)

@@ -7,7 +7,6 @@ ghost use lib.Dec.{ltb};
 ghost use lib.ListN.{length, getD};
 ghost use Rattle.lists.specs.Index.{same};
 ghost use Rattle.sets.specs.inner.BitSet.{setAt, entries};
-ghost use Rattle.sets.specs.inner.Members.{Canon};
 ghost use Rattle.sheets.specs.Sheet.{stateCount, read};
 ghost use Rattle.words.specs.Simulation.{outgoing, step, startSet};
 ghost use Rattle.words.specs.inner.Gather.{Tables};
@@ -276,8 +275,8 @@ pub fn explore_by_events(
     requires { ⌜ Tables (now s) (now starts) (now closures) × (setAt (now table) 0 ≡ startSet (read (now s))) × (length (now table) ≡ 1024) × (length (now notes) ≡ 10240) ⌝ }
     ensures { λ r. ⌜ Complete lower upper (read (now (s .entry))) (now (table .exit)) (now (notes .exit)) r ⌝ }
 {
-    let mut opens = [0u32; 10240];
-    let mut ends = [0u32; 10240];
+    let mut opens = [0u32; 2048];
+    let mut ends = [0u32; 2048];
     let opened = sweep::order_events(0, s, &mut opens, notes);
     let ended = sweep::order_events(1, s, &mut ends, notes);
     explore_swept(

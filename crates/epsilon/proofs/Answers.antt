@@ -1,5 +1,5 @@
 -- The answers of epsilon elimination: the laws by which the functions that answer are proved.
-use Prim.Native.Nat.{ℕ, _-_, _/_, _≤_, _<_}
+use Prim.Native.Nat.{ℕ, _-_, _*_, _/_, _≤_, _<_}
 use mathlib.Core.Bool.{Bool, true, false, _||_}
 use mathlib.Core.List.{List, flatMap}
 use mathlib.Core.Path.{_≡_, sym, _∙_, ap}
@@ -42,20 +42,20 @@ use Rattle.epsilon.proofs.Gathering.{tables-closures}
 
 -- the transitions of all states are gathered
 module _ (s buf : List ℕ) (end : ℕ) (t : Collected buf end (flatMap (closureRanges (read s)) (states (stateCount s)))) where
-  pub too-many : length buf ≡ 20480 → 10240 < end → (o l : List ℕ) (ls : List (List ℕ)) → outputOf (Refused (State Transitions)) o l ≡ outputs o l (eliminatedWith (read s) ls)
+  pub too-many : length buf ≡ 11520 → 10240 < end → (o l : List ℕ) (ls : List (List ℕ)) → outputOf (Refused (State Transitions)) o l ≡ outputs o l (eliminatedWith (read s) ls)
   unfolding eliminatedWith transitionsFirst eliminated
   too-many n h o l ls =
       let k = t .over (omega arith) in
       made-refused o l (State Transitions) _ (rw (lt-ltb 2048 (length (inOrder (flatMap (closureRanges (read s)) (states (stateCount s))))) (omega arith)))
 
-  few : end ≤ length buf / 2 → TransitionsOf s (take (end - 0) (drop 0 buf))
+  few : end ≤ length buf / 9 * 8 → TransitionsOf s (take (end - 0) (drop 0 buf))
   unfolding eliminated
   few h = record { few = omega (arith, t .listed h .behind, t .memory .most); whole = t .listed h .words }
 
-  pub few-small : length buf ≡ 640 → end ≤ 320 → TransitionsOf s (take (end - 0) (drop 0 buf))
+  pub few-small : length buf ≡ 720 → end ≤ 640 → TransitionsOf s (take (end - 0) (drop 0 buf))
   few-small n h = few (omega arith)
 
-  pub few-large : length buf ≡ 20480 → end ≤ 10240 → TransitionsOf s (take (end - 0) (drop 0 buf))
+  pub few-large : length buf ≡ 11520 → end ≤ 10240 → TransitionsOf s (take (end - 0) (drop 0 buf))
   few-large n h = few (omega arith)
 
 pub ruleset memoryLaws = (small-memory, large-memory, tables-closures, too-many, few-small, few-large, needs)

@@ -87,7 +87,7 @@ module _ (A : Automaton) (p : ℕ) (S : Set) where
 gathered-as : (m : List ℕ) (sorted end : ℕ) (xs ys : List Transition) → ((z : Transition) → (z ∈ xs → z ∈ ys) × (z ∈ ys → z ∈ xs)) → Gathered m sorted end xs → Gathered m sorted end ys
 gathered-as m sorted end xs ys f g =
     let e : inOrder xs ≡ inOrder ys = inOrder-ext xs ys f in
-    record { held = g .held; same = λ h. g .same h ∙ e; over = λ h. subst (λ (l : List Transition). length m / 10 < length l) e (g .over h) }
+    record { held = g .held; same = λ h. g .same h ∙ e; over = λ h. subst (λ (l : List Transition). length m / 9 * 8 / 5 < length l) e (g .over h) }
 
 -- the part of a closure: that of the closure before it, or gathered anew
 module _ (s starts c : List ℕ) (t : Tables s starts c) (p : ℕ) (l : p < stateCount s) where
@@ -140,17 +140,17 @@ module _ (s : List ℕ) where
       unfolding flatMap
       all-split = subst (λ (x : List ℕ). Rest buf sorted end (flatMap (closureRanges (read s)) x) es) (states-at (stateCount s) p h) l
 
-      pub part-over : length part / 2 < k → length part ≡ length buf → Gathered buf 0 (length buf) es
+      pub part-over : length part / 9 * 8 < k → length part ≡ length buf → Gathered buf 0 (length buf) es
       unfolding closureRanges
       part-over o e =
           let a : length (inOrder (rangesFrom (read s) 0 (closure (read s) p))) ≤ length (inOrder es) =
           moved-few (read s) p (closure (read s) p) (inOrder es)
           (λ z m. subst (λ (x : List Transition). z ∈ x) (all-split .left) (inOrder-in (Memᴰ·append-right (recordsIn buf 0 end) (Memᴰ·append-left _ m)))) in
           let b = g .over o in
-          let c : length buf / 10 < length (inOrder es) = subst (λ (n : ℕ). n / 10 < length (inOrder es)) e (omega arith) in
+          let c : length buf / 9 * 8 / 5 < length (inOrder es) = subst (λ (n : ℕ). n / 9 * 8 / 5 < length (inOrder es)) e (omega arith) in
           record { held = record { memory = l .room .packed .memory; room = λ i. absurd (omega arith) }; same = λ i. absurd (omega arith); over = λ i. c }
 
-      module _ (j : k ≤ length part / 2) (m : List ℕ) (ahead next : ℕ) (q : Gathered m ahead next (recordsIn buf 0 end ++ movedTo p (readRecords (take (k - 0) (drop 0 part))))) where
+      module _ (j : k ≤ length part / 9 * 8) (m : List ℕ) (ahead next : ℕ) (q : Gathered m ahead next (recordsIn buf 0 end ++ movedTo p (readRecords (take (k - 0) (drop 0 part))))) where
         added : Gathered m ahead next (recordsIn buf 0 end ++ closureRanges (read s) p)
         unfolding closureRanges
         added =

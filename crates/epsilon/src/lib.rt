@@ -113,7 +113,7 @@ fn add_closures(
     let mut p: u32 = 0;
     while p < n {
         end = closure_part(s, starts, closures, p, &mut set, part, end);
-        if part.len() / 2 < end {
+        if part.len() / 9 * 8 < end {
             return Filled {
                 sorted: 0,
                 end: buf.len(),
@@ -203,8 +203,8 @@ fn eliminate_large(
     requires { ⌜ Tables (now s) (now starts) (now closures) × Ready (now s) (now out) (now names) × (labelsFault (stateCount (now s)) (now labels) ≡ 0) ⌝ }
     ensures { λ r. ⌜ outputOf r (now (out .exit)) (now (names .exit)) ≡ outputs (now (out .entry)) (now (names .entry)) (eliminatedWith (read (now (s .entry))) (readLabels (now (labels .entry)))) ⌝ }
 {
-    let mut part = [0u32; 20480];
-    let mut buf = [0u32; 20480];
+    let mut part = [0u32; 11520];
+    let mut buf = [0u32; 11520];
     let end = gather(s, starts, closures, &mut part, &mut buf);
     if 10240 < end {
         return Made::Refused(Refusal::State(StateRefusal::Transitions));
@@ -212,7 +212,7 @@ fn eliminate_large(
     put_result(s, closures, &buf[0..end], labels, out, names)
 }
 
-// The same; memory for 64 transitions is tried first, and where it is too small the call is made again. Met is how many words of transitions were met
+// The same; memory for 128 transitions is tried first, and where it is too small the call is made again. Met is how many words of transitions were met
 // there, or 0. The compiler does not take a function with a large array into one that calls itself, so few transitions do not pay for the large memory.
 fn eliminate_tables(
     s: &[u32],
@@ -226,13 +226,13 @@ fn eliminate_tables(
     requires { ⌜ Tables (now s) (now starts) (now closures) × Ready (now s) (now out) (now names) × (labelsFault (stateCount (now s)) (now labels) ≡ 0) ⌝ }
     ensures { λ r. ⌜ outputOf r (now (out .exit)) (now (names .exit)) ≡ outputs (now (out .entry)) (now (names .entry)) (eliminatedWith (read (now (s .entry))) (readLabels (now (labels .entry)))) ⌝ }
 {
-    if 320 < met {
+    if 640 < met {
         return eliminate_large(s, starts, closures, labels, out, names);
     }
-    let mut part = [0u32; 640];
-    let mut buf = [0u32; 640];
+    let mut part = [0u32; 720];
+    let mut buf = [0u32; 720];
     let end = gather(s, starts, closures, &mut part, &mut buf);
-    if 320 < end {
+    if 640 < end {
         return eliminate_tables(s, starts, closures, labels, out, names, end);
     }
     put_result(s, closures, &buf[0..end], labels, out, names)

@@ -1,5 +1,5 @@
 -- Laws of the loop that reads the transitions once: with what is left, the names of the table and the records in memory are those of the whole.
-use Prim.Native.Nat.{ℕ, _-_, _/_, _≤_, _<_}
+use Prim.Native.Nat.{ℕ, _-_, _*_, _/_, _≤_, _<_}
 use mathlib.Core.List.{List, [], _∷_, _++_, map, flatMap, List·Memᴰ·head, List·Memᴰ·tail}
 use mathlib.Core.Logic.{_⊎_, inl, inr, ⊎-elim}
 use mathlib.Core.Path.{_≡_, refl, sym, _∙_, ap, subst}
@@ -60,8 +60,8 @@ unfolding recordsIn
 records-count buf sorted end o =
     length-read (end / 5) (take (end - 0) (drop 0 buf)) (let n = length-take-le (end - 0) (drop 0 buf) (omega (arith, o .packed .inside)) in omega (arith, o .packed .whole))
 
--- a record more in a memory that is not filled to its half
-note-few : (old new : List ℕ) (f g : Filled) (e : Transition) → Held old (f .sorted) (f .end) → f .end < length old / 2 → Noting old f e new g → g .end < length new
+-- a record more in a memory that is not filled to the end of its eighth ninth
+note-few : (old new : List ℕ) (f g : Filled) (e : Transition) → Held old (f .sorted) (f .end) → f .end < length old / 9 * 8 → Noting old f e new g → g .end < length new
 note-few old new f g e h l n = ⊎-elim (λ (k : g .end < length new). k) (λ (k : length new ≤ g .end). absurd (crowded k)) (below-or (g .end) (length new))
   where
     o : Open old (f .sorted) (f .end)
@@ -71,7 +71,10 @@ note-few old new f g e h l n = ⊎-elim (λ (k : g .end < length new). k) (λ (k
     crowded k =
         let x = n .more (omega arith) .over k in
         let y = inOrder-length (recordsIn old 0 (f .end) ++ e ∷ []) in
-        omega (arith, n .long, length-append (recordsIn old 0 (f .end)) (e ∷ []), records-count old (f .sorted) (f .end) o, o .packed .whole, o .packed .memory .pairs)
+        let w : length old / 9 ≡ length old / 45 * 5 = omega (arith, o .packed .memory .nines) in
+        let z : f .end / 5 < length old / 45 * 8 = omega (arith, o .packed .whole) in
+        let v : length new / 9 * 8 / 5 ≡ length old / 45 * 8 = omega (arith, n .long) in
+        omega (arith, length-append (recordsIn old 0 (f .end)) (e ∷ []), records-count old (f .sorted) (f .end) o)
 
 pub going-begin : (text t buf : List ℕ) (at n : ℕ) → Table text t n → Memory buf → Going text at (namesIn text t n) t buf at n (record { sorted = 0; end = 0 })
 going-begin text t buf at n k h =
@@ -195,7 +198,7 @@ module _ (text : List ℕ) (start : ℕ) (ls : List (List ℕ)) (t buf : List �
                   (λ (o : length buf ≤ f .end). let z = g .over o in omega (arith, noted .noting .long)) (below-or (f .end) (length buf));
             }
 
-        pub going-room : f .end < length buf / 2 → d .end < length new
+        pub going-room : f .end < length buf / 9 * 8 → d .end < length new
         going-room l = note-few buf new f d _ (g .held) l (noted .noting)
 
   pub going-stopped : f .end < length buf → StoppedAt text start ls t buf (record { cursor = record { at = at }; count = n; filled = f })
@@ -204,19 +207,19 @@ module _ (text : List ℕ) (start : ℕ) (ls : List (List ℕ)) (t buf : List �
 pub room-begin : (buf : List ℕ) → Memory buf → 0 < length buf
 room-begin buf h = omega (arith, h .some)
 
-pub half-fitting : (buf : List ℕ) (f : Filled) → f .end < length buf / 2 → Fitting buf f
-half-fitting buf f l = record { short = λ k. omega arith }
+pub eighths-fitting : (buf : List ℕ) (f : Filled) → f .end < length buf / 9 * 8 → Fitting buf f
+eighths-fitting buf f l = record { short = λ k. omega arith }
 
-pub ruleset goingLaws = (going-begin, going-table, going-held, going-ended, going-full, going-next, going-room, going-stopped, room-begin, half-fitting, arrows-less, arrow-drawn, needs)
+pub ruleset goingLaws = (going-begin, going-table, going-held, going-ended, going-full, going-next, going-room, going-stopped, room-begin, eighths-fitting, arrows-less, arrow-drawn, needs)
 
 -- whatever was read with t₀ and buf₀ up to the place at₀ is read up to the place at
 pub record Carrying (text t₀ buf₀ : List ℕ) (at₀ n₀ : ℕ) (f₀ : Filled) (t buf : List ℕ) (at n : ℕ) (f : Filled) : Type 0 where
   pub table : Table text t n
   pub held : Held buf (f .sorted) (f .end)
-  pub large : length buf ≡ 20480
+  pub large : length buf ≡ 11520
   pub all : (start : ℕ) (ls : List (List ℕ)) → Going text start ls t₀ buf₀ at₀ n₀ f₀ → Going text start ls t buf at n f
 
-pub carry-begin : (text t buf : List ℕ) (at n : ℕ) (f : Filled) → Table text t n → Held buf (f .sorted) (f .end) → length buf ≡ 20480 → Carrying text t buf at n f t buf at n f
+pub carry-begin : (text t buf : List ℕ) (at n : ℕ) (f : Filled) → Table text t n → Held buf (f .sorted) (f .end) → length buf ≡ 11520 → Carrying text t buf at n f t buf at n f
 carry-begin text t buf at n f k h l = record { table = k; held = h; large = l; all = λ start ls g. g }
 
 module _ (text t₀ buf₀ : List ℕ) (at₀ n₀ : ℕ) (f₀ : Filled) (t buf : List ℕ) (at n : ℕ) (f : Filled) (g : Carrying text t₀ buf₀ at₀ n₀ f₀ t buf at n f) where
@@ -263,7 +266,7 @@ module _ (small : List ℕ) (f : Filled) (o : Open small (f .sorted) (f .end)) (
   copied = ap readRecords copied-words
 
   copied-memory : Memory m
-  copied-memory = record { pairs = omega (arith, k .pairs, copied-long); some = omega (arith, k .some, copied-long); most = omega (arith, k .most, copied-long) }
+  copied-memory = record { nines = omega (arith, k .nines, copied-long); some = omega (arith, k .some, copied-long); most = omega (arith, k .most, copied-long) }
 
   copied-open : Open m 0 (f .end)
   copied-open =
@@ -294,15 +297,15 @@ module _ (small : List ℕ) (f : Filled) (o : Open small (f .sorted) (f .end)) (
 
 -- the reading goes on with the largest memory
 module _ (text : List ℕ) (at : ℕ) (ls : List (List ℕ)) (t small : List ℕ) (s : Stop) (a : StoppedAt text at ls t small s) (m : List ℕ) (r : ℕ)
-    (w : Written (replicate {A = ℕ} 20480 0) 0 (take (s .filled .end - 0) (drop 0 small)) m r) where
+    (w : Written (replicate {A = ℕ} 11520 0) 0 (take (s .filled .end - 0) (drop 0 small)) m r) where
   abbrev big : List ℕ
-  big = replicate {A = ℕ} 20480 0
+  big = replicate {A = ℕ} 11520 0
 
   opened : Open small (s .filled .sorted) (s .filled .end)
   opened = a .going .held .room (a .room)
 
   smaller : length small ≤ length big
-  smaller = omega (arith, opened .packed .memory .most, length-replicate {A = ℕ} 20480 0)
+  smaller = omega (arith, opened .packed .memory .most, length-replicate {A = ℕ} 11520 0)
 
   pub more-table : Table text t (s .count)
   more-table = a .going .table
@@ -310,8 +313,8 @@ module _ (text : List ℕ) (at : ℕ) (ls : List (List ℕ)) (t small : List ℕ
   pub more-held : Held m 0 (s .filled .end)
   more-held = moved-held small (s .filled) opened big m r large-memory smaller w
 
-  pub more-long : length m ≡ 20480
-  more-long = written-length big m _ 0 r w ∙ length-replicate {A = ℕ} 20480 0
+  pub more-long : length m ≡ 11520
+  more-long = written-length big m _ 0 r w ∙ length-replicate {A = ℕ} 11520 0
 
   pub more-read : (u new : List ℕ) (q : Arrows) → Continuing text t m (s .cursor .at) (s .count) (record { sorted = 0; end = s .filled .end }) u new q → ArrowsRead text at ls u new q
   more-read u new q c = c .all at ls (moved-going small (s .filled) opened big m r large-memory smaller w text at ls t (s .cursor .at) (s .count) (a .going))

@@ -1,5 +1,5 @@
 -- Laws of the outputs: the sheet and the labels are written, and the refusals come in their order.
-use Prim.Native.Nat.{ℕ, _-_, _/_, _≤_, _<_}
+use Prim.Native.Nat.{ℕ, _-_, _*_, _/_, _≤_, _<_}
 use mathlib.Core.Bool.{Bool, true, false, _||_}
 use mathlib.Core.List.{List, [], _∷_, _++_, map}
 use mathlib.Core.Logic.{⊎-elim}
@@ -106,21 +106,21 @@ module _ (t : List ℕ) (l : Layout) (ls : List (List ℕ)) (old : List ℕ) (f 
   a : Collected buf end (map (transitionOf ls) (movesAt t (l .arrows .at)))
   a = s .all _ g
 
-  -- where the memory is not the largest, no more transitions are gathered than half of it has room for
-  many : Fitting old f → length buf ≡ length old → length buf / 2 < end → 2048 < length (transitionsAt t l ls)
+  -- where the memory is not the largest, no more transitions are gathered than it is for
+  many : Fitting old f → length buf ≡ length old → length buf / 9 * 8 < end → 2048 < length (transitionsAt t l ls)
   many u z h =
-      ⊎-elim (λ (k : length buf < 20480). let m = u .short (omega arith) in absurd (crowded (omega (arith, g .held .memory .some)) m)) (λ (k : 20480 ≤ length buf). omega (arith, a .over h)) (below-or (length buf) 20480)
+      ⊎-elim (λ (k : length buf < 11520). let m = u .short (omega arith) in absurd (crowded (omega (arith, g .held .memory .some)) m)) (λ (k : 11520 ≤ length buf). omega (arith, a .over h)) (below-or (length buf) 11520)
     where
-      crowded : f .end < length old → f .end ≤ length old / 2 → ⊥
+      crowded : f .end < length old → f .end ≤ length old / 9 * 8 → ⊥
       crowded r k =
           let x = inOrder-length (recordsIn old 0 (f .end)) in
           omega (arith, a .over h, z, ap length (g .same r), records-count old (f .sorted) (f .end) (g .held .room r))
 
-  pub over-22 : Fitting old f → length buf ≡ length old → length buf / 2 < end → (o n : List ℕ) (c : ℕ) → parsedOf (Refused (State Transitions)) o n ≡ parsed o n (fewTransitions (patternAt t l ls) c)
+  pub over-22 : Fitting old f → length buf ≡ length old → length buf / 9 * 8 < end → (o n : List ℕ) (c : ℕ) → parsedOf (Refused (State Transitions)) o n ≡ parsed o n (fewTransitions (patternAt t l ls) c)
   unfolding parsed fewTransitions transitionsFirst automatonOf spell
   over-22 u z h o n c = sym (rw (lt-ltb 2048 (length (transitionsAt t l ls)) (many u z h)))
 
-  module _ (h : end ≤ length buf / 2) where
+  module _ (h : end ≤ length buf / 9 * 8) where
     pub few-22 : Recorded (take (end - 0) (drop 0 buf)) (transitionsAt t l ls)
     few-22 = record { words = a .listed h .words; few = simp (length-take, length-drop) (omega (arith, a .memory .most)) }
 

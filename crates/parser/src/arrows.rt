@@ -43,7 +43,7 @@ pub struct Stop {
     pub filled: Filled,
 }
 
-// The answer of reading transitions with a small memory: all were read, or half of the memory is filled.
+// The answer of reading transitions with a small memory: all were read, or it is filled but for the ninth part for those that come.
 pub enum Begun {
     Ended(Arrows),
     Stopped(Stop),
@@ -90,7 +90,7 @@ fn note_arrow(text: &[u8], e: Arrow, t: &mut [usize], n: usize, buf: &mut [u32],
     Noted::At(k, next)
 }
 
-// The names and the records of the transitions from a cursor on, until half of the memory is filled. Where the names are too many the others are only
+// The names and the records of the transitions from a cursor on, until all of the memory but the ninth part for those that come is filled. Where the names are too many the others are only
 // read.
 fn read_first(text: &[u8], c: Cursor, t: &mut [usize], n: usize, buf: &mut [u32]) -> Begun
     requires { ⌜ Table (now text) (now t) n × Memory (now buf) ⌝ }
@@ -99,7 +99,7 @@ fn read_first(text: &[u8], c: Cursor, t: &mut [usize], n: usize, buf: &mut [u32]
     let mut at = c.at;
     let mut count = n;
     let mut filled = Filled { sorted: 0, end: 0 };
-    while filled.end < buf.len() / 2 {
+    while filled.end < buf.len() / 9 * 8 {
         let ArrowPiece::Read(e, next) = grammar::spaced_transition(text, Cursor { at }) else {
             return Begun::Ended(Arrows {
                 behind: Cursor { at },
@@ -150,7 +150,7 @@ pub fn read_rest(
     buf: &mut [u32],
     f: Filled,
 ) -> Arrows
-    requires { ⌜ Table (now text) (now t) n × Held (now buf) (f .sorted) (f .end) × (length (now buf) ≡ 20480) ⌝ }
+    requires { ⌜ Table (now text) (now t) n × Held (now buf) (f .sorted) (f .end) × (length (now buf) ≡ 11520) ⌝ }
     ensures { λ r. ⌜ Continuing (now (text .entry)) (now (t .entry)) (now (buf .entry)) (c .at) n f (now (t .exit)) (now (buf .exit)) r ⌝ }
 {
     let mut at = c.at;

@@ -120,7 +120,7 @@ fn with_names(
     ensures { λ r. ⌜ parsedOf r (now (out .exit)) (now (names .exit)) ≡ parsed (now (out .entry)) (now (names .entry)) (fewTransitions (patternAt (now (text .entry)) l (namesIn (now (text .entry)) (now (t .entry)) n)) (c .at)) ⌝ }
 {
     let last = output::collect_records(buf, f);
-    if buf.len() / 2 < last {
+    if buf.len() / 9 * 8 < last {
         return Parsed::Refused(Refusal::State(StateRefusal::Transitions));
     }
     write_pattern(text, l, c, t, n, &buf[0..last], words, out, names)
@@ -175,7 +175,7 @@ fn with_more(
     requires { ⌜ (10500 ≤ length (now out)) × (16642 ≤ length (now names)) ⌝ }
     ensures { λ r. ⌜ parsedOf r (now (out .exit)) (now (names .exit)) ≡ parsed (now (out .entry)) (now (names .entry)) (meaning (now (text .entry)) (toldFrom (now (text .entry)) x (arrows .at))) ⌝ }
 {
-    let mut buf = [0u32; 20480];
+    let mut buf = [0u32; 11520];
     let end = s.filled.end;
     output::put_words(&mut buf, 0, &small[0..end]);
     let read = arrows::read_rest(
@@ -218,7 +218,7 @@ fn from_start(text: &[u8], x: Span, arrows: Cursor, out: &mut [u32], names: &mut
     ensures { λ r. ⌜ parsedOf r (now (out .exit)) (now (names .exit)) ≡ parsed (now (out .entry)) (now (names .entry)) (meaning (now (text .entry)) (toldFrom (now (text .entry)) x (arrows .at))) ⌝ }
 {
     let mut t = [0usize; 1024];
-    let mut buf = [0u32; 640];
+    let mut buf = [0u32; 720];
     let mut words = [0u32; 256];
     with_tables(text, x, arrows, &mut t, &mut buf, &mut words, out, names)
 }

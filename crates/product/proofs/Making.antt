@@ -45,10 +45,10 @@ use Rattle.product.proofs.Queueing.{length-table}
 -- what the code gathers are the transitions of the product
 module _ (A B : Automaton) (words : List ℕ) (n : ℕ) where
   module _ (buf : List ℕ) (end : ℕ) (s : Collected buf end (transitionsFrom (placeIn (tableOf words n)) A B 0 (tableOf words n))) where
-    pub product-many : Whole A B (tableOf words n) → length buf ≡ 20480 → 10240 < end → product A B ≡ refused 22
+    pub product-many : Whole A B (tableOf words n) → length buf ≡ 11520 → 10240 < end → product A B ≡ refused 22
     product-many v l h = answer-many A B (tableOf words n) (v .all) (v .free) (unfold built in let o = s .over (omega arith) in omega arith)
 
-    module _ (h : end ≤ length buf / 2) where
+    module _ (h : end ≤ length buf / 9 * 8) where
       pub part-words : take end buf ≡ writeRecords (built A B (tableOf words n) .transitions)
       unfolding built
       part-words = let z : end - 0 ≡ end = omega arith in ap (λ e. take e buf) (sym z) ∙ s .listed h .words

@@ -1,63 +1,129 @@
 -- The events of all ranges in order are a timeline of those that leave any set.
-use Prim.Native.Nat.{ℕ, _≤_, _<_}
-use mathlib.Core.Bool.{true, _&&_}
-use mathlib.Core.List.{List, map}
-use mathlib.Core.Path.{_≡_, sym, ap}
+use Prim.Native.Nat.{ℕ, zero, suc, _+_, _*_, _≤_, _<_}
+use mathlib.Core.Bool.{Bool, true, false, cond}
+use mathlib.Core.List.{List, [], _∷_, List·Memᴰ·head, List·Memᴰ·tail, List·Memᴰ·cases-cons, List·Memᴰ·not-nil, List·Memᴰ·append-cases, Memᴰ·append-left, Memᴰ·append-right}
+use mathlib.Core.Logic.{⊎-elim}
+use mathlib.Core.Path.{_≡_, refl, sym, _∙_, ap, subst}
 use native.Mathlib.Omega.{arith}
 use lib.Dec.{eqb}
-use Rattle.lists.specs.Lists.{_∈_, keep}
+use lib.ListN.{length, getD, drop, length-append}
+use Rattle.lists.specs.Lists.{_∈_}
 use Rattle.lists.proofs.Lists.{keep-in, keep-out}
-use Rattle.lists.proofs.Members.{map-in, map-out, ascending-by}
+use Rattle.lists.proofs.Members.{ascending-by}
 use Rattle.lists.proofs.Tests.{and-both, and-parts}
-use Rattle.automata.specs.Automaton.{Transition, Automaton, InBounds, rangesOf}
+use Rattle.automata.specs.Automaton.{Transition}
 use Rattle.automata.specs.Ordered.{inOrder}
+use Rattle.automata.specs.Records.{readRecords}
+use Rattle.automata.specs.inner.Records.{recordAt}
 use Rattle.automata.specs.WellFormed.{Lex, Before}
 use Rattle.automata.proofs.Ordered.{inOrder-in, inOrder-out, inOrder-ascending}
+use Rattle.automata.proofs.Records.{records-at, records-end}
 use Rattle.sets.specs.Sets.{Set, has}
+use Rattle.sheets.specs.Sheet.{recordsAt, read}
+use Rattle.sheets.specs.inner.Accepted.{recordCount, Accepted}
+use Rattle.sheets.proofs.Meaning.{read-well}
 use Rattle.words.specs.Simulation.{outgoing}
-use Rattle.sweep.specs.inner.Events.{event, events}
+use Rattle.sweep.specs.inner.Events.{event, eventAt, eventOf, eventsFrom, events}
 use Rattle.sweep.specs.inner.Sweep.{Timeline}
 
--- the range that an event is one of
-abbrev EventOf : ℕ → List Transition → Transition → Type 0
-EventOf k es v = (e : Transition) × e ∈ es × (eqb (e .kind) 1 ≡ true) × (v ≡ event k e)
+-- the m records from o on
+record-in : (m : ℕ) (s : List ℕ) (o : ℕ) → length s ≡ o + 5 * m → (j : ℕ) → j < m → recordAt s (o + 5 * j) ∈ readRecords (drop o s)
+record-in zero s o l j h = absurd (omega arith)
+record-in (suc m) s o l zero h = let z : o ≡ o + 5 * 0 = omega arith in
+    subst (λ i. recordAt s i ∈ readRecords (drop o s)) z (rw (records-at s o (omega arith)) (List·Memᴰ·head refl))
+record-in (suc m) s o l (suc j) h =
+    let z : o + 5 + 5 * j ≡ o + 5 * suc j = omega arith in
+    rw (records-at s o (omega arith)) (List·Memᴰ·tail (subst (λ i. recordAt s i ∈ readRecords (drop (o + 5) s)) z (record-in m s (o + 5) (omega arith) j (omega arith))))
 
-events-out : (k : ℕ) (v : Transition) (es : List Transition) → v ∈ events k es → EventOf k es v
-unfolding events rangesOf
-events-out k v es m =
-    let r = map-out (event k) (keep (λ e. eqb (e .kind) 1) es) v m in
-    let i = keep-out (λ e. eqb (e .kind) 1) (r .0) es (r .1) in
-    (r .0, i .0, i .1, r .2)
+record-out : (m : ℕ) (s : List ℕ) (o : ℕ) → length s ≡ o + 5 * m → (e : Transition) → e ∈ readRecords (drop o s) → (j : ℕ) × (j < m) × (e ≡ recordAt s (o + 5 * j))
+record-out zero s o l e k = absurd (List·Memᴰ·not-nil (rw (records-end s o (omega arith)) at k))
+record-out (suc m) s o l e k =
+    ⊎-elim (λ (q : e ≡ recordAt s o). (0, omega arith, let z : o + 5 * 0 ≡ o = omega arith in rw z q))
+    (λ i.
+    let r = record-out m s (o + 5) (omega arith) e i in
+    let z : o + 5 + 5 * r .0 ≡ o + 5 * suc (r .0) = omega arith in
+    (suc (r .0), omega (arith, r .1), subst (λ i. e ≡ recordAt s i) z (r .2)))
+    (List·Memᴰ·cases-cons (rw (records-at s o (omega arith)) at k))
 
-events-in : (k : ℕ) (e : Transition) (es : List Transition) → e ∈ es → eqb (e .kind) 1 ≡ true → event k e ∈ events k es
-unfolding events rangesOf
-events-in k e es m h = map-in (event k) (keep-in (λ e. eqb (e .kind) 1) m h)
+-- record i of the sheet is a range
+abbrev IsRange : List ℕ → ℕ → Type 0
+IsRange s i = eqb (getD s (recordsAt s + 5 * i + 1) 0) 1 ≡ true
+
+event-out : (k : ℕ) (s : List ℕ) (i : ℕ) (v : Transition) → v ∈ eventOf k s i → IsRange s i × (v ≡ eventAt k s i)
+unfolding eventOf
+event-out k s i v m = go (eqb (getD s (recordsAt s + 5 * i + 1) 0) 1) refl m
+  where
+    go : (b : Bool) → eqb (getD s (recordsAt s + 5 * i + 1) 0) 1 ≡ b → v ∈ cond b (eventAt k s i ∷ []) [] → IsRange s i × (v ≡ eventAt k s i)
+    go true e m = (e, ⊎-elim (λ q. q) (λ n. elim n [ ]) (List·Memᴰ·cases-cons m))
+    go false e m = elim m [ ]
+
+pub events-out : (k : ℕ) (s : List ℕ) (m i : ℕ) (v : Transition) → v ∈ eventsFrom k s m i → (j : ℕ) × (j < i + m) × IsRange s j × (v ≡ eventAt k s j)
+unfolding eventsFrom
+events-out k s zero i v h = elim h [ ]
+events-out k s (suc m) i v h =
+    ⊎-elim (λ a. let r = event-out k s i v a in (i, omega arith, r .0, r .1)) (λ b. let r = events-out k s m (suc i) v b in (r .0, omega (arith, r .1), r .2, r .3))
+    (List·Memᴰ·append-cases (eventOf k s i) h)
+
+events-in : (k : ℕ) (s : List ℕ) (m i d : ℕ) → d < m → IsRange s (i + d) → eventAt k s (i + d) ∈ eventsFrom k s m i
+unfolding eventsFrom eventOf
+events-in k s zero i d l h = absurd (omega arith)
+events-in k s (suc m) i zero l h =
+    let z : i + 0 ≡ i = omega arith in
+    let t : IsRange s i = subst (IsRange s) z h in
+    Memᴰ·append-left {s = eventOf k s i} (eventsFrom k s m (suc i)) (rw t (List·Memᴰ·head (ap (eventAt k s) z)))
+events-in k s (suc m) i (suc d) l h =
+    let z : i + suc d ≡ suc i + d = omega arith in
+    Memᴰ·append-right (eventOf k s i) (subst (λ x. eventAt k s x ∈ eventsFrom k s m (suc i)) (sym z) (events-in k s m (suc i) d (omega arith) (subst (IsRange s) z h)))
+
+one-event : (k : ℕ) (s : List ℕ) (i : ℕ) → length (eventOf k s i) ≤ 1
+unfolding eventOf
+one-event k s i = go (eqb (getD s (recordsAt s + 5 * i + 1) 0) 1)
+  where
+    go : (b : Bool) → length (cond b (eventAt k s i ∷ []) []) ≤ 1
+    go true = omega arith
+    go false = omega arith
+
+pub length-events : (k : ℕ) (s : List ℕ) (m i : ℕ) → length (eventsFrom k s m i) ≤ m
+unfolding eventsFrom
+length-events k s zero i = omega arith
+length-events k s (suc m) i = omega (arith, length-append (eventOf k s i) (eventsFrom k s m (suc i)), length-events k s m (suc i), one-event k s i)
 
 later : (v w : Transition) → Before v w → v .from ≤ w .from
 later v w (Lex.here h) = omega arith
 later v w (Lex.later p h) = omega arith
 
-pub timeline : (k : ℕ) (A : Automaton) → InBounds A → A .size ≤ 256 → (S : Set) → Timeline k (outgoing A S) S (inOrder (events k (A .transitions)))
-unfolding outgoing event
-timeline k A ok few S =
-    let ts = A .transitions in
-    let out : (e : Transition) → e ∈ outgoing A S → e ∈ ts × (eqb (e .kind) 1 ≡ true) × (has (e .from) S ≡ true) =
+pub timeline : (k : ℕ) (s : List ℕ) → Accepted s → (S : Set) → Timeline k (outgoing (read s) S) S (inOrder (events k s))
+unfolding outgoing events eventAt event
+timeline k s a S =
+    let ts = read s .transitions in
+    let ok = read-well s a .states in
+    let out : (e : Transition) → e ∈ outgoing (read s) S → e ∈ ts × (eqb (e .kind) 1 ≡ true) × (has (e .from) S ≡ true) =
     λ e m. let i = keep-out _ e ts m in let b = and-parts (eqb (e .kind) 1) _ (i .1) in (i .0, b .0, b .1) in
-    let of : (v : Transition) → v ∈ inOrder (events k ts) → EventOf k ts v = λ v m. events-out k v ts (inOrder-out v (events k ts) m) in
+    let of : (v : Transition) → v ∈ inOrder (events k s) → (j : ℕ) × (j < 0 + recordCount s) × IsRange s j × (v ≡ eventAt k s j) =
+    λ v m. events-out k s (recordCount s) 0 v (inOrder-out v (events k s) m) in
+    let there : (v : Transition) (m : v ∈ inOrder (events k s)) → recordAt s (recordsAt s + 5 * of v m .0) ∈ ts =
+    λ v m. record-in (recordCount s) s (recordsAt s) (a .whole) (of v m .0) (omega (arith, of v m .1)) in
     record {
-      rises = ascending-by (λ v w m n. later v w) (inOrder-ascending (events k ts));
+      rises = ascending-by (λ v w m n. later v w) (inOrder-ascending (events k s));
       mine = λ e m. out e m .2;
-      has-all = λ e m. inOrder-in (events-in k e ts (out e m .0) (out e m .1));
+      has-all = λ e m.
+          let r = record-out (recordCount s) s (recordsAt s) (a .whole) e (out e m .0) in
+          let j = r .0 in
+          let q : event k j e ≡ eventAt k s j = ap (event k j) (r .2) in
+          let t : IsRange s (0 + j) = let z : 0 + j ≡ j = omega arith in rw z (ap (λ x. eqb (x .kind) 1) (sym (r .2)) ∙ out e m .1) in
+          (j, inOrder-in (subst (λ v. v ∈ events k s) (sym (q ∙ ap (eventAt k s) (omega arith))) (events-in k s (recordCount s) 0 j (r .1) t)));
       only = λ v m h.
           let r = of v m in
-          let f : v .first ≡ r .0 .from = ap (λ x. x .first) (r .3) in
-          (r .0, keep-in _ (r .1) (and-both _ _ (r .2) (rw f at h)), r .3);
+          let f : v .first ≡ getD s (recordsAt s + 5 * r .0) 0 = ap (λ x. x .first) (r .3) in
+          (recordAt s (recordsAt s + 5 * r .0), keep-in _ (there v m) (and-both _ _ (r .2) (rw f at h)), r .0, r .3);
       states = λ v m.
           let r = of v m in
-          let f : v .first ≡ r .0 .from = ap (λ x. x .first) (r .3) in
-          omega (arith, ok .froms (r .0) (r .1));
+          let f : v .first ≡ getD s (recordsAt s + 5 * r .0) 0 = ap (λ x. x .first) (r .3) in
+          let b = ok .froms _ (there v m) in
+          omega (arith, a .few-states);
       targets = λ v m.
           let r = of v m in
-          let f : v .to ≡ r .0 .to = ap (λ x. x .to) (r .3) in
-          omega (arith, ok .tos (r .0) (r .1));
+          let f : v .to ≡ getD s (recordsAt s + 5 * r .0 + 4) 0 = ap (λ x. x .to) (r .3) in
+          let b = ok .tos _ (there v m) in
+          omega (arith, a .few-states);
     }

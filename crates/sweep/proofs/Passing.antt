@@ -1,25 +1,25 @@
 -- The laws by which the pass is proved: the event at a place is passed, and where the pass stops.
 use Prim.Native.Nat.{ℕ, _+_, _-_, _*_, _≤_, _<_}
 use mathlib.Core.Bool.{Bool, true, false, false≢true}
-use mathlib.Core.List.{List, [], _∷_, List·Memᴰ·head}
+use mathlib.Core.List.{List, _∷_, List·Memᴰ·head}
 use mathlib.Core.Logic.{inl, inr}
 use mathlib.Core.Path.{_≡_, refl, sym, _∙_, ap, subst}
 use native.Mathlib.Omega.{arith}
 use borrow.Author.Needs.{needs}
-use borrow.Author.Tests.{lt-ltb, le-ltb}
-use lib.ListN.{length, getD, set, drop, length-set, replicate}
+use borrow.Author.Tests.{lt-leb, le-leb, eq-eqb, ne-eqb}
+use lib.ListN.{length, getD, drop, length-set, replicate}
 use Rattle.lists.specs.Lists.{_∈_}
+use Rattle.lists.proofs.Parts.{drop-at}
 use Rattle.automata.specs.Automaton.{Transition}
-use Rattle.automata.specs.Records.{readRecords}
-use Rattle.automata.specs.inner.Records.{recordAt}
-use Rattle.automata.proofs.Records.{records-at}
 use Rattle.sets.specs.Sets.{Set, has}
 use Rattle.sets.specs.inner.BitSet.{setAt}
 use Rattle.sets.specs.inner.Words.{putAt}
 use Rattle.sets.proofs.BitSet.{fresh-at}
 use Rattle.sets.proofs.Stores.{put-same}
 use Rattle.sheets.specs.Sheet.{read}
+use Rattle.sheets.specs.inner.Accepted.{recordCount}
 use Rattle.words.specs.Simulation.{outgoing}
+use Rattle.sweep.specs.inner.Events.{RangeAt, event, eventAt, eventsAt, Numbers}
 use Rattle.sweep.specs.inner.Tree.{Tree, leaf, LeafSet}
 use Rattle.sweep.specs.inner.Sweep.{Passes}
 use Rattle.sweep.specs.inner.Passing.{row, Passing, Stopped, Noted, over, known, longer, begun, Closes, held, empty, cutAt}
@@ -36,99 +36,143 @@ pub ruleset noteLaws = (over, known, longer, begun, held, close-empty, fill-done
 
 module _ (s c opens ends : List ℕ) (S : Set) (i j a : ℕ) (r t : List ℕ) (p : Passing s c opens ends S i j a r t) where
   -- the opening at i
-  module _ (h : 5 ≤ length opens - i) where
-    abbrev opening : Transition
-    opening = recordAt opens i
+  module _ (h : i < length opens) where
+    pub opening-number : getD opens i 0 < recordCount s
+    opening-number = p .opens-below .below i h
 
-    opening-here : Passes (outgoing (read s) S) S (readRecords opens) (readRecords ends) (opening ∷ readRecords (drop (i + 5) opens)) (readRecords (drop j ends)) a r (row c) (leaf t)
-    opening-here = subst (λ Q. Passes (outgoing (read s) S) S (readRecords opens) (readRecords ends) Q (readRecords (drop j ends)) a r (row c) (leaf t)) (records-at opens i h) (p .passes)
+    module _ (q f l d : ℕ) (e : RangeAt s (getD opens i 0) q f l d) where
+      abbrev opening : Transition
+      opening = record { from = f; kind = getD opens i 0; first = q; last = l; to = d }
 
-    opening-in : opening ∈ readRecords opens
-    opening-in = opening-here .opened .inside _ (List·Memᴰ·head refl)
+      is-opening : eventAt 0 s (getD opens i 0) ≡ opening
+      unfolding eventAt event
+      is-opening = rw (e .is-state, e .is-first, e .is-last, e .is-to)
 
-    pub opening-state : getD opens (i + 2) 0 < 256
-    opening-state = p .passes .opening .states _ opening-in
+      opening-here : Passes (outgoing (read s) S) S (eventsAt 0 s opens) (eventsAt 1 s ends) (opening ∷ eventsAt 0 s (drop (i + 1) opens)) (eventsAt 1 s (drop j ends)) a r (row c) (leaf t)
+      opening-here =
+          subst (λ Q. Passes (outgoing (read s) S) S (eventsAt 0 s opens) (eventsAt 1 s ends) Q (eventsAt 1 s (drop j ends)) a r (row c) (leaf t))
+          (ap (eventsAt 0 s) (drop-at opens i h) ∙ ap (λ v. v ∷ eventsAt 0 s (drop (i + 1) opens)) is-opening)
+          (p .passes)
 
-    pub opening-target : getD opens (i + 4) 0 < 256
-    opening-target = p .passes .opening .targets _ opening-in
+      opening-in : opening ∈ eventsAt 0 s opens
+      opening-in = opening-here .opened .inside _ (List·Memᴰ·head refl)
 
-    after : {u v : List ℕ} → length u ≡ 256 → Tree v
-        → Passes (outgoing (read s) S) S (readRecords opens) (readRecords ends) (readRecords (drop (i + 5) opens)) (readRecords (drop j ends)) a u (row c) (leaf v)
-        → Passing s c opens ends S (i + 5) j a u v
-    after l w q = record { closed = p .closed; in-opens = omega (arith, p .in-opens); in-ends = p .in-ends; long = l; tree = w; passes = q }
+      pub opening-state : q < 256
+      opening-state = p .passes .opening .states _ opening-in
 
-    -- an event of another state
-    pub open-other : (x : Bool) → x ≡ has (getD opens (i + 2) 0) S → x ≡ false → Passing s c opens ends S (i + 5) j a r t
-    open-other x e n = after (p .long) (p .tree) (opening-past opening-here (λ m. absurd (false≢true (sym (sym e ∙ n) ∙ m))))
+      pub opening-target : d < 256
+      opening-target = p .passes .opening .targets _ opening-in
 
-    -- one of the set, up to a
-    pub open-noted : (x : Bool) → x ≡ has (getD opens (i + 2) 0) S → x ≡ true → getD opens i 0 ≤ a → (u v : List ℕ)
-        → Noted c a (getD opens (i + 3) 0) (getD opens (i + 4) 0) r t u v
-        → Passing s c opens ends S (i + 5) j a u v
-    open-noted x e y g u v (over l) = after (p .long) (p .tree) (opening-past opening-here (λ m. record { before = g; noted = inr l }))
-    open-noted x e y g u v (known l) = after (p .long) (p .tree) (opening-past opening-here (λ m. record { before = g; noted = inl l }))
-    open-noted x e y g u v (longer l k n) =
-        after (simp length-set (p .long)) (p .tree)
-        (opening-noted opening-here (sym e ∙ y) g l k (omega (arith, opening-target, p .long)) _ refl (leaf t) (p .passes .live _ opening-target n) (λ q d. refl))
-    open-noted x e y g u v (begun l k f) =
-        after (simp length-set (p .long)) (f .tree)
-        (opening-noted opening-here (sym e ∙ y) g l k (omega (arith, opening-target, p .long)) _ refl (leaf v) (unfold row in f .here) (f .others))
+      after : {u v : List ℕ} → length u ≡ 256 → Tree v
+          → Passes (outgoing (read s) S) S (eventsAt 0 s opens) (eventsAt 1 s ends) (eventsAt 0 s (drop (i + 1) opens)) (eventsAt 1 s (drop j ends)) a u (row c) (leaf v)
+          → Passing s c opens ends S (i + 1) j a u v
+      after m w x =
+          record { closed = p .closed; opens-below = p .opens-below; ends-below = p .ends-below; in-opens = omega arith; in-ends = p .in-ends; long = m; tree = w; passes = x }
+
+      -- an event of another state
+      pub open-other : (x : Bool) → x ≡ has q S → x ≡ false → Passing s c opens ends S (i + 1) j a r t
+      open-other x y n = after (p .long) (p .tree) (opening-past opening-here (λ m. absurd (false≢true (sym (sym y ∙ n) ∙ m))))
+
+      -- one of the set, up to a
+      pub open-noted : (x : Bool) → x ≡ has q S → x ≡ true → f ≤ a
+          → (u v : List ℕ) → Noted c a (l) (d) r t u v → Passing s c opens ends S (i + 1) j a u v
+      open-noted x y z g u v (over m) = after (p .long) (p .tree) (opening-past opening-here (λ _. record { before = g; noted = inr m }))
+      open-noted x y z g u v (known m) = after (p .long) (p .tree) (opening-past opening-here (λ _. record { before = g; noted = inl m }))
+      open-noted x y z g u v (longer m k n) =
+          after (simp length-set (p .long)) (p .tree)
+          (opening-noted opening-here (sym y ∙ z) g m k (omega (arith, opening-target, p .long)) _ refl (leaf t) (p .passes .live _ opening-target n) (λ x y. refl))
+      open-noted x y z g u v (begun m k y′) =
+          after (simp length-set (p .long)) (y′ .tree)
+          (opening-noted opening-here (sym y ∙ z) g m k (omega (arith, opening-target, p .long)) _ refl (leaf v) (unfold row in y′ .here) (y′ .others))
+
+      pub stop-opening : (x : Bool) → x ≡ has q S → x ≡ true → a < f → Stopped 0 s opens S i a
+      stop-opening x y z m =
+          record {
+            mine = λ g. ap (λ v. has (v .first) S) is-opening ∙ sym y ∙ z;
+            above = λ g. omega (arith, ap (λ v. v .from) is-opening);
+          }
 
   -- the ending at j
-  module _ (h : 5 ≤ length ends - j) where
-    abbrev ending : Transition
-    ending = recordAt ends j
+  module _ (h : j < length ends) where
+    pub ending-number : getD ends j 0 < recordCount s
+    ending-number = p .ends-below .below j h
 
-    ending-here : Passes (outgoing (read s) S) S (readRecords opens) (readRecords ends) (readRecords (drop i opens)) (ending ∷ readRecords (drop (j + 5) ends)) a r (row c) (leaf t)
-    ending-here = subst (λ R. Passes (outgoing (read s) S) S (readRecords opens) (readRecords ends) (readRecords (drop i opens)) R a r (row c) (leaf t)) (records-at ends j h) (p .passes)
+    module _ (q f l d : ℕ) (e : RangeAt s (getD ends j 0) q f l d) where
+      abbrev ending : Transition
+      ending = record { from = l; kind = getD ends j 0; first = q; last = l; to = d }
 
-    ending-in : ending ∈ readRecords ends
-    ending-in = ending-here .ended .inside _ (List·Memᴰ·head refl)
+      is-ending : eventAt 1 s (getD ends j 0) ≡ ending
+      unfolding eventAt event
+      is-ending = rw (e .is-state, e .is-last, e .is-to)
 
-    pub ending-state : getD ends (j + 2) 0 < 256
-    ending-state = p .passes .ending .states _ ending-in
+      ending-here : Passes (outgoing (read s) S) S (eventsAt 0 s opens) (eventsAt 1 s ends) (eventsAt 0 s (drop i opens)) (ending ∷ eventsAt 1 s (drop (j + 1) ends)) a r (row c) (leaf t)
+      ending-here =
+          subst (λ R. Passes (outgoing (read s) S) S (eventsAt 0 s opens) (eventsAt 1 s ends) (eventsAt 0 s (drop i opens)) R a r (row c) (leaf t))
+          (ap (eventsAt 1 s) (drop-at ends j h) ∙ ap (λ v. v ∷ eventsAt 1 s (drop (j + 1) ends)) is-ending)
+          (p .passes)
 
-    pub ending-target : getD ends (j + 4) 0 < 256
-    ending-target = p .passes .ending .targets _ ending-in
+      ending-in : ending ∈ eventsAt 1 s ends
+      ending-in = ending-here .ended .inside _ (List·Memᴰ·head refl)
 
-    behind : {v : List ℕ} → Tree v
-        → Passes (outgoing (read s) S) S (readRecords opens) (readRecords ends) (readRecords (drop i opens)) (readRecords (drop (j + 5) ends)) a r (row c) (leaf v)
-        → Passing s c opens ends S i (j + 5) a r v
-    behind w q = record { closed = p .closed; in-opens = p .in-opens; in-ends = omega (arith, p .in-ends); long = p .long; tree = w; passes = q }
+      pub ending-state : q < 256
+      ending-state = p .passes .ending .states _ ending-in
 
-    pub end-other : (x : Bool) → x ≡ has (getD ends (j + 2) 0) S → x ≡ false → Passing s c opens ends S i (j + 5) a r t
-    end-other x e n = behind (p .tree) (ending-other ending-here (sym e ∙ n))
+      pub ending-target : d < 256
+      ending-target = p .passes .ending .targets _ ending-in
 
-    pub end-noted : (x : Bool) → x ≡ has (getD ends (j + 2) 0) S → x ≡ true → getD ends j 0 < a → (v : List ℕ) → Closes a (getD ends (j + 4) 0) r t v
-        → Passing s c opens ends S i (j + 5) a r v
-    end-noted x e y g v (held l) = behind (p .tree) (ending-held ending-here g l)
-    end-noted x e y g v (empty l f) = behind (f .tree) (ending-gone ending-here g l (leaf v) (f .here) (f .others))
+      behind : {v : List ℕ} → Tree v
+          → Passes (outgoing (read s) S) S (eventsAt 0 s opens) (eventsAt 1 s ends) (eventsAt 0 s (drop i opens)) (eventsAt 1 s (drop (j + 1) ends)) a r (row c) (leaf v)
+          → Passing s c opens ends S i (j + 1) a r v
+      behind w x =
+          record { closed = p .closed; opens-below = p .opens-below; ends-below = p .ends-below; in-opens = p .in-opens; in-ends = omega arith; long = p .long; tree = w; passes = x }
 
-pub stop-opening : (ev : List ℕ) (S : Set) (at a : ℕ) (x : Bool) → x ≡ has (getD ev (at + 2) 0) S → x ≡ true → a < getD ev at 0 → Stopped 0 ev S at a
-stop-opening ev S at a x i j l = record { mine = λ h. sym i ∙ j; above = λ h. omega arith }
+      pub end-other : (x : Bool) → x ≡ has q S → x ≡ false → Passing s c opens ends S i (j + 1) a r t
+      end-other x y n = behind (p .tree) (ending-other ending-here (sym y ∙ n))
 
-pub stop-ending : (ev : List ℕ) (S : Set) (at a : ℕ) (x : Bool) → x ≡ has (getD ev (at + 2) 0) S → x ≡ true → a ≤ getD ev at 0 → Stopped 1 ev S at a
-stop-ending ev S at a x i j l = record { mine = λ h. sym i ∙ j; above = λ h. omega arith }
+      pub end-noted : (x : Bool) → x ≡ has q S → x ≡ true → l < a → (v : List ℕ) → Closes a (d) r t v → Passing s c opens ends S i (j + 1) a r v
+      end-noted x y z g v (held m) = behind (p .tree) (ending-held ending-here g m)
+      end-noted x y z g v (empty m y′) = behind (y′ .tree) (ending-gone ending-here g m (leaf v) (y′ .here) (y′ .others))
 
-pub stop-end : (k : ℕ) (ev : List ℕ) (S : Set) (at a : ℕ) → length ev - at < 5 → Stopped k ev S at a
-stop-end k ev S at a l = record { mine = λ h. absurd (omega arith); above = λ h. absurd (omega arith) }
+      pub stop-ending : (x : Bool) → x ≡ has q S → x ≡ true → a ≤ l → Stopped 1 s ends S j a
+      stop-ending x y z m =
+          record {
+            mine = λ g. ap (λ v. has (v .first) S) is-ending ∙ sym y ∙ z;
+            above = λ g. omega (arith, ap (λ v. v .from) is-ending);
+          }
 
--- `cut_at`
-module _ (k : ℕ) (ev : List ℕ) (at top : ℕ) where
-  pub cut-end : length ev - at < 5 → top ≡ cutAt k ev at top
+pub stop-end : (k : ℕ) (s ev : List ℕ) (S : Set) (at a : ℕ) → length ev ≤ at → Stopped k s ev S at a
+stop-end k s ev S at a l = record { mine = λ h. absurd (omega arith); above = λ h. absurd (omega arith) }
+
+pub ruleset openLaws = (opening-number, opening-state, opening-target, open-other, open-noted, stop-opening, stop-end, needs)
+
+pub ruleset endLaws = (ending-number, ending-state, ending-target, end-other, end-noted, stop-ending, stop-end, needs)
+
+-- `symbol_of` and `cut_at`
+module _ (k : ℕ) (s : List ℕ) (i q f l d : ℕ) (e : RangeAt s i q f l d) where
+  pub symbol-opening : k ≡ 0 → f ≡ eventAt k s i .from
+  unfolding eventAt event
+  symbol-opening z = rw (eq-eqb k 0 z) (e .is-first)
+
+  pub symbol-ending : (k ≡ 0 → ⊥) → l ≡ eventAt k s i .from
+  unfolding eventAt event
+  symbol-ending n = rw (ne-eqb k 0 n) (e .is-last)
+
+pub ruleset symbolLaws = (symbol-opening, symbol-ending, needs)
+
+module _ (k : ℕ) (s ev : List ℕ) (at top : ℕ) where
+  pub cut-end : length ev ≤ at → top ≡ cutAt k s ev at top
   unfolding cutAt
-  cut-end h = rw (lt-ltb _ _ h)
+  cut-end h = rw (le-leb _ _ h)
 
-  pub cut-here : (c : ℕ) → 5 ≤ length ev - at → c ≡ getD ev at 0 + k → c < top → c ≡ cutAt k ev at top
+  pub cut-number : at < length ev → Numbers s ev → getD ev at 0 < recordCount s
+  cut-number h n = n .below at h
+
+  pub cut-here : (x c : ℕ) → at < length ev → x ≡ eventAt k s (getD ev at 0) .from → c ≡ x + k → c < top → c ≡ cutAt k s ev at top
   unfolding cutAt
-  cut-here c h e l = rw (le-ltb _ _ h) (omega arith)
+  cut-here x c h d e l = rw (lt-leb _ _ h) (omega arith)
 
-  pub cut-far : (c : ℕ) → 5 ≤ length ev - at → c ≡ getD ev at 0 + k → top ≤ c → top ≡ cutAt k ev at top
+  pub cut-far : (x c : ℕ) → at < length ev → x ≡ eventAt k s (getD ev at 0) .from → c ≡ x + k → top ≤ c → top ≡ cutAt k s ev at top
   unfolding cutAt
-  cut-far c h e l = rw (le-ltb _ _ h) (omega arith)
+  cut-far x c h d e l = rw (lt-leb _ _ h) (omega arith)
 
-pub ruleset cutLaws = (cut-end, cut-here, cut-far, needs)
-
-pub ruleset openLaws = (opening-state, opening-target, open-other, open-noted, stop-opening, stop-end, needs)
-
-pub ruleset endLaws = (ending-state, ending-target, end-other, end-noted, stop-ending, stop-end, needs)
+pub ruleset cutLaws = (cut-end, cut-number, cut-here, cut-far, needs)

@@ -1,20 +1,20 @@
 -- What the live targets lead to is the step.
-use Prim.Native.Nat.{ℕ, _*_, _≤_, _<_}
+use Prim.Native.Nat.{ℕ, _≤_, _<_}
 use mathlib.Core.Bool.{true, false, _&&_, false≢true}
 use mathlib.Core.List.{List, []}
 use mathlib.Core.Logic.{⊎-elim}
-use mathlib.Core.Path.{_≡_, refl, sym, _∙_, ap, subst}
+use mathlib.Core.Path.{_≡_, refl, sym, _∙_, ap}
 use native.Mathlib.Omega.{arith}
-use borrow.Author.Tests.{eq-eqb, eqb-true, lt-ltb, ltb-true, ltb-false}
-use lib.Dec.{ltb, eqb}
+use borrow.Author.Tests.{eq-eqb, eqb-true, ltb-true, ltb-false}
+use lib.Dec.{ltb}
 use lib.ListN.{getD}
 use Rattle.lists.specs.Lists.{_∈_, any}
 use Rattle.lists.proofs.Lists.{any-in, any-out, keep-out}
 use Rattle.lists.proofs.Tests.{test, true-same, and-both, and-parts}
 use Rattle.automata.specs.Automaton.{Transition, Automaton, InBounds, holds}
-use Rattle.sets.specs.Sets.{Set, has, pick}
+use Rattle.sets.specs.Sets.{Set, has}
 use Rattle.sets.specs.inner.BitSet.{setAt}
-use Rattle.sets.proofs.Sets.{has-nil, has-below, pick-ext, wide}
+use Rattle.sets.proofs.Sets.{has-nil, pick-ext, wide}
 use Rattle.sets.proofs.BitSet.{at-canon}
 use Rattle.words.specs.Simulation.{closure, outgoing, step}
 use Rattle.words.proofs.Closures.{closure-sound, run-bound}

@@ -5,7 +5,7 @@ use mathlib.Core.List.{List, [], _∷_, List·Memᴰ·head, List·Memᴰ·tail, 
 use mathlib.Core.Logic.{_⊎_, inl, inr, ⊎-elim}
 use mathlib.Core.Path.{_≡_, refl, sym, _∙_, ap, subst}
 use native.Mathlib.Omega.{arith}
-use borrow.Author.Tests.{lt-ltb, ltb-true, ltb-false, eq-eqb, eqb-true, eqb-false}
+use borrow.Author.Tests.{lt-ltb, ltb-true, eq-eqb, eqb-true, eqb-false}
 use lib.Dec.{ltb, eqb}
 use lib.ListN.{length, getD, set}
 use lib.Seq.{getD-set-same, getD-set-other}
@@ -19,7 +19,7 @@ use Rattle.ranges.specs.Cuts.{Cut, nextCut}
 use Rattle.ranges.proofs.Cuts.{next-le, next-gt, next-cuts, next-is}
 use Rattle.ranges.proofs.Held.{held, holds-ends}
 use Rattle.sweep.specs.inner.Events.{event}
-use Rattle.sweep.specs.inner.Sweep.{Mine, Timeline, Swept, Taken, Gone, Opened, Ending, Passes, Ahead}
+use Rattle.sweep.specs.inner.Sweep.{Mine, Timeline, Swept, Taken, Gone, Ending, Passes, Ahead}
 
 -- the next cut is the only number like this
 next-only : (a top : ℕ) (es : List Transition) (c : ℕ) → a < c → c ≤ top
@@ -117,11 +117,11 @@ module _ {es : List Transition} {S : Set} {U W : List Transition} {C : ℕ → S
         let m = swept-first (p .opened) in
         let x = p .opening .only v m h in
         let d = x .0 in
-        let f : v .first ≡ d .from = ap (λ y. y .first) (x .2) in
-        let g : v .last ≡ d .last = ap (λ y. y .last) (x .2) in
-        let t : v .to ≡ d .to = ap (λ y. y .to) (x .2) in
-        let left : event 1 d ∈ R =
-        ⊎-elim (λ k. k) (λ (k : d .last < a). absurd (omega arith)) (p .ended .passed (event 1 d) (p .ending .has-all d (x .1)) (p .ending .mine d (x .1))) in
+        let g : v .last ≡ d .last = ap (λ y. y .last) (x .3) in
+        let t : v .to ≡ d .to = ap (λ y. y .to) (x .3) in
+        let n = p .ending .has-all d (x .1) in
+        let left : event 1 (n .0) d ∈ R =
+        ⊎-elim (λ k. k) (λ (k : d .last < a). absurd (omega arith)) (p .ended .passed (event 1 (n .0) d) (n .1) (p .ending .mine d (x .1))) in
         record {
           opening = p .opening;
           ending = p .ending;
@@ -143,16 +143,16 @@ module _ {es : List Transition} {S : Set} {U W : List Transition} {C : ℕ → S
               (λ (z : eqb q (v .to) ≡ false).
               others q (eqb-false _ _ z) ∙ p .live q n (omega (arith, other q (eqb-false _ _ z))))
               (test (eqb q (v .to)));
-          dead = λ q n.
+          dead = λ q b′.
               ⊎-elim
               (λ (z : eqb q (v .to) ≡ true).
               let w : q ≡ v .to = eqb-true _ _ z in
               let k : getD u q 0 ≡ v .last + 1 = ap (λ q. getD u q 0) w ∙ same in
-              inr (record { event = event 1 d; there = left; mine = p .ending .mine d (x .1); target = sym t ∙ sym w; end = omega arith }))
+              inr (record { event = event 1 (n .0) d; there = left; mine = p .ending .mine d (x .1); target = sym t ∙ sym w; end = omega arith }))
               (λ (z : eqb q (v .to) ≡ false).
               ⊎-elim (λ (k : L q ≡ []). inl (others q (eqb-false _ _ z) ∙ k))
               (λ (k : Ending S R r q). inr (record { event = k .event; there = k .there; mine = k .mine; target = k .target; end = k .end ∙ sym (other q (eqb-false _ _ z)) }))
-              (p .dead q n))
+              (p .dead q b′))
               (test (eqb q (v .to)));
         }
 
@@ -228,9 +228,9 @@ module _ {es : List Transition} {S : Set} {U W : List Transition} {C : ℕ → S
           let o = p .made q a (ltb-true _ _ h) in
           let x = p .opening .only (o .event) (o .there) (o .mine) in
           let e = x .0 in
-          let f : o .event .from ≡ e .first = ap (λ v. v .from) (x .2) in
-          let g : o .event .last ≡ e .last = ap (λ v. v .last) (x .2) in
-          let z : o .event .to ≡ e .to = ap (λ v. v .to) (x .2) in
+          let f : o .event .from ≡ e .first = ap (λ v. v .from) (x .3) in
+          let g : o .event .last ≡ e .last = ap (λ v. v .last) (x .3) in
+          let z : o .event .to ≡ e .to = ap (λ v. v .to) (x .3) in
           any-in _ (x .1) (and-both _ _ (held a e (omega (arith, o .below)) (omega (arith, o .through))) (eq-eqb _ _ (sym z ∙ o .target))))
           (λ h.
           let x = any-out _ es h in
@@ -238,10 +238,11 @@ module _ {es : List Transition} {S : Set} {U W : List Transition} {C : ℕ → S
           let b = and-parts (holds a e) _ (x .2) in
           let i = holds-ends a e (b .0) in
           let z : e .to ≡ q = eqb-true _ _ (b .1) in
-          ⊎-elim (λ (m : event 0 e ∈ Q). let y : a < e .first + 0 = far (event 0 e) m (p .opening .mine e (x .1)) in absurd (omega (arith, i .0)))
-          (λ (t : Taken a r (event 0 e)).
+          let n = p .opening .has-all e (x .1) in
+          ⊎-elim (λ (m : event 0 (n .0) e ∈ Q). let y : a < e .first + 0 = far (event 0 (n .0) e) m (p .opening .mine e (x .1)) in absurd (omega (arith, i .0)))
+          (λ (t : Taken a r (event 0 (n .0) e)).
           ⊎-elim (λ (y : e .last < getD r (e .to) 0). lt-ltb _ _ (subst (λ q. a < getD r q 0) z (omega (arith, i .1)))) (λ (y : e .last < a). absurd (omega (arith, i .1))) (t .noted))
-          (p .opened .passed (event 0 e) (p .opening .has-all e (x .1)) (p .opening .mine e (x .1))))
+          (p .opened .passed (event 0 (n .0) e) (n .1) (p .opening .mine e (x .1))))
 
       -- the sets of the others are empty
       pub passes-none : (q : ℕ) → q < 256 → getD r q 0 ≤ a → L q ≡ []
@@ -256,11 +257,13 @@ module _ {es : List Transition} {S : Set} {U W : List Transition} {C : ℕ → S
       unfolding event
       passes-cut top c l u first last is =
           next-only a top es c l u
-          (λ e m. (
-            ⊎-elim (λ k. let y : c ≤ e .first + 0 = first (event 0 e) k (p .opening .mine e m) in inr (omega arith))
-                (λ (t : Taken a r (event 0 e)). inl (t .before)) (p .opened .passed (event 0 e) (p .opening .has-all e m) (p .opening .mine e m)),
-            ⊎-elim (λ k. let y : c ≤ e .last + 1 = last (event 1 e) k (p .ending .mine e m) in inr (omega arith)) (λ (g : e .last < a). inl (omega arith))
-                (p .ended .passed (event 1 e) (p .ending .has-all e m) (p .ending .mine e m)),
+          (λ e m.
+          let n = p .opening .has-all e m in
+          let o = p .ending .has-all e m in (
+            ⊎-elim (λ k. let y : c ≤ e .first + 0 = first (event 0 (n .0) e) k (p .opening .mine e m) in inr (omega arith))
+                (λ (t : Taken a r (event 0 (n .0) e)). inl (t .before)) (p .opened .passed (event 0 (n .0) e) (n .1) (p .opening .mine e m)),
+            ⊎-elim (λ k. let y : c ≤ e .last + 1 = last (event 1 (o .0) e) k (p .ending .mine e m) in inr (omega arith)) (λ (g : e .last < a). inl (omega arith))
+                (p .ended .passed (event 1 (o .0) e) (o .1) (p .ending .mine e m)),
           ))
           (⊎-elim inl
           (λ x.
@@ -269,11 +272,11 @@ module _ {es : List Transition} {S : Set} {U W : List Transition} {C : ℕ → S
           (⊎-elim
           (λ (y : v ∈ Q × Mine S v × (c ≡ v .from + 0)).
           let o = p .opening .only v (p .opened .inside v (y .0)) (y .1) in
-          let f : v .from ≡ o .0 .first = ap (λ v. v .from) (o .2) in
+          let f : v .from ≡ o .0 .first = ap (λ v. v .from) (o .3) in
           (o .0, o .1, inl (omega (arith, y .2))))
           (λ (y : v ∈ R × Mine S v × (c ≡ v .from + 1)).
           let o = p .ending .only v (p .ended .inside v (y .0)) (y .1) in
-          let f : v .from ≡ o .0 .last = ap (λ v. v .from) (o .2) in
+          let f : v .from ≡ o .0 .last = ap (λ v. v .from) (o .3) in
           (o .0, o .1, inr (omega (arith, y .2))))
           (x .1)))
           is)

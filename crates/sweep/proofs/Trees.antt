@@ -10,7 +10,7 @@ use borrow.Author.Tests.{eqb-true, eqb-false, ltb-true, ltb-false}
 use lib.Dec.{eqb, ltb}
 use lib.ListN.{length, replicate, length-replicate, length-set}
 use Rattle.lists.proofs.Tests.{test, or-cases, or-left, or-right}
-use Rattle.sets.specs.Sets.{Set, has, pick}
+use Rattle.sets.specs.Sets.{has}
 use Rattle.sets.specs.inner.BitSet.{setAt}
 use Rattle.sets.specs.inner.Words.{putAt, unionAt}
 use Rattle.sets.proofs.Sets.{has-nil, has-pick, has-below, pick-none}

@@ -1,16 +1,17 @@
-// One ascending pass over the ranges that leave a set of states. Each range is an event where it opens and one where it ends; the events of a sheet are put in order
-// once, in two lists. For each target the pass keeps its reach, the end of the longest range to it that has opened: the target is live while its reach is
-// above the symbol. The closures of the live targets are the leaves of a tree of unions, so that a target that begins or ceases to be live costs one way
-// from its leaf to the root, and the root is what the symbol leads to.
+// One ascending pass over the ranges that leave a set of states. Each range is an event where it opens and one where it ends; the events of a sheet
+// are put in order once, in two lists of the numbers of its ranges. For each target the pass keeps its reach, the end of the longest range to it that
+// has opened: the target is live while its reach is above the symbol. The closures of the live targets are the leaves of a tree of unions, so that a
+// target that begins or ceases to be live costs one way from its leaf to the root, and the root is what the symbol leads to.
 ghost use mathlib.Core.Path.{_≡_};
-ghost use mathlib.Core.List.{[]};
 ghost use Prim.Native.Nat.{_+_, _*_, _≤_, _<_};
 ghost use lib.ListN.{length};
 ghost use Rattle.sets.specs.Sets.{has};
 ghost use Rattle.sets.specs.inner.BitSet.{setAt};
 ghost use Rattle.ranges.specs.Cuts.{nextCut};
 ghost use Rattle.sheets.specs.Sheet.{read};
+ghost use Rattle.sheets.specs.inner.Accepted.{recordCount, Accepted};
 ghost use Rattle.words.specs.Simulation.{outgoing, step};
+ghost use Rattle.sweep.specs.inner.Events.{Numbers, eventAt};
 ghost use Rattle.sweep.specs.inner.Tree.{Tree, LeafSet};
 ghost use Rattle.sweep.specs.inner.Passing.{Passing, Stopped, Noted, Closes, cutAt};
 
@@ -91,21 +92,18 @@ fn pass_openings(
 ) -> usize
     requires { ⌜ Passing (now s) (now closures) (now opens) (now ends) (setAt (now set) 0) start ended symbol (now reach) (now tree) × (4 ≤ length (now set)) ⌝ }
     ensures passing { λ r. ⌜ Passing (now (s .entry)) (now (closures .entry)) (now (opens .entry)) (now (ends .entry)) (setAt (now (set .entry)) 0) r ended symbol (now (reach .exit)) (now (tree .exit)) ⌝ }
-    ensures stopped { λ r. ⌜ Stopped 0 (now (opens .entry)) (setAt (now (set .entry)) 0) r symbol ⌝ }
+    ensures stopped { λ r. ⌜ Stopped 0 (now (s .entry)) (now (opens .entry)) (setAt (now (set .entry)) 0) r symbol ⌝ }
 {
     let mut at = start;
-    while 5 <= opens.len() - at {
+    while at < opens.len() {
         let here = at;
-        let first = opens[at];
-        let state = opens[at + 2];
-        let last = opens[at + 3];
-        let to = opens[at + 4];
-        at += 5;
-        if is_in(set, state) {
-            if symbol < first {
+        let range = ordering::range_of(s, opens[at]);
+        at += 1;
+        if is_in(set, range.state) {
+            if symbol < range.first {
                 return here;
             }
-            open(closures, to, last, symbol, reach, tree);
+            open(closures, range.to, range.last, symbol, reach, tree);
         }
     }
     at
@@ -126,23 +124,33 @@ fn pass_endings(
 ) -> usize
     requires { ⌜ Passing (now s) (now closures) (now opens) (now ends) (setAt (now set) 0) opened start symbol (now reach) (now tree) × (4 ≤ length (now set)) ⌝ }
     ensures passing { λ r. ⌜ Passing (now (s .entry)) (now (closures .entry)) (now (opens .entry)) (now (ends .entry)) (setAt (now (set .entry)) 0) opened r symbol (now (reach .entry)) (now (tree .exit)) ⌝ }
-    ensures stopped { λ r. ⌜ Stopped 1 (now (ends .entry)) (setAt (now (set .entry)) 0) r symbol ⌝ }
+    ensures stopped { λ r. ⌜ Stopped 1 (now (s .entry)) (now (ends .entry)) (setAt (now (set .entry)) 0) r symbol ⌝ }
 {
     let mut at = start;
-    while 5 <= ends.len() - at {
+    while at < ends.len() {
         let here = at;
-        let last = ends[at];
-        let state = ends[at + 2];
-        let to = ends[at + 4];
-        at += 5;
-        if is_in(set, state) {
-            if symbol <= last {
+        let range = ordering::range_of(s, ends[at]);
+        at += 1;
+        if is_in(set, range.state) {
+            if symbol <= range.last {
                 return here;
             }
-            close(to, symbol, reach, tree);
+            close(range.to, symbol, reach, tree);
         }
     }
     at
+}
+
+// The symbol of the event of a number.
+fn symbol_of(kind: u32, s: &[u32], number: u32) -> u32
+    requires { ⌜ Accepted (now s) × (number < recordCount (now s)) ⌝ }
+    ensures { λ r. ⌜ r ≡ eventAt kind (now (s .entry)) number .from ⌝ }
+{
+    let range = ordering::range_of(s, number);
+    if kind == 0 {
+        return range.first;
+    }
+    range.last
 }
 
 // The symbol from which on an event counts.
@@ -152,15 +160,15 @@ fn place(symbol: u32, kind: u32) -> u64
     symbol as u64 + kind as u64
 }
 
-// The symbol of the event at `at` plus kind, or top if that is less or there is none.
-fn cut_at(kind: u32, ev: &[u32], at: usize, top: u64) -> u64
-    requires { ⌜ at ≤ length (now ev) ⌝ }
-    ensures { λ r. ⌜ r ≡ cutAt kind (now (ev .entry)) at top ⌝ }
+// The place of the event at `at`, or top if that is less or there is none.
+fn cut_at(kind: u32, s: &[u32], ev: &[u32], at: usize, top: u64) -> u64
+    requires { ⌜ Accepted (now s) × Numbers (now s) (now ev) ⌝ }
+    ensures { λ r. ⌜ r ≡ cutAt kind (now (s .entry)) (now (ev .entry)) at top ⌝ }
 {
-    if ev.len() - at < 5 {
+    if ev.len() <= at {
         return top;
     }
-    let cut = place(ev[at], kind);
+    let cut = place(symbol_of(kind, s, ev[at]), kind);
     if cut < top {
         return cut;
     }
@@ -200,8 +208,8 @@ pub fn step(
         tree,
     );
     let j = pass_endings(s, closures, opens, ends, set, symbol, i, ended, reach, tree);
-    let opening = cut_at(0, opens, i, top);
-    let cut = cut_at(1, ends, j, opening);
+    let opening = cut_at(0, s, opens, i, top);
+    let cut = cut_at(1, s, ends, j, opening);
     Turn {
         opens: i,
         ends: j,

@@ -13,7 +13,7 @@ use Rattle.determinize.specs.declared.Progress.{Progress}
 use Rattle.determinize.specs.declared.Progress.the-variants.{Sets}
 use Rattle.determinize.specs.declared.Exploration.{Exploration}
 use Rattle.determinize.specs.declared.Exploration.the-variants.{Finished, Unfinished}
-use Rattle.determinize.specs.inner.Notes.{number, Explored}
+use Rattle.determinize.specs.inner.Notes.{number, SetVisited, Explored}
 
 -- how many records the run of q has, by the table of the runs
 unfoldable pub runLength : List ℕ → ℕ → ℕ
@@ -23,6 +23,11 @@ runLength starts q = cond (ltb (q + 1) (length starts)) (getD starts (q + 1) 0 -
 unfoldable pub recordsOf : List ℕ → Set → ℕ
 recordsOf starts [] = 0
 recordsOf starts (q ∷ S) = runLength starts q + recordsOf starts S
+
+-- what a try to visit the spans of a state came to, with the table t as it was: an answer, or the first row of the table is as it was
+unfoldable pub SetTried : ℕ → ℕ → Automaton → Set → List Set → ℕ → List ℕ → ℕ → List ℕ → List ℕ → List ℕ → Exploration → Type 0
+SetTried lo hi A S T j before k t u after Unfinished = setAt u 0 ≡ setAt t 0
+SetTried lo hi A S T j before k t u after (Finished x) = SetVisited lo hi A S T j before k u after x
 
 -- the table and the notes that the first pass came to, from some memory for notes, which has room for them unless they are too many for a result
 pub record Complete (lo hi : ℕ) (A : Automaton) (t notes : List ℕ) (x : Progress) : Type 0 where

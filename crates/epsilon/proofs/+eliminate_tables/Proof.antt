@@ -15,7 +15,7 @@ use Rattle.epsilon.proofs.+eliminate_tables.{statement}
 use Rattle.epsilon.proofs.+eliminate_tables.Tie.{close}
 
 abbrev μ-eliminate-tables : Measures 6 eliminate-tables-kinds.ps ℕ
-μ-eliminate-tables κs a = 321 - a .1 .1 .1 .1 .1 .1 .0
+μ-eliminate-tables κs a = 641 - a .1 .1 .1 .1 .1 .1 .0
 
 abbrev eliminate-tables-at : ℕ → In 6 eliminate-tables-kinds.ps
 eliminate-tables-at t = and 6 eliminate-tables-kinds.ps (is 6 eliminate-tables-kinds.ps μ-eliminate-tables t) eliminate-tables.Pre

@@ -26,7 +26,7 @@ add-closures-spec =
     tie.close
     (tie.spec Inv-loop μ-loop (λ c. search allLaws)
     (λ c. (search allLaws, search allLaws, search allLaws, search allLaws, search allLaws, search allLaws)) (λ c. search allLaws)
-    (λ c κs. (search allLaws, search allLaws, search allLaws, search allLaws)) (λ c. search allLaws) (λ c. search allLaws)
+    (λ c κs. (search allLaws, search allLaws, search allLaws, search allLaws)) (λ c. search allLaws) (λ c. search allLaws) (λ c. search allLaws)
     (λ c. let w = c .before .before .before .before .before .before .before in let k = c .before .before .before .before .closure-part .ensures in
     part-over (c .before .before .before .before .before .before .before .before .before .before .before .before .before .before .before .args .s .now) _ _ _ _ _ (w .before .loop .inv .5) (w .loop-test .taken) _ _ (k .1) (c .if1 .taken) (omega arith))
     (λ c. search allLaws) (λ c. search allLaws) (λ c. search allLaws) (λ c κs. search allLaws) (λ c. search allLaws) (λ c. search allLaws)

@@ -7,6 +7,6 @@ use Rattle.parser.proofs.with_names.Tie as tie
 pub with-names-spec : {M : Type 1} → statement M
 with-names-spec =
     tie.close
-    (tie.spec (λ c κs. search recordedLaws) (λ c. search recordedLaws) (λ c. search recordedLaws) (λ c. search recordedLaws)
+    (tie.spec (λ c κs. search recordedLaws) (λ c. search recordedLaws) (λ c. search recordedLaws) (λ c. search recordedLaws) (λ c. search recordedLaws)
     (λ c. search recordedLaws) (λ c. search recordedLaws) (λ c κs. (search needs, ((search recordedLaws, search needs), search needs)))
     (λ c. search recordedLaws) (λ c. search recordedLaws) (λ c. search recordedLaws) (λ c. search recordedLaws) (λ c. search recordedLaws))

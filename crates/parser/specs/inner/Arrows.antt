@@ -1,6 +1,6 @@
 -- For inner contracts. The transitions of a text as they are read: the names that were met are in the table, and the records between their numbers in
 -- lent memory.
-use Prim.Native.Nat.{ℕ, _/_, _≤_, _<_}
+use Prim.Native.Nat.{ℕ, _*_, _/_, _≤_, _<_}
 use mathlib.Core.List.{List, [], _∷_, _++_, map}
 use mathlib.Core.Path.{_≡_}
 use lib.ListN.{length}
@@ -71,11 +71,11 @@ pub record Going (text : List ℕ) (start : ℕ) (ls : List (List ℕ)) (t buf :
   pub names : allNames text at (namesIn text t n) ≡ allNames text start ls
   pub held : Held buf (f .sorted) (f .end)
   pub left : f .end < length buf → Rest buf (f .sorted) (f .end) (numbered text at (allNames text start ls)) (numbered text start (allNames text start ls))
-  pub over : length buf ≤ f .end → length buf / 10 < length (inOrder (numbered text start (allNames text start ls)))
+  pub over : length buf ≤ f .end → length buf / 9 * 8 / 5 < length (inOrder (numbered text start (allNames text start ls)))
 
--- the records take at most half of the memory, unless it is the largest
+-- the records take at most eight ninths of the memory, unless it is the largest
 pub record Fitting (buf : List ℕ) (f : Filled) : Type 0 where
-  pub short : length buf < 20480 → f .end ≤ length buf / 2
+  pub short : length buf < 11520 → f .end ≤ length buf / 9 * 8
 
 -- the transitions from a place on were read, with the names ls before theirs
 pub record ArrowsRead (text : List ℕ) (at : ℕ) (ls : List (List ℕ)) (t buf : List ℕ) (r : Arrows) : Type 0 where

@@ -4,8 +4,8 @@ use mathlib.Core.Path.{_≡_}
 use borrow.Author.Needs.{needs}
 use lib.ListN.{length}
 use Rattle.sets.specs.inner.BitSet.{setAt}
-use Rattle.sweep.proofs.Passing.{endLaws, end-noted, end-other}
 use Rattle.sweep.specs.inner.Passing.{Passing}
+use Rattle.sweep.proofs.Passing.{endLaws, end-noted}
 use Rattle.sweep.proofs.pass_endings.Statement.{statement}
 use Rattle.sweep.proofs.pass_endings.Tie as tie
 
@@ -19,23 +19,17 @@ abbrev μ-loop : tie.MeasureT-loop
 pub pass-endings-spec : {M : Type 1} → statement M
 pass-endings-spec =
     tie.close
-    (tie.spec Inv-loop μ-loop (λ c. search endLaws) (λ c. search endLaws) (λ c. search endLaws) (λ c. search endLaws) (λ c. search endLaws)
-    (λ c. search endLaws) (λ c. search endLaws) (λ c. search endLaws) (λ c. search endLaws) (λ c. search endLaws) (λ c. search endLaws)
+    (tie.spec Inv-loop μ-loop (λ c. search endLaws) (λ c. search endLaws) (λ c. search endLaws) (λ c κs. search endLaws) (λ c. search endLaws)
     (λ c κs. search endLaws) (λ c. search endLaws) (λ c. search endLaws) (λ c κs. search endLaws) (λ c. search endLaws)
     (λ c.
     let at-close = c .before .before in
     let at-if = at-close .before .before in
-    let at-if′ = at-if .before in
+    let at-if′ = at-if .before .before in
     let at-is-in = at-if′ .before in
-    let at-loop-test = at-is-in .before .before .before .before in
+    let at-range-of = at-is-in .before in
+    let at-loop-test = at-range-of .before .before in
     let at-loop = at-loop-test .before in (
-      end-noted _ _ _ _ _ _ _ _ _ _ (at-loop .loop .inv .0) (at-loop-test .loop-test .taken) _ (at-is-in .is-in .ensures) (at-if′ .if1 .taken) (at-if .if2 .left) _ (at-close .close .ensures),
+      end-noted _ _ _ _ _ _ _ _ _ _ (at-loop .loop .inv .0) (at-loop-test .loop-test .taken) _ _ _ _ (at-range-of .range-of .ensures) _ (at-is-in .is-in .ensures) (at-if′ .if1 .taken) (at-if .if2 .left) _ (at-close .close .ensures),
       search needs,
     ))
-    (λ c. search endLaws)
-    (λ c.
-    let at-is-in = c .before in
-    let at-loop-test = at-is-in .before .before .before .before in
-    let at-loop = at-loop-test .before in
-    (end-other _ _ _ _ _ _ _ _ _ _ (at-loop .loop .inv .0) (at-loop-test .loop-test .taken) _ (at-is-in .is-in .ensures) (c .if1 .left), search needs))
-    (λ c. search endLaws) (λ c. search endLaws))
+    (λ c. search endLaws) (λ c. search endLaws) (λ c. search endLaws) (λ c. search endLaws))

@@ -4,8 +4,8 @@ use mathlib.Core.Path.{_≡_}
 use borrow.Author.Needs.{needs}
 use lib.ListN.{length}
 use Rattle.sets.specs.inner.BitSet.{setAt}
-use Rattle.sweep.proofs.Passing.{openLaws, open-noted, open-other}
 use Rattle.sweep.specs.inner.Passing.{Passing}
+use Rattle.sweep.proofs.Passing.{openLaws, open-noted}
 use Rattle.sweep.proofs.pass_openings.Statement.{statement}
 use Rattle.sweep.proofs.pass_openings.Tie as tie
 
@@ -19,28 +19,18 @@ abbrev μ-loop : tie.MeasureT-loop
 pub pass-openings-spec : {M : Type 1} → statement M
 pass-openings-spec =
     tie.close
-    (tie.spec Inv-loop μ-loop (λ c. search openLaws) (λ c. search openLaws) (λ c. search openLaws) (λ c. search openLaws) (λ c. search openLaws)
-    (λ c. search openLaws) (λ c. search openLaws) (λ c. search openLaws) (λ c. search openLaws) (λ c. search openLaws) (λ c. search openLaws)
-    (λ c. search openLaws) (λ c. search openLaws) (λ c. search openLaws) (λ c κs. search openLaws) (λ c. search openLaws) (λ c. search openLaws)
-    (λ c. search openLaws) (λ c κs. search openLaws) (λ c. search openLaws)
-    (λ c.
-    let at-open = c .before .before .before .before in
-    let at-if = at-open .before .before .before in
-    let at-if′ = at-if .before in
-    let at-is-in = at-if′ .before in
-    let at-loop-test = at-is-in .before .before .before .before .before in
-    let at-loop = at-loop-test .before in (
-      open-noted _ _ _ _ _ _ _ _ _ _ (at-loop .loop .inv .0) (at-loop-test .loop-test .taken) _ (at-is-in .is-in .ensures) (at-if′ .if1 .taken) (at-if .if2 .left) _ _ (at-open .«open» .ensures),
+    (tie.spec Inv-loop μ-loop (λ c. search openLaws) (λ c. search openLaws) (λ c. search openLaws) (λ c κs. search openLaws) (λ c. search openLaws)
+    (λ c κs. search openLaws) (λ c. search openLaws) (λ c. search openLaws) (λ c. search openLaws) (λ c κs. search openLaws) (λ c. search openLaws)
+    (λ c. (
+      let at-open = c .before .before .before .before in
+          let at-if = at-open .before .before .before in
+          let at-if′ = at-if .before .before in
+          let at-is-in = at-if′ .before in
+          let at-range-of = at-is-in .before in
+          let at-loop-test = at-range-of .before .before in
+          let at-loop = at-loop-test .before in
+          open-noted _ _ _ _ _ _ _ _ _ _ (at-loop .loop .inv .0) (at-loop-test .loop-test .taken) _ _ _ _ (at-range-of .range-of .ensures) _ (at-is-in .is-in .ensures) (at-if′ .if1 .taken) (at-if .if2 .left) _ _ (at-open .«open» .ensures),
       search needs,
       search needs,
     ))
-    (λ c. search openLaws)
-    (λ c.
-    let at-is-in = c .before in
-    let at-loop-test = at-is-in .before .before .before .before .before in
-    let at-loop = at-loop-test .before in (
-      open-other _ _ _ _ _ _ _ _ _ _ (at-loop .loop .inv .0) (at-loop-test .loop-test .taken) _ (at-is-in .is-in .ensures) (c .if1 .left),
-      search needs,
-      search needs,
-    ))
-    (λ c. search openLaws) (λ c. search openLaws) (λ c. search openLaws))
+    (λ c. search openLaws) (λ c. search openLaws) (λ c. search openLaws) (λ c. search openLaws) (λ c. search openLaws))

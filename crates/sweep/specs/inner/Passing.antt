@@ -1,18 +1,18 @@
--- For inner contracts. The pass as the code holds it: events as records of five words, the reaches in r, and the sets of the targets as the leaves of a tree.
-use Prim.Native.Nat.{ℕ, _+_, _-_, _*_, _≤_, _<_, min}
-use mathlib.Core.Bool.{true, cond}
+-- For inner contracts. The pass as the code holds it: lists of the numbers of ranges, the reaches in r, and the sets of the targets as the leaves of a tree.
+use Prim.Native.Nat.{ℕ, _+_, _*_, _≤_, _<_, min}
+use mathlib.Core.Bool.{cond}
 use mathlib.Core.List.{List, []}
 use mathlib.Core.Path.{_≡_}
-use lib.Dec.{ltb}
+use lib.Dec.{leb}
 use lib.ListN.{length, getD, set, drop}
-use Rattle.automata.specs.Records.{readRecords}
-use Rattle.sets.specs.Sets.{Set, has}
+use Rattle.sets.specs.Sets.{Set}
 use Rattle.sets.specs.inner.BitSet.{setAt}
 use Rattle.sheets.specs.inner.Accepted.{Accepted}
 use Rattle.sheets.specs.Sheet.{stateCount, read}
 use Rattle.words.specs.Simulation.{closure, outgoing}
+use Rattle.sweep.specs.inner.Events.{Numbers, eventAt, eventsAt}
 use Rattle.sweep.specs.inner.Tree.{Tree, leaf, LeafSet}
-use Rattle.sweep.specs.inner.Sweep.{Passes}
+use Rattle.sweep.specs.inner.Sweep.{Mine, Passes}
 
 -- the sheet s is accepted, and c has the closures of its states
 pub record Closed (s c : List ℕ) : Type 0 where
@@ -27,16 +27,18 @@ row c q = setAt c (4 * q)
 -- the pass over the ranges that leave S, at the symbol a: the openings from i on and the endings from j on are left
 pub record Passing (s c opens ends : List ℕ) (S : Set) (i j a : ℕ) (r t : List ℕ) : Type 0 where
   pub closed : Closed s c
+  pub opens-below : Numbers s opens
+  pub ends-below : Numbers s ends
   pub in-opens : i ≤ length opens
   pub in-ends : j ≤ length ends
   pub long : length r ≡ 256
   pub tree : Tree t
-  pub passes : Passes (outgoing (read s) S) S (readRecords opens) (readRecords ends) (readRecords (drop i opens)) (readRecords (drop j ends)) a r (row c) (leaf t)
+  pub passes : Passes (outgoing (read s) S) S (eventsAt 0 s opens) (eventsAt 1 s ends) (eventsAt 0 s (drop i opens)) (eventsAt 1 s (drop j ends)) a r (row c) (leaf t)
 
--- the record at `at`, if there is one, is the next event of S, and lies above a
-pub record Stopped (k : ℕ) (ev : List ℕ) (S : Set) (at a : ℕ) : Type 0 where
-  pub mine : 5 ≤ length ev - at → has (getD ev (at + 2) 0) S ≡ true
-  pub above : 5 ≤ length ev - at → a < getD ev at 0 + k
+-- the event at `at`, if there is one, is the next of S, and lies above a
+pub record Stopped (k : ℕ) (s ev : List ℕ) (S : Set) (at a : ℕ) : Type 0 where
+  pub mine : at < length ev → Mine S (eventAt k s (getD ev at 0))
+  pub above : at < length ev → a < eventAt k s (getD ev at 0) .from + k
 
 -- what is noted at the symbol a of a range to q that has opened and ends at l: nothing where it has ended or the target reaches as far, or else
 -- the target's reach, and its set where the target was not live
@@ -52,5 +54,5 @@ pub data Closes (a q : ℕ) (r t : List ℕ) : List ℕ → Type 0 where
   empty : {u : List ℕ} → getD r q 0 ≤ a → LeafSet t u q [] → Closes a q r t u
 
 -- the symbol of the event at `at` plus k, or top if that is less or there is none
-unfoldable pub cutAt : ℕ → List ℕ → ℕ → ℕ → ℕ
-cutAt k ev at top = cond (ltb (length ev - at) 5) top (min (getD ev at 0 + k) top)
+unfoldable pub cutAt : ℕ → List ℕ → List ℕ → ℕ → ℕ → ℕ
+cutAt k s ev at top = cond (leb (length ev) at) top (min (eventAt k s (getD ev at 0) .from + k) top)

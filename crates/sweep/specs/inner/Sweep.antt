@@ -22,8 +22,8 @@ Rises W = Ascending (λ v w. v .from ≤ w .from) W
 pub record Timeline (k : ℕ) (es : List Transition) (S : Set) (W : List Transition) : Type 0 where
   pub rises : Rises W
   pub mine : (e : Transition) → e ∈ es → has (e .from) S ≡ true
-  pub has-all : (e : Transition) → e ∈ es → event k e ∈ W
-  pub only : (v : Transition) → v ∈ W → Mine S v → (e : Transition) × e ∈ es × (v ≡ event k e)
+  pub has-all : (e : Transition) → e ∈ es → (i : ℕ) × (event k i e ∈ W)
+  pub only : (v : Transition) → v ∈ W → Mine S v → (e : Transition) × e ∈ es × (i : ℕ) × (v ≡ event k i e)
   pub states : (v : Transition) → v ∈ W → v .first < 256
   pub targets : (v : Transition) → v ∈ W → v .to < 256
 

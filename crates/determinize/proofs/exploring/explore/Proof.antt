@@ -7,7 +7,7 @@ use lib.ListN.{length}
 use Rattle.words.specs.Simulation.{startSet}
 use Rattle.sheets.specs.Sheet.{stateCount, read}
 use Rattle.sets.specs.inner.BitSet.{setAt, entries}
-use Rattle.determinize.proofs.Attempts.{attempt-unfinished, attempt-over, attempt-done}
+use Rattle.determinize.proofs.Attempts.{tried-visited, tried-start, attempt-unfinished, attempt-over, attempt-done}
 use Rattle.determinize.proofs.Placing.{sink-count}
 use Rattle.determinize.proofs.Queued.{Exploring, explore-begins, start-canonical, explore-few, explore-bounded, explore-canonical, explore-start, explore-next, explore-over, explore-ended}
 use Rattle.determinize.specs.inner.Notes.{Canonical}
@@ -26,29 +26,37 @@ pub explore-spec : {M : Type 1} → statement M
 explore-spec =
     tie.close
     (tie.spec Inv-loop μ-loop (λ c. search (explore-begins, start-canonical, needs)) (λ c κs. search needs) (λ c. search needs) (λ c. search needs)
-    (λ c. search (attempt-unfinished, needs)) (λ c κs. search needs) (λ c. search needs) (λ c. search needs) (λ c. search (attempt-unfinished, needs))
-    (λ c κs. search needs) (λ c. search needs) (λ c. search needs) (λ c. search needs)
+    (λ c. search (attempt-unfinished, needs)) (λ c κs. search needs) (λ c. search needs) (λ c. search needs) (λ c. search needs) (λ c. search needs)
     (λ c.
-    let at-sets = c .before in
-    let at-visit-set = at-sets .before .before .before .before .before .before in
-    let at-loop-test = at-visit-set .before .before .before .before .before .before .before .before .before in
-    let at-loop = at-loop-test .before in (
+    let at-progress = c .before in
+    let at-progress′ = at-progress .before .before .before in
+    let at-visit-set = at-progress′ .before .before .before .before .before .before in
+    let at-loop-test = at-visit-set .before .before .before .before .before .before in
+    let at-loop = at-loop-test .before in
+    let visited = tried-visited _ _ _ _ _ _ _ _ _ _ _ _ (at-visit-set .visit-set .ensures) _ (at-progress′ .progress .given .1) in (
       search needs,
       search needs,
       search needs,
-      search explore-few,
+      explore-few _ _ _ _ _ _ _ _ _ (at-loop .loop .inv .7) (at-loop .loop .inv .4) (at-loop-test .loop-test .taken) _ _ _ visited _ _ (at-progress .progress2 .given .1),
       search needs,
-      explore-bounded _ _ _ _ _ _ _ _ _ (at-loop .loop .inv .7) (at-loop .loop .inv .4) (at-loop-test .loop-test .taken) _ _ _ (at-visit-set .visit-set .ensures) _ _ (at-sets .sets .given .1) (at-loop .loop .inv .5),
-      search explore-canonical,
-      explore-next _ _ _ _ _ _ _ _ _ (at-loop .loop .inv .7) (at-loop .loop .inv .4) (at-loop-test .loop-test .taken) _ _ _ (at-visit-set .visit-set .ensures) _ _ (at-sets .sets .given .1),
-      search explore-start,
+      explore-bounded _ _ _ _ _ _ _ _ _ (at-loop .loop .inv .7) (at-loop .loop .inv .4) (at-loop-test .loop-test .taken) _ _ _ visited _ _ (at-progress .progress2 .given .1) (at-loop .loop .inv .5),
+      explore-canonical _ _ _ _ _ _ _ _ _ (at-loop .loop .inv .7) (at-loop .loop .inv .4) (at-loop-test .loop-test .taken) _ _ _ visited _ _ (at-progress .progress2 .given .1),
+      explore-next _ _ _ _ _ _ _ _ _ (at-loop .loop .inv .7) (at-loop .loop .inv .4) (at-loop-test .loop-test .taken) _ _ _ visited _ _ (at-progress .progress2 .given .1),
+      explore-start _ _ _ _ _ _ _ _ _ (at-loop .loop .inv .7) (at-loop .loop .inv .4) (at-loop-test .loop-test .taken) _ _ _ visited _ _ (at-progress .progress2 .given .1) (at-loop .loop .inv .8),
     ))
     (λ c. search needs) (λ c. search needs) (λ c. search needs)
     (λ c.
-    let at-visit-set = c .before .before .before .before .before .before in
-    let at-loop-test = at-visit-set .before .before .before .before .before .before .before .before .before in
+    let at-progress = c .before .before .before in
+    let at-visit-set = at-progress .before .before .before .before .before .before in
+    let at-loop-test = at-visit-set .before .before .before .before .before .before in
     let at-loop = at-loop-test .before in
-    attempt-over _ _ _ _ _ _ (explore-over _ _ _ _ _ _ _ _ _ (at-loop .loop .inv .7) (at-loop .loop .inv .4) (at-loop-test .loop-test .taken) _ _ _ (at-visit-set .visit-set .ensures) (c .enum-told .given .1)))
+    let visited = tried-visited _ _ _ _ _ _ _ _ _ _ _ _ (at-visit-set .visit-set .ensures) _ (at-progress .progress .given .1) in
+    attempt-over _ _ _ _ _ _ (explore-over _ _ _ _ _ _ _ _ _ (at-loop .loop .inv .7) (at-loop .loop .inv .4) (at-loop-test .loop-test .taken) _ _ _ visited (c .enum-told .given .1)))
+    (λ c. search needs) (λ c. search needs) (λ c. search needs)
+    (λ c.
+    let at-visit-set = c .before .before .before .before .before .before in
+    let at-loop = at-visit-set .before .before .before .before .before .before .before in
+    attempt-unfinished _ _ _ _ _ (tried-start _ _ _ _ _ _ _ _ _ _ _ _ (at-visit-set .visit-set .ensures) (c .enum-told2 .given .1) (at-loop .loop .inv .8)))
     (λ c. search needs) (λ c κs. search needs) (λ c κs. omega (arith, sink-count _ _ _ _ _ _ _ (c .before .before .before .note-sink .ensures)))
     (λ c. search needs) (λ c. search needs) (λ c. search (attempt-unfinished, needs)) (λ c. search needs) (λ c. search needs)
     (λ c.
@@ -56,4 +64,4 @@ explore-spec =
     let at-note-sink = at-is-full .before .before .before .before in
     let at-loop-test = at-note-sink .before .before in
     let at-loop = at-loop-test .before in
-    attempt-done _ _ _ _ _ _ _ _ (explore-ended _ _ _ _ _ _ _ _ _ (at-loop .loop .inv .7) (at-loop .loop .inv .4) (at-loop-test .loop-test .left) (at-loop .loop .inv .3) (at-loop .loop .inv .6) _ _ (at-note-sink .note-sink .ensures)) (search needs) _ (at-is-full .is-full2 .ensures) (c .if3 .left)))
+    attempt-done _ _ _ _ _ _ _ _ (explore-ended _ _ _ _ _ _ _ _ _ (at-loop .loop .inv .7) (at-loop .loop .inv .4) (at-loop-test .loop-test .left) (at-loop .loop .inv .3) (at-loop .loop .inv .6) _ _ (at-note-sink .note-sink .ensures)) (search needs) _ (at-is-full .is-full2 .ensures) (c .if2 .left)))

@@ -1,4 +1,5 @@
--- `visit_set` meets its contract: the copied row is the entry.
+-- `visit_set` meets its contract.
+use native.Mathlib.Omega.{arith}
 use borrow.Author.Needs.{needs}
 use Rattle.determinize.proofs.Queued.{rowLaws, row-canon}
 use Rattle.determinize.proofs.exploring.visit_set.Statement.{statement}
@@ -10,6 +11,8 @@ visit-set-spec =
     (tie.spec (λ c. search rowLaws) (λ c κs. search rowLaws) (λ c. search rowLaws) (λ c. search rowLaws)
     (λ c κs.
     let copied = c .before .before .before .before in
-    let first = copied .before .before .before .before .before .before .before .before in
-    ((search needs, row-canon _ _ _ (copied .copy-row .ensures) _ (first .pre .1) _ (first .pre .4), search needs), search needs))
+    let first = copied .before .before .before .before .before .before .before .before in (
+      (first .pre .0, row-canon _ _ _ (copied .copy-row .ensures) _ (first .pre .1) _ (first .pre .4), search needs),
+      (omega (arith, first .pre .1), first .pre .2, first .pre .3, first .pre .4, first .pre .5, first .pre .6),
+    ))
     (λ c. search rowLaws) (λ c. search rowLaws) (λ c. search rowLaws))

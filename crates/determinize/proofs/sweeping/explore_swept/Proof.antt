@@ -38,6 +38,18 @@ explore-swept-spec =
       omega (arith, at-loop .loop .inv .5, at-loop .loop .inv .4),
     ))
     (λ c. search needs) (λ c. search needs) (λ c. search needs)
-    (λ c. (search needs, search needs, search needs, search explore-few, search needs, search explore-bounded, search explore-canonical, search explore-next))
+    (λ c. (
+      search needs,
+      search needs,
+      search needs,
+      search explore-few,
+      search needs,
+      search explore-bounded,
+      let at-visit-entry = c .before .before .before .before .before .before .before in
+          let at-loop-test = at-visit-entry .before .before .before in
+          let at-loop = at-loop-test .before in
+          explore-canonical _ _ _ _ _ _ _ _ _ (at-loop .loop .inv .7) (at-loop .loop .inv .4) (at-loop-test .loop-test .taken) _ _ _ (at-visit-entry .visit-entry .ensures) _ _ (c .before .sets .given .1),
+      search explore-next,
+    ))
     (λ c. search needs) (λ c. search needs) (λ c. search needs) (λ c. search (explore-over, needs)) (λ c. search needs) (λ c κs. search needs)
     (λ c. search needs) (λ c. search needs) (λ c. search (explore-ended, needs)))

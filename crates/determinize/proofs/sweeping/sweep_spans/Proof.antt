@@ -47,10 +47,7 @@ sweep-spans-spec =
     let at-visit-swept = c .before .before .before .before .before .before .before .before in
     let at-if = at-visit-swept .before .before .before .before .before in
     cut-less _ _ _ _ (at-visit-swept .visit-swept .ensures .0) (at-if .if1 .taken))
-    (λ c.
-    let at-visit-swept = c .before .before .before .before .before .before .before .before in
-    let at-if = at-visit-swept .before .before .before .before .before in
-    let at-loop = at-if .before .before in (
+    (λ c. (
       search needs,
       search needs,
       search needs,
@@ -58,11 +55,18 @@ sweep-spans-spec =
       search needs,
       search needs,
       search needs,
-      cut-most _ _ _ _ (at-visit-swept .visit-swept .ensures .0) (at-loop .loop .inv .0),
-      cut-counts _ _ _ _ (at-visit-swept .visit-swept .ensures .0) _ _ _ (at-if .if1 .taken) (at-loop .loop .inv .8),
+      let at-visit = c .before .before .before .before .before .before .before .before in
+          let at-loop = at-visit .before .before .before .before .before .before .before in
+          cut-most _ _ _ _ (at-visit .visit-swept .ensures .0) (at-loop .loop .inv .0),
+      let at-visit = c .before .before .before .before .before .before .before .before in
+          let at-if = at-visit .before .before .before .before .before in
+          let at-loop = at-if .before .before in
+          cut-counts _ _ _ _ (at-visit .visit-swept .ensures .0) _ _ _ (at-if .if1 .taken) (at-loop .loop .inv .8),
       search canonical-next,
       search visit-next,
-      passing-next _ _ _ _ _ _ _ _ _ _ (at-visit-swept .visit-swept .ensures .1 .1 .0) _ _ _ (at-if .if1 .taken) (at-visit-swept .visit-swept .ensures .0),
-      at-visit-swept .visit-swept .ensures .1 .1 .1,
+      let at-visit = c .before .before .before .before .before .before .before .before in
+          let at-if = at-visit .before .before .before .before .before in
+          passing-next _ _ _ _ _ _ _ _ _ _ (at-visit .visit-swept .ensures .1 .1 .0) _ _ _ (at-if .if1 .taken) (at-visit .visit-swept .ensures .0),
+      c .before .before .before .before .before .before .before .before .visit-swept .ensures .1 .1 .1,
     ))
     (λ c. search needs) (λ c. search needs) (λ c. search (visit-ended, needs)))

@@ -19,7 +19,7 @@ abbrev μ-loop : tie.MeasureT-loop
 pub read-first-spec : {M : Type 1} → statement M
 read-first-spec =
     tie.close
-    (tie.spec Inv-loop μ-loop (λ c. search goingLaws) (λ c κs. search goingLaws) (λ c. search goingLaws) (λ c. search goingLaws)
+    (tie.spec Inv-loop μ-loop (λ c. search goingLaws) (λ c. search goingLaws) (λ c κs. search goingLaws) (λ c. search goingLaws) (λ c. search goingLaws)
     (λ c. search goingLaws) (λ c. search goingLaws) (λ c. search goingLaws) (λ c κs. search goingLaws) (λ c. search goingLaws) (λ c. search goingLaws)
     (λ c κs. search goingLaws) (λ c. search goingLaws) (λ c. search goingLaws) (λ c. search goingLaws) (λ c. search goingLaws)
     (λ c. (

@@ -6,6 +6,5 @@ use Rattle.sweep.proofs.ordering.put_event.Tie as tie
 pub put-event-spec : {M : Type 1} → statement M
 put-event-spec =
     tie.close
-    (tie.spec (λ c. search eventLaws) (λ c. search eventLaws) (λ c. search eventLaws) (λ c. search eventLaws) (λ c. search eventLaws)
-    (λ c. search eventLaws) (λ c κs. search eventLaws) (λ c. search eventLaws) (λ c. search eventLaws) (λ c. search eventLaws) (λ c. search eventLaws)
-    (λ c. search eventLaws) (λ c. search eventLaws) (λ c κs. search eventLaws) (λ c. search eventLaws) (λ c. search eventLaws))
+    (tie.spec (λ c κs. search eventLaws) (λ c. search eventLaws) (λ c κs. search eventLaws) (λ c κs. search eventLaws) (λ c. search eventLaws)
+    (λ c. search eventLaws) (λ c κs. search eventLaws) (λ c. search eventLaws) (λ c. search eventLaws))
