@@ -1,12 +1,14 @@
 -- Reading and writing records: the law in each direction, lengths, and records by their place.
 use Prim.Native.Nat.{ℕ, zero, suc, _+_, _-_, _*_, _≤_, _<_}
-use mathlib.Core.List.{List, [], _∷_, _++_, List·Memᴰ·head, List·Memᴰ·tail}
-use mathlib.Core.Path.{_≡_, refl, _∙_, ap}
+use mathlib.Core.List.{List, [], _∷_, _++_, List·Memᴰ·head, List·Memᴰ·tail, head-eq-of-cons-eq}
+use mathlib.Core.Path.{_≡_, refl, sym, _∙_, ap}
 use native.Mathlib.Nat.{add-sub-cancel-left}
 use native.Mathlib.Omega.{arith}
 use lib.ListN.{length, getD, take, drop, length-drop}
 use lib.Seq.{drop-drop, getD-drop, getD-take}
 use Rattle.lists.specs.Lists.{_∈_}
+use Rattle.lists.proofs.Lists.{drop-mem}
+use Rattle.lists.proofs.Members.{place}
 use Rattle.automata.specs.Automaton.{Transition}
 use Rattle.automata.specs.Records.{wordsOf, readRecords, writeRecords}
 use Rattle.automata.specs.inner.Records.{recordAt}
@@ -112,3 +114,18 @@ records-most k (a ∷ b ∷ c ∷ []) h e m = elim m [ ]
 records-most k (a ∷ b ∷ c ∷ d ∷ []) h e m = elim m [ ]
 records-most k (a ∷ b ∷ c ∷ d ∷ f ∷ s) h e (List·Memᴰ·head q) = rw q (h 3)
 records-most k (a ∷ b ∷ c ∷ d ∷ f ∷ s) h e (List·Memᴰ·tail m) = records-most k s (λ i. h (suc (suc (suc (suc (suc i)))))) e m
+
+-- a record of a list of transitions that is written as words: it stands at its place in the list
+pub written-at : (es : List Transition) (j : ℕ) → j < length es → drop j es ≡ recordAt (writeRecords es) (5 * j) ∷ readRecords (drop (5 * j + 5) (writeRecords es))
+written-at es j h =
+    let s = writeRecords es in
+    let n : length s ≡ 5 * length es = length-write es in
+    ap (drop j) (sym (read-write es)) ∙ sym (read-drop j s) ∙ records-at s (5 * j) (omega arith)
+
+pub written-mem : (es : List Transition) (j : ℕ) → j < length es → recordAt (writeRecords es) (5 * j) ∈ es
+written-mem es j h = drop-mem j es _ _ (written-at es j h)
+
+pub written-place : (es : List Transition) (e : Transition) → e ∈ es → (j : ℕ) × (j < length es) × (recordAt (writeRecords es) (5 * j) ≡ e)
+written-place es e m =
+    let p = place m in
+    (p .0, p .1, head-eq-of-cons-eq (sym (written-at es (p .0) (p .1)) ∙ p .3))

@@ -5,7 +5,7 @@ use mathlib.Core.List.{List, [], _∷_}
 use mathlib.Core.Path.{_≡_}
 use lib.Dec.{eqb, leb}
 use lib.ListN.{getD}
-use Rattle.lists.specs.Lists.{_∈_, any, keep, tabulate}
+use Rattle.lists.specs.Lists.{_∈_, any, filter, tabulate}
 
 -- kind 0 is an epsilon, kind 1 a range of symbols from first to last
 pub record Transition : Type 0 where
@@ -32,14 +32,18 @@ pub data Run (A : Automaton) : ℕ → List ℕ → ℕ → Type 0 where
   skip : {p q : ℕ} {w : List ℕ} (e : Transition) → e ∈ A .transitions → e .from ≡ p → e .kind ≡ 0 → Run A (e .to) w q → Run A p w q
   read : {p q a : ℕ} {w : List ℕ} (e : Transition) → e ∈ A .transitions → e .from ≡ p → e .kind ≡ 1 → e .first ≤ a → a ≤ e .last → Run A (e .to) w q → Run A p (a ∷ w) q
 
+-- the accept word of a state
+abbrev pub acceptOf : Automaton → ℕ → ℕ
+acceptOf A q = getD (A .accept) q 0
+
 -- a word is accepted if some run from the start ends in a state whose accept word is not 0
 abbrev pub Accepts : Automaton → List ℕ → Type 0
-Accepts A w = (q : ℕ) × Run A (A .start) w q × (0 < getD (A .accept) q 0)
+Accepts A w = (q : ℕ) × Run A (A .start) w q × (0 < acceptOf A q)
 
--- a word of symbols from lo to hi
-pub data Word (lo hi : ℕ) : List ℕ → Type 0 where
-  none : Word lo hi []
-  more : {a : ℕ} {w : List ℕ} → lo ≤ a → a ≤ hi → Word lo hi w → Word lo hi (a ∷ w)
+-- a word of symbols from lower to upper
+pub data Word (lower upper : ℕ) : List ℕ → Type 0 where
+  none : Word lower upper []
+  more : {a : ℕ} {w : List ℕ} → lower ≤ a → a ≤ upper → Word lower upper w → Word lower upper (a ∷ w)
 
 -- the states named are states
 pub record InBounds (A : Automaton) : Type 0 where
@@ -57,11 +61,11 @@ carries q a e = eqb (e .from) q && (eqb (e .kind) 1 && holds a e)
 
 -- the transitions that leave q, in order
 unfoldable pub leaving : Automaton → ℕ → List Transition
-leaving A q = keep (λ e. eqb (e .from) q) (A .transitions)
+leaving A q = filter (λ e. eqb (e .from) q) (A .transitions)
 
 -- the transitions that are ranges
 unfoldable pub rangesOf : List Transition → List Transition
-rangesOf es = keep (λ e. eqb (e .kind) 1) es
+rangesOf es = filter (λ e. eqb (e .kind) 1) es
 
 -- an epsilon is among the transitions
 unfoldable pub hasEpsilon : List Transition → Bool

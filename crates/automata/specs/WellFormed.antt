@@ -2,9 +2,9 @@
 use Prim.Native.Nat.{ℕ, _≤_, _<_}
 use mathlib.Core.List.{List, _∷_}
 use mathlib.Core.Path.{_≡_}
-use lib.ListN.{length, getD}
+use lib.ListN.{length}
 use Rattle.lists.specs.Lists.{_∈_, Ascending}
-use Rattle.automata.specs.Automaton.{Transition, Automaton, InBounds}
+use Rattle.automata.specs.Automaton.{Transition, Automaton, InBounds, acceptOf}
 use Rattle.automata.specs.Records.{wordsOf}
 
 -- the limits of a sheet, and the greatest accept word and symbol
@@ -20,7 +20,7 @@ greatestAccept = 1
 abbrev pub lastSymbol : ℕ
 lastSymbol = 4294967295
 
--- the order of a dictionary, on lists of equal length
+-- the lexicographic order, on lists of equal length
 pub data Lex : List ℕ → List ℕ → Type 0 where
   here : {a b : ℕ} {v w : List ℕ} → a < b → Lex (a ∷ v) (b ∷ w)
   later : {a b : ℕ} {v w : List ℕ} → a ≡ b → Lex v w → Lex (a ∷ v) (b ∷ w)
@@ -37,7 +37,7 @@ pub record Sound (e : Transition) : Type 0 where
 pub record WellFormed (A : Automaton) : Type 0 where
   pub states : InBounds A
   pub accepts : length (A .accept) ≡ A .size
-  pub accept-words : (q : ℕ) → getD (A .accept) q 0 ≤ greatestAccept
+  pub accept-words : (q : ℕ) → acceptOf A q ≤ greatestAccept
   pub sound : (e : Transition) → e ∈ A .transitions → Sound e
   pub ascends : Ascending Before (A .transitions)
 

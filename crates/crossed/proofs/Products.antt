@@ -13,10 +13,10 @@ use Rattle.automata.specs.WellFormed.{lastSymbol}
 use Rattle.determinize.specs.Determinize.{determinize}
 use Rattle.emptiness.specs.Reachable.{hasReachableAccepting, reachableAnswer}
 use Rattle.emptiness.proofs.Theorems.{empty-exact}
-use Rattle.equality.specs.Successors.{acceptAfter}
-use Rattle.equality.proofs.Successors.{accepts-after}
+use Rattle.automata.specs.Successors.{acceptAfter}
+use Rattle.automata.proofs.Successors.{accepts-after}
 use Rattle.output.specs.Output.{Pattern}
-use Rattle.product.specs.Product.{product, intersection}
+use Rattle.product.specs.Product.{product, intersectionAnswer}
 use Rattle.product.specs.Reached.{Blocked}
 use Rattle.product.proofs.Given.{given-fits}
 use Rattle.product.proofs.Theorems.{product-words, product-wellformed, product-written, product-read, product-given}
@@ -33,10 +33,10 @@ use Rattle.crossed.proofs.Fronts.{code-left, sheet-left}
 use Rattle.crossed.proofs.Sides.{well, deterministic, between, no-fault, read-back, flipped-wellformed, flipped-fits, other-words}
 
 -- a run reads symbols of ranges
-run-word : {A : Automaton} (hi : ℕ) → ((d : Transition) → d ∈ A .transitions → d .last ≤ hi) → {p q : ℕ} {w : List ℕ} → Run A p w q → Word 0 hi w
-run-word hi b stay = none
-run-word hi b (skip e m f k r) = run-word hi b r
-run-word hi b (runs.read {a = a} e m f k l u r) = more {a = a} (omega arith) (omega (arith, b e m)) (run-word hi b r)
+run-word : {A : Automaton} (upper : ℕ) → ((d : Transition) → d ∈ A .transitions → d .last ≤ upper) → {p q : ℕ} {w : List ℕ} → Run A p w q → Word 0 upper w
+run-word upper b stay = none
+run-word upper b (skip e m f k r) = run-word upper b r
+run-word upper b (runs.read {a = a} e m f k l u r) = more {a = a} (omega arith) (omega (arith, b e m)) (run-word upper b r)
 
 -- accepted sheets s and t whose determinizations are D and E
 module _ (s : List ℕ) (f : fault s ≡ 0) (D : Automaton) (e : determinize 0 lastSymbol (read s) ≡ given D) (t : List ℕ) (g : fault t ≡ 0) (E : Automaton) (h : determinize 0 lastSymbol (read t) ≡ given E) where
@@ -44,8 +44,8 @@ module _ (s : List ℕ) (f : fault s ≡ 0) (D : Automaton) (e : determinize 0 l
   other-back = read-write-sheet (flipped E) (flipped-wellformed t g E h .accepts)
 
   -- the call is the product of the two automata
-  call-product : intersection (write D) (write (flipped E)) ≡ product D (flipped E)
-  unfolding intersection sheetFirst
+  call-product : intersectionAnswer (write D) (write (flipped E)) ≡ product D (flipped E)
+  unfolding intersectionAnswer sheetFirst
   call-product = rw (no-fault s f D e, write-accepted (flipped E) (flipped-wellformed t g E h) (flipped-fits t g E h), read-back s f D e, other-back)
 
   free-one : EpsilonFree D
@@ -111,8 +111,8 @@ module _ (s : List ℕ) (f : fault s ≡ 0) (D : Automaton) (e : determinize 0 l
     is-p : product D (flipped E) ≡ given P
     is-p = product-given D (flipped E) (fit .0) not-blocked (fit .1) .1
 
-    answer-is : intersection S T ≡ given P
-    answer-is = ap₂ intersection is-s is-t ∙ call-product ∙ is-p
+    answer-is : intersectionAnswer S T ≡ given P
+    answer-is = ap₂ intersectionAnswer is-s is-t ∙ call-product ∙ is-p
 
     product-left : sheetOf (x .product) ≡ write (P .automaton)
     product-left = sheet-left (x .product) _ (x .intersects) P answer-is (product-wellformed D (flipped E) P is-p (well s f D e)) (given-fits D (flipped E) P is-p)

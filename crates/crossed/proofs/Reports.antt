@@ -7,7 +7,7 @@ use native.Mathlib.Omega.{arith}
 use lib.ListN.{length}
 use Rattle.automata.specs.WellFormed.{lastSymbol}
 use Rattle.equality.specs.Equality.{wordSize, Differs, Exact}
-use Rattle.equality.specs.Forced.{Two, states}
+use Rattle.equality.specs.Forced.{Two, totalSize}
 use Rattle.equality.specs.declared.Verdict.{Verdict}
 use Rattle.equality.specs.declared.Verdict.the-variants.{Same, Different, Refused}
 use Rattle.ringmatch.specs.Reply.{VerdictReply, tellVerdict}
@@ -16,7 +16,7 @@ use Rattle.crossed.specs.Calls.{Difference}
 use Rattle.crossed.specs.Demand.{EqualWords, Report}
 
 -- the sheets a and b, whose determinizations t have at most 512 states; o is the lent word before, o′ after
-module _ (a b : List ℕ) (t : Two) (few : states t ≤ 512) (o o′ : List ℕ) (s n : ℕ) (room : wordSize ≤ length o) where
+module _ (a b : List ℕ) (t : Two) (few : totalSize t ≤ 512) (o o′ : List ℕ) (s n : ℕ) (room : wordSize ≤ length o) where
   -- the memory with the reply r
   abbrev memory : VerdictReply → Difference
   memory r = record { word = o; same = s; number = n; room = room; word-after = o′; after = r }
@@ -44,7 +44,7 @@ module _ (a b : List ℕ) (t : Two) (few : states t ≤ 512) (o o′ : List ℕ)
         either = inr refl;
         equal = (λ z. absurd (omega arith), λ w. absurd (apart w));
         different = (λ z. apart, λ z. refl);
-        word = λ z. subst (Differs 0 lastSymbol (read a) (read b) (states t) o o′) i d;
+        word = λ z. subst (Differs 0 lastSymbol (read a) (read b) (totalSize t) o o′) i d;
         most = λ z. omega (arith, i, d .short, few);
         joins = λ z. absurd (omega arith);
         kept = λ z. absurd (omega arith);

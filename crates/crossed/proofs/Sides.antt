@@ -9,7 +9,7 @@ use Rattle.automata.specs.Automaton.{Automaton, Accepts, Word}
 use Rattle.automata.specs.WellFormed.{WellFormed, Fits, lastSymbol}
 use Rattle.automata.specs.Deterministic.{Deterministic, Between}
 use Rattle.determinize.specs.Determinize.{determinize}
-use Rattle.determinize.specs.Sheets.{labelled, determinizeSheet}
+use Rattle.determinize.specs.Sheets.{labelled, determinizeAnswer}
 use Rattle.determinize.proofs.Theorems.{determinize-deterministic, determinize-between, determinize-wellformed, determinize-fits}
 use Rattle.labels.specs.Forms.{numbered}
 use Rattle.labels.specs.Labels.{labelsFault, writeLabels}
@@ -98,11 +98,11 @@ module _ (s : List ℕ) (f : fault s ≡ 0) (D : Automaton) (e : determinize 0 l
   -- the two calls, the second on what the first wrote
   module _ (x : Side s) where
     pub determinization-left : sheetOf (x .determinization) ≡ write D
-    unfolding determinizeSheet
+    unfolding determinizeAnswer
     determinization-left = sheet-left (x .determinization) _ (x .determinizes) own determinize-answer well fits
 
     names-left : labelsOf (x .determinization) ≡ writeLabels (numbered (D .size))
-    unfolding determinizeSheet
+    unfolding determinizeAnswer
     names-left =
         labels-left (x .determinization) _ (x .determinizes) own determinize-answer (labels-numbered (D .size) (fits .few-states)) (omega (arith, length-numbered (D .size), fits .few-states))
 
@@ -113,7 +113,7 @@ module _ (s : List ℕ) (f : fault s ≡ 0) (D : Automaton) (e : determinize 0 l
     complement-left = sheet-left (x .complement) _ (x .complements) other complement-given flipped-wellformed flipped-fits
 
     pub side-answers : SideAnswers D x
-    unfolding determinizeSheet
+    unfolding determinizeAnswer
     side-answers = record {
       determinize-code = code-left (x .determinization) _ (x .determinizes) own determinize-answer;
       determinization = ap read determinization-left ∙ read-back;

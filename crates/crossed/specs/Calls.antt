@@ -5,12 +5,12 @@ use mathlib.Core.List.{List}
 use mathlib.Core.Path.{_≡_}
 use lib.ListN.{length, take}
 use Rattle.automata.specs.WellFormed.{lastSymbol}
-use Rattle.determinize.specs.Sheets.{determinizeSheet}
+use Rattle.determinize.specs.Sheets.{determinizeAnswer}
 use Rattle.emptiness.specs.Reachable.{reachableAnswer}
-use Rattle.equality.specs.Equality.{wordSize, compared}
+use Rattle.equality.specs.Equality.{wordSize, equalityAnswer}
 use Rattle.output.specs.Left.{Room}
 use Rattle.output.specs.Output.{Pattern, outputs, roomFirst}
-use Rattle.product.specs.Product.{intersection}
+use Rattle.product.specs.Product.{intersectionAnswer}
 use Rattle.refusal.specs.Answer.{Answer}
 use Rattle.ringmatch.specs.Reply.{Reply, replyBit, Built, buildReply, VerdictReply, Told}
 use Rattle.totality.specs.Answers.{complementAnswer}
@@ -26,7 +26,7 @@ pub record Difference : Type 0 where
 
 -- `ringmatch_equality` of the sheets a and b
 abbrev pub EqualityCall : List ℕ → List ℕ → Difference → Type 0
-EqualityCall a b m = Told (compared 0 lastSymbol a b (m .word)) (m .word) (m .word-after) (m .same) (m .number) (m .after)
+EqualityCall a b m = Told (equalityAnswer 0 lastSymbol a b (m .word)) (m .word) (m .word-after) (m .same) (m .number) (m .after)
 
 -- the memory of a call with two outputs: what is lent for them, of document 01's sizes, and for their lengths; then what is there after the call
 pub record Outputs : Type 0 where
@@ -50,7 +50,7 @@ Answers a m = m .after ≡ buildReply (m .words) (m .bytes) (outputs (m .sheet) 
 
 -- `ringmatch_determinize` of the sheet s
 abbrev pub DeterminizeCall : List ℕ → Outputs → Type 0
-DeterminizeCall s m = Answers (determinizeSheet s (m .sheet) (m .labels)) m
+DeterminizeCall s m = Answers (determinizeAnswer s (m .sheet) (m .labels)) m
 
 -- `ringmatch_complement` of the sheet s with the labels b
 abbrev pub ComplementCall : List ℕ → List ℕ → Outputs → Type 0
@@ -58,7 +58,7 @@ ComplementCall s b m = Answers (roomFirst (m .sheet) (m .labels) (complementAnsw
 
 -- `ringmatch_intersection` of the sheets s and t
 abbrev pub IntersectionCall : List ℕ → List ℕ → Outputs → Type 0
-IntersectionCall s t m = Answers (roomFirst (m .sheet) (m .labels) (intersection s t)) m
+IntersectionCall s t m = Answers (roomFirst (m .sheet) (m .labels) (intersectionAnswer s t)) m
 
 -- the memory of a question: what is lent for its answer, and what is there after the call
 pub record Question : Type 0 where

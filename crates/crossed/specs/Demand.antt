@@ -9,7 +9,7 @@ use Rattle.automata.specs.WellFormed.{mostStates, mostTransitions, lastSymbol}
 use Rattle.determinize.specs.Determinize.{determinize}
 use Rattle.dsu.specs.Classes.{Classes}
 use Rattle.equality.specs.Equality.{wordSize, Limits, SameWords, Differs}
-use Rattle.equality.specs.Forced.{Two, states, Forced, Smallest}
+use Rattle.equality.specs.Forced.{Two, totalSize, Forced, Smallest}
 use Rattle.product.specs.Reached.{ManyPairs, ManyTransitions}
 use Rattle.refusal.specs.Answer.{given}
 use Rattle.sheets.specs.Fault.{fault}
@@ -77,7 +77,7 @@ Empty x = x .question .after .answer ≡ 0
 
 -- two automata side by side over the symbols of u32
 abbrev pub beside : Automaton → Automaton → Two
-beside D E = record { one = D; two = E; low = 0; high = lastSymbol }
+beside D E = record { one = D; two = E; lower = 0; upper = lastSymbol }
 
 -- every word of u32 symbols is accepted by both sheets or by neither
 abbrev pub EqualWords : List ℕ → List ℕ → Type 0
@@ -101,10 +101,10 @@ pub record Report (a b : List ℕ) (t : Two) (m : Difference) : Type 0 where
   -- otherwise different, with a word that exactly one of the two accepts; its symbols number at most the states of both determinizations less 2,
   -- so 510, and nothing behind it is written
   pub different : (m .after .same ≡ 0) ↔ (EqualWords a b → ⊥)
-  pub word : m .after .same ≡ 0 → Differs 0 lastSymbol (read a) (read b) (states t) (m .word) (m .word-after) (m .after .number)
+  pub word : m .after .same ≡ 0 → Differs 0 lastSymbol (read a) (read b) (totalSize t) (m .word) (m .word-after) (m .after .number)
   pub most : m .after .same ≡ 0 → m .after .number ≤ wordSize
   -- an equal report carries the joins, which are the states of both determinizations less the classes; nothing is written into the lent word
-  pub joins : m .after .same ≡ 1 → (classes : ℕ) × Classes (Forced t) (states t) classes × (m .after .number + classes ≡ states t)
+  pub joins : m .after .same ≡ 1 → (classes : ℕ) × Classes (Forced t) (totalSize t) classes × (m .after .number + classes ≡ totalSize t)
   pub kept : m .after .same ≡ 1 → m .word-after ≡ m .word
 
 -- what demand 3 asks of the comparison c

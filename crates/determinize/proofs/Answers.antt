@@ -13,42 +13,42 @@ use Rattle.automata.specs.WellFormed.{mostTransitions}
 use Rattle.sets.specs.Sets.{Set}
 use Rattle.output.specs.Output.{transitionsFirst}
 use Rattle.refusal.specs.Answer.{refused, given}
-use Rattle.search.specs.Search.{Found, over, found}
-use Rattle.determinize.specs.Determinize.{table, built, answerOf, determinize}
+use Rattle.search.specs.Search.{SearchResult, over, found}
+use Rattle.determinize.specs.Determinize.{table, subsetAutomaton, subsetsAnswer, determinize}
 
-module _ (lo hi : ℕ) (A : Automaton) where
+module _ (lower upper : ℕ) (A : Automaton) where
   -- the three answers
-  pub answer-over : table lo hi A ≡ over → determinize lo hi A ≡ refused 21
-  unfolding determinize answerOf
-  answer-over e = ap (answerOf lo hi A) e
+  pub answer-over : table lower upper A ≡ over → determinize lower upper A ≡ refused 21
+  unfolding determinize subsetsAnswer
+  answer-over e = ap (subsetsAnswer lower upper A) e
 
-  module _ (T : List Set) (e : table lo hi A ≡ found T) where
-    pub answer-many : mostTransitions < length (built lo hi A T .transitions) → determinize lo hi A ≡ refused 22
-    unfolding determinize answerOf transitionsFirst
-    answer-many h = ap (answerOf lo hi A) e ∙ rw (lt-ltb _ _ h)
+  module _ (T : List Set) (e : table lower upper A ≡ found T) where
+    pub answer-many : mostTransitions < length (subsetAutomaton lower upper A T .transitions) → determinize lower upper A ≡ refused 22
+    unfolding determinize subsetsAnswer transitionsFirst
+    answer-many h = ap (subsetsAnswer lower upper A) e ∙ rw (lt-ltb _ _ h)
 
-    pub answer-given : length (built lo hi A T .transitions) ≤ mostTransitions → determinize lo hi A ≡ given (built lo hi A T)
-    unfolding determinize answerOf transitionsFirst
-    answer-given h = ap (answerOf lo hi A) e ∙ rw (le-ltb mostTransitions (length (built lo hi A T .transitions)) h)
+    pub answer-given : length (subsetAutomaton lower upper A T .transitions) ≤ mostTransitions → determinize lower upper A ≡ given (subsetAutomaton lower upper A T)
+    unfolding determinize subsetsAnswer transitionsFirst
+    answer-given h = ap (subsetsAnswer lower upper A) e ∙ rw (le-ltb mostTransitions (length (subsetAutomaton lower upper A T .transitions)) h)
 
   -- which of them it is
   pub data Outcome : Type 0 where
-    too-many-sets : table lo hi A ≡ over → determinize lo hi A ≡ refused 21 → Outcome
-    too-many-transitions : (T : List Set) → table lo hi A ≡ found T → mostTransitions < length (built lo hi A T .transitions) → determinize lo hi A ≡ refused 22 → Outcome
-    fits : (T : List Set) → table lo hi A ≡ found T → length (built lo hi A T .transitions) ≤ mostTransitions → determinize lo hi A ≡ given (built lo hi A T) → Outcome
+    too-many-sets : table lower upper A ≡ over → determinize lower upper A ≡ refused 21 → Outcome
+    too-many-transitions : (T : List Set) → table lower upper A ≡ found T → mostTransitions < length (subsetAutomaton lower upper A T .transitions) → determinize lower upper A ≡ refused 22 → Outcome
+    fits : (T : List Set) → table lower upper A ≡ found T → length (subsetAutomaton lower upper A T .transitions) ≤ mostTransitions → determinize lower upper A ≡ given (subsetAutomaton lower upper A T) → Outcome
 
   pub outcome : Outcome
-  outcome = go (table lo hi A) refl
+  outcome = go (table lower upper A) refl
     where
-      go : (f : Found Set) → table lo hi A ≡ f → Outcome
+      go : (f : SearchResult Set) → table lower upper A ≡ f → Outcome
       go over e = too-many-sets e (answer-over e)
       go (found T) e =
-          let n = length (built lo hi A T .transitions) in
+          let n = length (subsetAutomaton lower upper A T .transitions) in
           ⊎-elim (λ t. let h = ltb-true mostTransitions n t in too-many-transitions T e h (answer-many T e h)) (λ t. let h = ltb-false mostTransitions n t in fits T e h (answer-given T e h))
           (test (ltb mostTransitions n))
 
   -- no other refusal is given
-  pub refused-above : (n : ℕ) → determinize lo hi A ≡ refused n → 20 < n
+  pub refused-above : (n : ℕ) → determinize lower upper A ≡ refused n → 20 < n
   refused-above n p = go outcome
     where
       go : Outcome → 20 < n
@@ -59,22 +59,22 @@ module _ (lo hi : ℕ) (A : Automaton) where
   -- an automaton that was given comes from a finished table, with few enough transitions
   pub record Built (D : Automaton) : Type 0 where
     pub sets : List Set
-    pub whole : table lo hi A ≡ found sets
-    pub is : D ≡ built lo hi A sets
+    pub whole : table lower upper A ≡ found sets
+    pub is : D ≡ subsetAutomaton lower upper A sets
     pub few : length (D .transitions) ≤ mostTransitions
 
-  pub made-built : (D : Automaton) → determinize lo hi A ≡ given D → Built D
+  pub made-built : (D : Automaton) → determinize lower upper A ≡ given D → Built D
   made-built D p = go outcome
     where
       go : Outcome → Built D
       go (too-many-sets e q) = let z : _≡_ {A = ℕ} 0 1 = cc in absurd (omega arith)
       go (too-many-transitions T e h q) = let z : _≡_ {A = ℕ} 0 1 = cc in absurd (omega arith)
-      go (fits T e h q) = let r : D ≡ built lo hi A T = cc in record { sets = T; whole = e; is = r; few = rw r h }
+      go (fits T e h q) = let r : D ≡ subsetAutomaton lower upper A T = cc in record { sets = T; whole = e; is = r; few = rw r h }
 
-  pub refused-over : determinize lo hi A ≡ refused 21 → table lo hi A ≡ over
+  pub refused-over : determinize lower upper A ≡ refused 21 → table lower upper A ≡ over
   refused-over p = go outcome
     where
-      go : Outcome → table lo hi A ≡ over
+      go : Outcome → table lower upper A ≡ over
       go (too-many-sets e q) = e
       go (too-many-transitions T e h q) = let z : _≡_ {A = ℕ} 21 22 = cc in absurd (omega arith)
       go (fits T e h q) = let z : _≡_ {A = ℕ} 0 1 = cc in absurd (omega arith)
@@ -82,10 +82,10 @@ module _ (lo hi : ℕ) (A : Automaton) where
   -- 22 is given to a finished table with too many transitions
   pub record Many : Type 0 where
     pub sets : List Set
-    pub whole : table lo hi A ≡ found sets
-    pub many : mostTransitions < length (built lo hi A sets .transitions)
+    pub whole : table lower upper A ≡ found sets
+    pub many : mostTransitions < length (subsetAutomaton lower upper A sets .transitions)
 
-  pub refused-many : determinize lo hi A ≡ refused 22 → Many
+  pub refused-many : determinize lower upper A ≡ refused 22 → Many
   refused-many p = go outcome
     where
       go : Outcome → Many

@@ -76,23 +76,23 @@ found-long n b c h e = e ∙ sym (rw (eq-eqb n 4 h))
 pub ruleset foundLaws = (found-not, found-long, needs)
 
 -- a try to visit the spans of a state
-module _ (lo hi : ℕ) (A : Automaton) (S : Set) (T : List Set) (j : ℕ) (before : List ℕ) (k : ℕ) (t u r : List ℕ) where
-  pub try-unfinished : setAt u 0 ≡ setAt t 0 → SetTried lo hi A S T j before k t u r Unfinished
+module _ (lower upper : ℕ) (A : Automaton) (S : Set) (T : List Set) (j : ℕ) (before : List ℕ) (k : ℕ) (t u r : List ℕ) where
+  pub try-unfinished : setAt u 0 ≡ setAt t 0 → SetTried lower upper A S T j before k t u r Unfinished
   unfolding SetTried
   try-unfinished e = e
 
-  pub try-finished : (x : Progress) → SetVisited lo hi A S T j before k u r x → SetTried lo hi A S T j before k t u r (Finished x)
+  pub try-finished : (x : Progress) → SetVisited lower upper A S T j before k u r x → SetTried lower upper A S T j before k t u r (Finished x)
   unfolding SetTried
   try-finished x p = p
 
-  module _ (x : Exploration) (p : SetTried lo hi A S T j before k t u r x) where
-    pub tried-visited : (y : Progress) → x ≡ Finished y → SetVisited lo hi A S T j before k u r y
+  module _ (x : Exploration) (p : SetTried lower upper A S T j before k t u r x) where
+    pub tried-visited : (y : Progress) → x ≡ Finished y → SetVisited lower upper A S T j before k u r y
     unfolding SetTried
-    tried-visited y e = subst (SetTried lo hi A S T j before k t u r) e p
+    tried-visited y e = subst (SetTried lower upper A S T j before k t u r) e p
 
     pub tried-start : x ≡ Unfinished → setAt t 0 ≡ startSet A → setAt u 0 ≡ startSet A
     unfolding SetTried
-    tried-start e f = subst (SetTried lo hi A S T j before k t u r) e p ∙ f
+    tried-start e f = subst (SetTried lower upper A S T j before k t u r) e p ∙ f
 
 -- `is_full`
 pub full-never : (l k : ℕ) → 10240 ≤ l → false ≡ (ltb l 10240 && ltb l k)
@@ -104,20 +104,20 @@ full-short l k h = rw (lt-ltb _ _ h)
 pub ruleset fullLaws = (full-never, full-short, needs)
 
 -- what the first pass came to
-module _ (lo hi : ℕ) (A : Automaton) (t r : List ℕ) where
-  pub attempt-unfinished : setAt t 0 ≡ startSet A → Attempted lo hi A t r Unfinished
+module _ (lower upper : ℕ) (A : Automaton) (t r : List ℕ) where
+  pub attempt-unfinished : setAt t 0 ≡ startSet A → Attempted lower upper A t r Unfinished
   unfolding Attempted
   attempt-unfinished e = e
 
-  pub attempt-over : (before : List ℕ) → Explored lo hi A before t r Over → Attempted lo hi A t r (Finished Over)
+  pub attempt-over : (before : List ℕ) → Explored lower upper A before t r Over → Attempted lower upper A t r (Finished Over)
   unfolding Attempted
   attempt-over before p = record { before = before; explored = p; room = λ n m e. absurd (other n m e) }
     where
       other : (n m : ℕ) → Over ≡ Sets n m → ⊥
       other n m e = let z : _≡_ {A = ℕ} 0 1 = cc in omega arith
 
-  pub attempt-done : (before : List ℕ) (n m : ℕ) → Explored lo hi A before t r (Sets n m) → length r ≡ length before → (b : Bool)
-      → b ≡ (ltb (length r) 10240 && ltb (length r) (5 * m)) → b ≡ false → Attempted lo hi A t r (Finished (Sets n m))
+  pub attempt-done : (before : List ℕ) (n m : ℕ) → Explored lower upper A before t r (Sets n m) → length r ≡ length before → (b : Bool)
+      → b ≡ (ltb (length r) 10240 && ltb (length r) (5 * m)) → b ≡ false → Attempted lower upper A t r (Finished (Sets n m))
   unfolding Attempted
   attempt-done before n m p l b e f = record { before = before; explored = p; room = λ i j q h. let z : m ≡ j = cc in fits j h z }
     where
@@ -134,14 +134,14 @@ module _ (lo hi : ℕ) (A : Automaton) (t r : List ℕ) where
           bools y = let z : _≡_ {A = ℕ} 0 1 = cc in omega arith
 
   -- with room for all notes of a result
-  pub complete-all : (before : List ℕ) (x : Progress) → Explored lo hi A before t r x → length before ≡ 10240 → Complete lo hi A t r x
+  pub complete-all : (before : List ℕ) (x : Progress) → Explored lower upper A before t r x → length before ≡ 10240 → Complete lower upper A t r x
   complete-all before x p l = record { before = before; explored = p; room = λ n m e h. omega arith }
 
-  module _ (x : Exploration) (p : Attempted lo hi A t r x) where
-    pub attempt-finished : (y : Progress) → x ≡ Finished y → Complete lo hi A t r y
+  module _ (x : Exploration) (p : Attempted lower upper A t r x) where
+    pub attempt-finished : (y : Progress) → x ≡ Finished y → Complete lower upper A t r y
     unfolding Attempted
-    attempt-finished y e = subst (Attempted lo hi A t r) e p
+    attempt-finished y e = subst (Attempted lower upper A t r) e p
 
     pub attempt-start : x ≡ Unfinished → setAt t 0 ≡ startSet A
     unfolding Attempted
-    attempt-start e = subst (Attempted lo hi A t r) e p
+    attempt-start e = subst (Attempted lower upper A t r) e p

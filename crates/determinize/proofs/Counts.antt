@@ -20,56 +20,56 @@ use Rattle.search.specs.Search.{found}
 use Rattle.lists.proofs.Members.{without, without-in, distinct-length}
 use Rattle.words.proofs.Outgoing.{outgoing-nil}
 use Rattle.determinize.specs.Partition.{partition}
-use Rattle.determinize.specs.Determinize.{table, states, transitionOf, transitionsOf, transitionsFrom, built}
+use Rattle.determinize.specs.Determinize.{table, setsAndSink, transitionOf, transitionsOf, transitionsFrom, subsetAutomaton}
 use Rattle.determinize.specs.Reached.{AllReached, degrees, MoreTransitions}
 use Rattle.determinize.proofs.Parts.{part-hole-count}
 use Rattle.determinize.proofs.Finished.{table-all}
 use Rattle.determinize.proofs.Sink.{cut-nothing}
 
-symbols : (lo hi : ℕ) → (hi < lo) ⊎ (lo ≤ hi)
-symbols lo hi = ⊎-elim (λ t. inl (ltb-true hi lo t)) (λ t. inr (ltb-false hi lo t)) (test (ltb hi lo))
+symbols : (lower upper : ℕ) → (upper < lower) ⊎ (lower ≤ upper)
+symbols lower upper = ⊎-elim (λ t. inl (ltb-true upper lower t)) (λ t. inr (ltb-false upper lower t)) (test (ltb upper lower))
 
-module _ (lo hi : ℕ) (A : Automaton) where
+module _ (lower upper : ℕ) (A : Automaton) where
   -- the parts and the holes of a set
   abbrev degree : Set → ℕ
-  degree S = length (partition (A .size) lo hi (outgoing A S)) + length (missing lo hi (outgoing A S))
+  degree S = length (partition (A .size) lower upper (outgoing A S)) + length (missing lower upper (outgoing A S))
 
-  pub count-from : (T : List Set) (j : ℕ) (Ss : List Set) → length (transitionsFrom lo hi A T j Ss) ≡ degrees lo hi A Ss
+  pub count-from : (T : List Set) (j : ℕ) (Ss : List Set) → length (transitionsFrom lower upper A T j Ss) ≡ degrees lower upper A Ss
   unfolding transitionsFrom transitionsOf degrees
   count-from T j [] = refl
   count-from T j (S ∷ Ss) =
-      let cs = cutAll lo hi (outgoing A S) in
+      let cs = cutAll lower upper (outgoing A S) in
       omega (
         arith,
-        length-append (transitionsOf lo hi A T j S) (transitionsFrom lo hi A T (suc j) Ss),
+        length-append (transitionsOf lower upper A T j S) (transitionsFrom lower upper A T (suc j) Ss),
         length-map cs (transitionOf A T j S),
-        part-hole-count (A .size) lo hi (outgoing A S),
+        part-hole-count (A .size) lower upper (outgoing A S),
         count-from T (suc j) Ss,
       )
 
-  degrees-append : (T U : List Set) → degrees lo hi A (T ++ U) ≡ degrees lo hi A T + degrees lo hi A U
+  degrees-append : (T U : List Set) → degrees lower upper A (T ++ U) ≡ degrees lower upper A T + degrees lower upper A U
   unfolding degrees
   degrees-append [] U = omega arith
   degrees-append (S ∷ T) U = let h = degrees-append T U in omega arith
 
-  degrees-sink : lo ≤ hi → degrees lo hi A ([] ∷ []) ≡ 1
+  degrees-sink : lower ≤ upper → degrees lower upper A ([] ∷ []) ≡ 1
   unfolding degrees
   degrees-sink h =
-      omega (arith, part-hole-count (A .size) lo hi (outgoing A []), ap length (ap (cutAll lo hi) (outgoing-nil A) ∙ cut-nothing lo hi h))
+      omega (arith, part-hole-count (A .size) lower upper (outgoing A []), ap length (ap (cutAll lower upper) (outgoing-nil A) ∙ cut-nothing lower upper h))
 
   -- where there is no symbol there is no transition
-  degrees-none : hi < lo → (T : List Set) → degrees lo hi A T ≡ 0
+  degrees-none : upper < lower → (T : List Set) → degrees lower upper A T ≡ 0
   unfolding degrees
   degrees-none h [] = refl
-  degrees-none h (S ∷ T) = omega (arith, degrees-none h T, part-hole-count (A .size) lo hi (outgoing A S), ap length (cut-end hi (outgoing A S) lo h))
+  degrees-none h (S ∷ T) = omega (arith, degrees-none h T, part-hole-count (A .size) lower upper (outgoing A S), ap length (cut-end upper (outgoing A S) lower h))
 
-  degrees-without : {S : Set} {T : List Set} (m : S ∈ T) → degrees lo hi A T ≡ degree S + degrees lo hi A (without m)
+  degrees-without : {S : Set} {T : List Set} (m : S ∈ T) → degrees lower upper A T ≡ degree S + degrees lower upper A (without m)
   unfolding degrees without
-  degrees-without {T = R ∷ T} (List·Memᴰ·head e) = ap (λ R. degree R + degrees lo hi A T) (sym e)
+  degrees-without {T = R ∷ T} (List·Memᴰ·head e) = ap (λ R. degree R + degrees lower upper A T) (sym e)
   degrees-without (List·Memᴰ·tail m) = let h = degrees-without m in omega arith
 
   -- distinct sets that are all in a list have no more transitions than the sets of the list
-  degrees-le : (U T : List Set) → Distinct U → ((S : Set) → S ∈ U → S ∈ T) → degrees lo hi A U ≤ degrees lo hi A T
+  degrees-le : (U T : List Set) → Distinct U → ((S : Set) → S ∈ U → S ∈ T) → degrees lower upper A U ≤ degrees lower upper A T
   unfolding degrees
   degrees-le [] T d h = omega arith
   degrees-le (S ∷ U) T (Distinct.more f d) h =
@@ -78,35 +78,35 @@ module _ (lo hi : ℕ) (A : Automaton) where
       let p = degrees-le U (without m) d (λ R k. without-in m R (h R (List·Memᴰ·tail k)) (λ q. f (Memᴰ·cast (sym q) k))) in
       omega arith
 
-module _ (lo hi : ℕ) (A : Automaton) (ok : InBounds A) (T : List Set) (e : table lo hi A ≡ found T) where
-  all : AllReached lo hi A T
-  all = table-all lo hi A ok T e
+module _ (lower upper : ℕ) (A : Automaton) (ok : InBounds A) (T : List Set) (e : table lower upper A ≡ found T) where
+  all : AllReached lower upper A T
+  all = table-all lower upper A ok T e
 
-  built-count : length (built lo hi A T .transitions) ≡ degrees lo hi A T + degrees lo hi A ([] ∷ [])
-  unfolding built states
-  built-count = count-from lo hi A T 0 (T ++ [] ∷ []) ∙ degrees-append lo hi A T ([] ∷ [])
+  built-count : length (subsetAutomaton lower upper A T .transitions) ≡ degrees lower upper A T + degrees lower upper A ([] ∷ [])
+  unfolding subsetAutomaton setsAndSink
+  built-count = count-from lower upper A T 0 (T ++ [] ∷ []) ∙ degrees-append lower upper A T ([] ∷ [])
 
   -- whatever the order in which the sets are listed
-  pub listed-states : (U : List Set) → AllReached lo hi A U → built lo hi A T .size ≡ length U + 1
-  unfolding built
+  pub listed-states : (U : List Set) → AllReached lower upper A U → subsetAutomaton lower upper A T .size ≡ length U + 1
+  unfolding subsetAutomaton
   listed-states U u =
       let a = distinct-length U T (u .good .distinct) (λ S m. all .whole S (u .good .reached S m) (u .good .nonempty S m)) in
       let b = distinct-length T U (all .good .distinct) (λ S m. u .whole S (all .good .reached S m) (all .good .nonempty S m)) in
       omega arith
 
-  pub listed-transitions : lo ≤ hi → (U : List Set) → AllReached lo hi A U → length (built lo hi A T .transitions) ≡ degrees lo hi A U + 1
+  pub listed-transitions : lower ≤ upper → (U : List Set) → AllReached lower upper A U → length (subsetAutomaton lower upper A T .transitions) ≡ degrees lower upper A U + 1
   listed-transitions h U u =
-      let a = degrees-le lo hi A U T (u .good .distinct) (λ S m. all .whole S (u .good .reached S m) (u .good .nonempty S m)) in
-      let b = degrees-le lo hi A T U (all .good .distinct) (λ S m. u .whole S (all .good .reached S m) (all .good .nonempty S m)) in
-      omega (arith, built-count, degrees-sink lo hi A h)
+      let a = degrees-le lower upper A U T (u .good .distinct) (λ S m. all .whole S (u .good .reached S m) (u .good .nonempty S m)) in
+      let b = degrees-le lower upper A T U (all .good .distinct) (λ S m. u .whole S (all .good .reached S m) (all .good .nonempty S m)) in
+      omega (arith, built-count, degrees-sink lower upper A h)
 
-  pub many-exact : (mostTransitions < length (built lo hi A T .transitions)) ↔ MoreTransitions mostTransitions lo hi A
+  pub many-exact : (mostTransitions < length (subsetAutomaton lower upper A T .transitions)) ↔ MoreTransitions mostTransitions lower upper A
   many-exact = (
     λ h.
-        ⊎-elim (λ (l : hi < lo). absurd (omega (arith, built-count, degrees-none lo hi A l T, degrees-none lo hi A l ([] ∷ []))))
-        (λ (l : lo ≤ hi). (T, all, omega (arith, listed-transitions l T all)))
-        (symbols lo hi),
+        ⊎-elim (λ (l : upper < lower). absurd (omega (arith, built-count, degrees-none lower upper A l T, degrees-none lower upper A l ([] ∷ []))))
+        (λ (l : lower ≤ upper). (T, all, omega (arith, listed-transitions l T all)))
+        (symbols lower upper),
     λ m.
-        ⊎-elim (λ (l : hi < lo). absurd (omega (arith, m .2, degrees-none lo hi A l (m .0)))) (λ (l : lo ≤ hi). omega (arith, m .2, listed-transitions l (m .0) (m .1)))
-        (symbols lo hi),
+        ⊎-elim (λ (l : upper < lower). absurd (omega (arith, m .2, degrees-none lower upper A l (m .0)))) (λ (l : lower ≤ upper). omega (arith, m .2, listed-transitions l (m .0) (m .1)))
+        (symbols lower upper),
   )

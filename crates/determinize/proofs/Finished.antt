@@ -9,7 +9,7 @@ use borrow.Author.Tests.{ltb-true, ltb-false, not-true}
 use lib.Dec.{ltb}
 use lib.ListN.{getD, length, List·getD-eq-default}
 use Rattle.lists.specs.Lists.{_∈_}
-use Rattle.lists.proofs.Lists.{keep-in, keep-out}
+use Rattle.lists.proofs.Lists.{filter-in, filter-out}
 use Rattle.lists.proofs.Members.{at-in, at-default}
 use Rattle.lists.proofs.Tests.{test}
 use Rattle.automata.specs.Automaton.{Automaton, stay, Word, none, more, InBounds}
@@ -26,34 +26,34 @@ use Rattle.words.proofs.Closures.{closure-complete}
 use Rattle.words.proofs.Outgoing.{step-nil}
 use Rattle.words.proofs.Reading.{simulate-nothing}
 use Rattle.determinize.specs.Determinize.{targets, someOf, subsets, table}
-use Rattle.determinize.specs.Reached.{Reached, Good, MoreThan, AllReached}
+use Rattle.determinize.specs.Reached.{SetReached, ReachedSets, MoreThan, AllReached}
 use Rattle.determinize.proofs.Targets.{targets-reached, targets-in}
 
-module _ (lo hi : ℕ) (A : Automaton) where
+module _ (lower upper : ℕ) (A : Automaton) where
   -- the graph of the nonempty sets
   abbrev G : Graph Set
-  G = subsets lo hi A
+  G = subsets lower upper A
 
   decides : Decides (G .same)
   unfolding subsets
   decides = same-decides
 
   -- a symbol leads to nothing or to a set to which the graph leads
-  next-in : (S : Set) (a : ℕ) → lo ≤ a → a ≤ hi → (step A S a ≡ []) ⊎ (step A S a ∈ G .next S)
+  next-in : (S : Set) (a : ℕ) → lower ≤ a → a ≤ upper → (step A S a ≡ []) ⊎ (step A S a ∈ G .next S)
   unfolding subsets someOf
   next-in S a l u =
       ⊎-elim (λ (t : isEmpty (step A S a) ≡ true). inl (empty-yes _ t))
       (λ (t : isEmpty (step A S a) ≡ false).
-      ⊎-elim inl (λ m. inr (keep-in (λ R. not (isEmpty R)) m (ap not t))) (targets-in lo hi A S a l u))
+      ⊎-elim inl (λ m. inr (filter-in (λ R. not (isEmpty R)) m (ap not t))) (targets-in lower upper A S a l u))
       (test (isEmpty (step A S a)))
 
   -- the graph reaches just the nonempty sets that words reach
-  by-words : {S : Set} → graph.Reached G S → Reached lo hi A S
+  by-words : {S : Set} → graph.Reached G S → SetReached lower upper A S
   unfolding subsets someOf simulate
   by-words graph.start = ([], none, refl)
-  by-words (graph.step {x = S} {y = R} r m) = targets-reached lo hi A S (by-words r) R (keep-out (λ R. not (isEmpty R)) R (targets lo hi A S) m .0)
+  by-words (graph.step {x = S} {y = R} r m) = targets-reached lower upper A S (by-words r) R (filter-out (λ R. not (isEmpty R)) R (targets lower upper A S) m .0)
 
-  by-graph : (S : Set) → graph.Reached G S → (w : List ℕ) → Word lo hi w → (simulate A S w ≡ []) ⊎ graph.Reached G (simulate A S w)
+  by-graph : (S : Set) → graph.Reached G S → (w : List ℕ) → Word lower upper w → (simulate A S w ≡ []) ⊎ graph.Reached G (simulate A S w)
   unfolding simulate
   by-graph S r [] none = inr r
   by-graph S r (a ∷ w) (more l u v) =
@@ -68,21 +68,21 @@ module _ (lo hi : ℕ) (A : Automaton) where
     reached-some : {S : Set} → graph.Reached G S → S ≡ [] → ⊥
     unfolding subsets someOf
     reached-some graph.start = start-some
-    reached-some (graph.step {x = S} {y = R} r m) = empty-no R (not-true (isEmpty R) (keep-out (λ R. not (isEmpty R)) R (targets lo hi A S) m .1))
+    reached-some (graph.step {x = S} {y = R} r m) = empty-no R (not-true (isEmpty R) (filter-out (λ R. not (isEmpty R)) R (targets lower upper A S) m .1))
 
-    good-words : (T : List Set) → graph.Good G T → Good lo hi A T
+    good-words : (T : List Set) → graph.ReachedElements G T → ReachedSets lower upper A T
     good-words T g = record { distinct = g .distinct; nonempty = λ S m. reached-some (g .reached S m); reached = λ S m. by-words (g .reached S m) }
 
-    words-reached : (S : Set) → Reached lo hi A S → (S ≡ [] → ⊥) → graph.Reached G S
+    words-reached : (S : Set) → SetReached lower upper A S → (S ≡ [] → ⊥) → graph.Reached G S
     unfolding subsets
     words-reached S r n =
         ⊎-elim (λ (z : simulate A (startSet A) (r .0) ≡ []). absurd (n (sym (r .2) ∙ z))) (λ k. subst (graph.Reached G) (r .2) k)
         (by-graph (startSet A) graph.start (r .0) (r .1))
 
-    words-good : (T : List Set) → Good lo hi A T → graph.Good G T
+    words-good : (T : List Set) → ReachedSets lower upper A T → graph.ReachedElements G T
     words-good T g = record { distinct = g .distinct; reached = λ S m. words-reached S (g .reached S m) (g .nonempty S m) }
 
-    module _ (T : List Set) (e : table lo hi A ≡ found T) where
+    module _ (T : List Set) (e : table lower upper A ≡ found T) where
       pub table-few : length T < mostStates
       unfolding table
       table-few = omega (arith, Queue.table-few G decides (mostStates - 1) T e)
@@ -96,7 +96,7 @@ module _ (lo hi : ℕ) (A : Automaton) where
       table-start = at-default T 0 [] (startSet A) table-some ∙ Queue.table-start G decides (mostStates - 1) T e
 
       -- every symbol leads from an entry to an entry or to nothing
-      pub table-closed : (j a : ℕ) → lo ≤ a → a ≤ hi → In T (step A (getD T j []) a)
+      pub table-closed : (j a : ℕ) → lower ≤ a → a ≤ upper → In T (step A (getD T j []) a)
       unfolding table
       table-closed j a l u =
           ⊎-elim
@@ -109,13 +109,13 @@ module _ (lo hi : ℕ) (A : Automaton) where
           inl (rw q (step-nil A a)))
           (test (ltb j (length T)))
 
-      pub table-all : AllReached lo hi A T
+      pub table-all : AllReached lower upper A T
       unfolding table
       table-all =
           let r = Queue.table-all G decides (mostStates - 1) T e in
           record { good = good-words T (r .good); whole = λ S w n. r .whole S (words-reached S w n) }
 
-    pub over-exact : (table lo hi A ≡ over) ↔ MoreThan 255 lo hi A
+    pub over-exact : (table lower upper A ≡ over) ↔ MoreThan 255 lower upper A
     unfolding table
     over-exact =
         let x = Queue.over-exact G decides (mostStates - 1) in

@@ -32,26 +32,26 @@ use Rattle.sheets.proofs.Meaning.{read-well}
 use Rattle.determinize.specs.declared.Determinized.{Determinized}
 use Rattle.determinize.specs.declared.Determinized.the-variants.{Sheet, Refused}
 use Rattle.determinize.specs.Determinize.{determinize}
-use Rattle.determinize.specs.Sheets.{labelled, determinizeSheet}
+use Rattle.determinize.specs.Sheets.{labelled, determinizeAnswer}
 use Rattle.determinize.specs.inner.Sheets.{SheetSize, sheetOutput, determinizedOf}
 use Rattle.determinize.proofs.Theorems.{determinize-fits}
 
 module _ (s o l : List ℕ) (b : Bool) (f : b ≡ (ltb (length o) 10500 || ltb (length l) 16642)) where
-  pub made-short : b ≡ true → outputOf (the-variants.Refused (State OutputLength)) o l ≡ outputs o l (determinizeSheet s o l)
-  unfolding determinizeSheet outputs
+  pub made-short : b ≡ true → outputOf (the-variants.Refused (State OutputLength)) o l ≡ outputs o l (determinizeAnswer s o l)
+  unfolding determinizeAnswer outputs
   made-short h = sym (ap (outputs o l) (room-lacking o l _ b f h))
 
   module _ (h : b ≡ false) (c : Checked) (e : checkedNumber c ≡ fault s) where
-    pub made-faulty : (i : InputRefusal) → c ≡ checked.Refused i → outputOf (the-variants.Refused (Input i)) o l ≡ outputs o l (determinizeSheet s o l)
-    unfolding determinizeSheet outputs
+    pub made-faulty : (i : InputRefusal) → c ≡ checked.Refused i → outputOf (the-variants.Refused (Input i)) o l ≡ outputs o l (determinizeAnswer s o l)
+    unfolding determinizeAnswer outputs
     made-faulty i q = sym (ap (outputs o l) (room-enough o l _ b f h ∙ sheet-refused s _ c e i q))
 
     module _ (g : c ≡ checked.Accepted) (d : Determinized) (o′ : List ℕ) (k : determinizedOf d o′ ≡ sheetOutput o (determinize 0 4294967295 (read s))) where
-      answer : determinizeSheet s o l ≡ labelled (determinize 0 4294967295 (read s))
-      unfolding determinizeSheet
+      answer : determinizeAnswer s o l ≡ labelled (determinize 0 4294967295 (read s))
+      unfolding determinizeAnswer
       answer = room-enough o l _ b f h ∙ sheet-passed s _ c e g
 
-      pub made-refused : (q : StateRefusal) → d ≡ Refused q → outputOf (the-variants.Refused (State q)) o′ l ≡ outputs o l (determinizeSheet s o l)
+      pub made-refused : (q : StateRefusal) → d ≡ Refused q → outputOf (the-variants.Refused (State q)) o′ l ≡ outputs o l (determinizeAnswer s o l)
       unfolding sheetOutput labelled outputs
       made-refused q z = go (determinize 0 4294967295 (read s)) (ap (λ x. determinizedOf x o′) (sym z) ∙ k) ∙ ap (outputs o l) (sym answer)
         where
@@ -92,7 +92,7 @@ module _ (s o l : List ℕ) (b : Bool) (f : b ≡ (ltb (length o) 10500 || ltb (
             let t = determinize-fits 0 4294967295 (read s) (read-well s (accepted s (sym e ∙ ap checkedNumber g)) .states) (r .result) (r .is) in
             omega (arith, r .states, t .few-states)
 
-        pub made-done : (l′ : List ℕ) (m : ℕ) → Written l 0 (writeLabels (numbered n)) l′ m → outputOf (the-variants.Lengths w m) o′ l′ ≡ outputs o l (determinizeSheet s o l)
+        pub made-done : (l′ : List ℕ) (m : ℕ) → Written l 0 (writeLabels (numbered n)) l′ m → outputOf (the-variants.Lengths w m) o′ l′ ≡ outputs o l (determinizeAnswer s o l)
         unfolding labelled
         made-done l′ m v =
             let r = the-given in

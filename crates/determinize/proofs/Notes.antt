@@ -25,7 +25,7 @@ use Rattle.ranges.proofs.Cuts.{cut-step, cut-end}
 use Rattle.search.specs.Search.{found}
 use Rattle.ranges.proofs.Spans.{cut-stretch}
 use Rattle.words.proofs.Outgoing.{outgoing-nil, step-nil}
-use Rattle.determinize.specs.Determinize.{table, states, transitionOf, transitionsOf, transitionsFrom}
+use Rattle.determinize.specs.Determinize.{table, setsAndSink, transitionOf, transitionsOf, transitionsFrom}
 use Rattle.determinize.specs.inner.Notes.{number, noteOf, notesOf, notesFrom, sinkNotes, settle}
 use Rattle.determinize.proofs.Finished.{table-few, table-closed}
 use Rattle.determinize.proofs.Runs.{sink-index}
@@ -45,86 +45,86 @@ number-later [] T more m = refl
 number-later (q ∷ R) T more (inl e) = let z : _≡_ {A = ℕ} 0 1 = cc in absurd (omega arith)
 number-later (q ∷ R) T more (inr m) = index-later (q ∷ R) T more m
 
-module _ (hi : ℕ) (A : Automaton) (T : List Set) (j : ℕ) (S : Set) (a : ℕ) where
-  pub notes-step : a < hi + 1
-      → notesOf a hi A T j S
-      ≡ record { from = j; kind = 1; first = a; last = nextCut a (hi + 1) (outgoing A S) - 1; to = number (step A S a) T }
-      ∷ notesOf (nextCut a (hi + 1) (outgoing A S)) hi A T j S
+module _ (upper : ℕ) (A : Automaton) (T : List Set) (j : ℕ) (S : Set) (a : ℕ) where
+  pub notes-step : a < upper + 1
+      → notesOf a upper A T j S
+      ≡ record { from = j; kind = 1; first = a; last = nextCut a (upper + 1) (outgoing A S) - 1; to = number (step A S a) T }
+      ∷ notesOf (nextCut a (upper + 1) (outgoing A S)) upper A T j S
   unfolding notesOf noteOf
-  notes-step h = rw (add-one hi) (ap (map (noteOf A T j S)) (cut-step hi (outgoing A S) a (omega arith)))
+  notes-step h = rw (add-one upper) (ap (map (noteOf A T j S)) (cut-step upper (outgoing A S) a (omega arith)))
 
-  pub notes-end : hi + 1 ≤ a → notesOf a hi A T j S ≡ []
+  pub notes-end : upper + 1 ≤ a → notesOf a upper A T j S ≡ []
   unfolding notesOf
-  notes-end h = ap (map (noteOf A T j S)) (cut-end hi (outgoing A S) a (omega arith))
+  notes-end h = ap (map (noteOf A T j S)) (cut-end upper (outgoing A S) a (omega arith))
 
-module _ (lo hi : ℕ) (A : Automaton) (T : List Set) where
+module _ (lower upper : ℕ) (A : Automaton) (T : List Set) where
   -- the sink's set is empty
-  notes-sink : (j : ℕ) → notesOf lo hi A T j [] ≡ sinkNotes lo hi j
+  notes-sink : (j : ℕ) → notesOf lower upper A T j [] ≡ sinkNotes lower upper j
   unfolding notesOf noteOf sinkNotes number
   notes-sink j =
-      ap (λ es. map (noteOf A T j []) (cutAll lo hi es)) (outgoing-nil A)
+      ap (λ es. map (noteOf A T j []) (cutAll lower upper es)) (outgoing-nil A)
       ∙ ⊎-elim
-      (λ (t : leb lo hi ≡ true).
+      (λ (t : leb lower upper ≡ true).
       rw t
-      (ap (map (noteOf A T j [])) (cut-nothing lo hi (leb-true lo hi t))
-      ∙ ap (λ R. record { from = j; kind = 1; first = lo; last = hi; to = number R T } ∷ []) (step-nil A lo)))
-      (λ (t : leb lo hi ≡ false). rw t (ap (map (noteOf A T j [])) (cut-end hi [] lo (leb-false lo hi t))))
-      (test (leb lo hi))
+      (ap (map (noteOf A T j [])) (cut-nothing lower upper (leb-true lower upper t))
+      ∙ ap (λ R. record { from = j; kind = 1; first = lower; last = upper; to = number R T } ∷ []) (step-nil A lower)))
+      (λ (t : leb lower upper ≡ false). rw t (ap (map (noteOf A T j [])) (cut-end upper [] lower (leb-false lower upper t))))
+      (test (leb lower upper))
 
-  notes-append : (j : ℕ) (Ss Us : List Set) → notesFrom lo hi A T j (Ss ++ Us) ≡ notesFrom lo hi A T j Ss ++ notesFrom lo hi A T (j + length Ss) Us
+  notes-append : (j : ℕ) (Ss Us : List Set) → notesFrom lower upper A T j (Ss ++ Us) ≡ notesFrom lower upper A T j Ss ++ notesFrom lower upper A T (j + length Ss) Us
   unfolding notesFrom
-  notes-append j [] Us = ap (λ i. notesFrom lo hi A T i Us) (omega arith)
+  notes-append j [] Us = ap (λ i. notesFrom lower upper A T i Us) (omega arith)
   notes-append j (S ∷ Ss) Us =
-      ap (λ l. notesOf lo hi A T j S ++ l) (notes-append (suc j) Ss Us ∙ ap (λ i. notesFrom lo hi A T (suc j) Ss ++ notesFrom lo hi A T i Us) (omega arith))
-      ∙ sym (append-assoc (notesOf lo hi A T j S) _ _)
+      ap (λ l. notesOf lower upper A T j S ++ l) (notes-append (suc j) Ss Us ∙ ap (λ i. notesFrom lower upper A T (suc j) Ss ++ notesFrom lower upper A T i Us) (omega arith))
+      ∙ sym (append-assoc (notesOf lower upper A T j S) _ _)
 
-  pub notes-states : notesFrom lo hi A T 0 (states T) ≡ notesFrom lo hi A T 0 T ++ sinkNotes lo hi (length T)
-  unfolding states notesFrom
+  pub notes-states : notesFrom lower upper A T 0 (setsAndSink T) ≡ notesFrom lower upper A T 0 T ++ sinkNotes lower upper (length T)
+  unfolding setsAndSink notesFrom
   notes-states =
       notes-append 0 T ([] ∷ [])
-      ∙ ap (λ l. notesFrom lo hi A T 0 T ++ l) (append-nil _ ∙ ap (λ i. notesOf lo hi A T i []) (omega arith) ∙ notes-sink (length T))
+      ∙ ap (λ l. notesFrom lower upper A T 0 T ++ l) (append-nil _ ∙ ap (λ i. notesOf lower upper A T i []) (omega arith) ∙ notes-sink (length T))
 
   -- the sets of the table from i on
-  pub notes-at : (i : ℕ) → i < length T → notesFrom lo hi A T i (drop i T) ≡ notesOf lo hi A T i (getD T i []) ++ notesFrom lo hi A T (i + 1) (drop (i + 1) T)
+  pub notes-at : (i : ℕ) → i < length T → notesFrom lower upper A T i (drop i T) ≡ notesOf lower upper A T i (getD T i []) ++ notesFrom lower upper A T (i + 1) (drop (i + 1) T)
   unfolding notesFrom
-  notes-at i h = rw (add-one i) (ap (notesFrom lo hi A T i) (drop-cons T i [] h))
+  notes-at i h = rw (add-one i) (ap (notesFrom lower upper A T i) (drop-cons T i [] h))
 
-  pub notes-past : (i : ℕ) → length T ≤ i → notesFrom lo hi A T i (drop i T) ≡ []
+  pub notes-past : (i : ℕ) → length T ≤ i → notesFrom lower upper A T i (drop i T) ≡ []
   unfolding notesFrom
-  notes-past i h = ap (notesFrom lo hi A T i) (drop-of-length-le T h)
+  notes-past i h = ap (notesFrom lower upper A T i) (drop-of-length-le T h)
 
 -- in a finished table the notes stand for the transitions
-module _ (lo hi : ℕ) (A : Automaton) (ok : InBounds A) (T : List Set) (e : table lo hi A ≡ found T) where
+module _ (lower upper : ℕ) (A : Automaton) (ok : InBounds A) (T : List Set) (e : table lower upper A ≡ found T) where
   settled : (R : Set) → In T R → cond (eqb (number R T) mostStates) (length T) (number R T) ≡ index same R T
   unfolding number
-  settled [] m = sym (sink-index lo hi A ok T e)
+  settled [] m = sym (sink-index lower upper A ok T e)
   settled (q ∷ R) (inl z) = let y : _≡_ {A = ℕ} 0 1 = cc in absurd (omega arith)
   settled (q ∷ R) (inr m) =
       let l = index-lt same same-decides (q ∷ R) m in
-      let k = table-few lo hi A ok T e in
+      let k = table-few lower upper A ok T e in
       rw (ne-eqb (index same (q ∷ R) T) mostStates (λ z. omega arith))
 
-  settle-of : (j : ℕ) (S : Set) → ((a : ℕ) → lo ≤ a → a ≤ hi → In T (step A S a)) → map (settle (length T)) (notesOf lo hi A T j S) ≡ transitionsOf lo hi A T j S
+  settle-of : (j : ℕ) (S : Set) → ((a : ℕ) → lower ≤ a → a ≤ upper → In T (step A S a)) → map (settle (length T)) (notesOf lower upper A T j S) ≡ transitionsOf lower upper A T j S
   unfolding notesOf noteOf transitionsOf transitionOf settle
   settle-of j S c =
-      map-ext (settle (length T)) (noteOf A T j S) (transitionOf A T j S) (cutAll lo hi (outgoing A S))
+      map-ext (settle (length T)) (noteOf A T j S) (transitionOf A T j S) (cutAll lower upper (outgoing A S))
       (λ s m.
-      let v = cut-stretch lo hi (outgoing A S) s m in
+      let v = cut-stretch lower upper (outgoing A S) s m in
       ap (λ t. record { from = j; kind = 1; first = s .low; last = s .high; to = t })
       (settled (step A S (s .low)) (c (s .low) (v .above) (omega (arith, v .full, v .below)))))
 
-  settle-from : (j : ℕ) (Ss : List Set) → ((S : Set) → S ∈ Ss → (a : ℕ) → lo ≤ a → a ≤ hi → In T (step A S a))
-      → map (settle (length T)) (notesFrom lo hi A T j Ss) ≡ transitionsFrom lo hi A T j Ss
+  settle-from : (j : ℕ) (Ss : List Set) → ((S : Set) → S ∈ Ss → (a : ℕ) → lower ≤ a → a ≤ upper → In T (step A S a))
+      → map (settle (length T)) (notesFrom lower upper A T j Ss) ≡ transitionsFrom lower upper A T j Ss
   unfolding notesFrom transitionsFrom
   settle-from j [] c = refl
   settle-from j (S ∷ Ss) c =
-      map-append (settle (length T)) (notesOf lo hi A T j S) (notesFrom lo hi A T (suc j) Ss)
+      map-append (settle (length T)) (notesOf lower upper A T j S) (notesFrom lower upper A T (suc j) Ss)
       ∙ ap₂ _++_ (settle-of j S (c S (List·Memᴰ·head refl))) (settle-from (suc j) Ss (λ R m. c R (List·Memᴰ·tail m)))
 
-  pub settle-states : map (settle (length T)) (notesFrom lo hi A T 0 (states T)) ≡ transitionsFrom lo hi A T 0 (states T)
-  unfolding states
+  pub settle-states : map (settle (length T)) (notesFrom lower upper A T 0 (setsAndSink T)) ≡ transitionsFrom lower upper A T 0 (setsAndSink T)
+  unfolding setsAndSink
   settle-states =
       settle-from 0 (T ++ [] ∷ [])
       (λ S m a l u.
       let i : In T S = ⊎-elim (λ k. inr k) (λ k. inl (List·Memᴰ·eq-of-singleton k)) (List·Memᴰ·append-cases T m) in
-      rw (at-index T S i) at (table-closed lo hi A ok T e (index same S T) a l u))
+      rw (at-index T S i) at (table-closed lower upper A ok T e (index same S T) a l u))

@@ -43,20 +43,20 @@ note-put l m k a b c d e r w = record { stored = w .stored; behind = refl }
 pub ruleset noteLaws = (note-past, note-put, needs)
 
 -- the sink's loop
-pub sink-noted : (l m : List ℕ) (k lo hi j : ℕ) → lo ≤ hi → Written l (5 * k) (j ∷ 1 ∷ lo ∷ hi ∷ 256 ∷ []) m (5 * k + 5)
-    → Written l (5 * k) (writeRecords (sinkNotes lo hi j)) m (5 * (k + 1))
+pub sink-noted : (l m : List ℕ) (k lower upper j : ℕ) → lower ≤ upper → Written l (5 * k) (j ∷ 1 ∷ lower ∷ upper ∷ 256 ∷ []) m (5 * k + 5)
+    → Written l (5 * k) (writeRecords (sinkNotes lower upper j)) m (5 * (k + 1))
 unfolding sinkNotes writeRecords
-sink-noted l m k lo hi j h w = rw (le-leb lo hi h) (record { stored = w .stored; behind = omega arith })
+sink-noted l m k lower upper j h w = rw (le-leb lower upper h) (record { stored = w .stored; behind = omega arith })
 
-pub sink-none : (l : List ℕ) (k lo hi j : ℕ) → hi < lo → Written l (5 * k) (writeRecords (sinkNotes lo hi j)) l (5 * k)
+pub sink-none : (l : List ℕ) (k lower upper j : ℕ) → upper < lower → Written l (5 * k) (writeRecords (sinkNotes lower upper j)) l (5 * k)
 unfolding sinkNotes writeRecords
-sink-none l k lo hi j h = rw (lt-leb lo hi h) (written-none l (5 * k))
+sink-none l k lower upper j h = rw (lt-leb lower upper h) (written-none l (5 * k))
 
-pub sink-count : (l m : List ℕ) (k lo hi j r : ℕ) → Written l (5 * k) (writeRecords (sinkNotes lo hi j)) m (5 * r) → r ≤ k + 1
+pub sink-count : (l m : List ℕ) (k lower upper j r : ℕ) → Written l (5 * k) (writeRecords (sinkNotes lower upper j)) m (5 * r) → r ≤ k + 1
 unfolding sinkNotes writeRecords
-sink-count l m k lo hi j r w = go (leb lo hi) (w .behind)
+sink-count l m k lower upper j r w = go (leb lower upper) (w .behind)
   where
-    go : (b : Bool) → 5 * r ≡ 5 * k + length (writeRecords (cond b (record { from = j; kind = 1; first = lo; last = hi; to = mostStates } ∷ []) [])) → r ≤ k + 1
+    go : (b : Bool) → 5 * r ≡ 5 * k + length (writeRecords (cond b (record { from = j; kind = 1; first = lower; last = upper; to = mostStates } ∷ []) [])) → r ≤ k + 1
     go true e = omega arith
     go false e = omega arith
 
@@ -108,8 +108,8 @@ module _ (a top c : ℕ) (es : List Transition) (e : c ≡ nextCut a top es) whe
   pub cut-less : a < top → top - c < top - a
   cut-less h = omega (arith, next-gt a top es h)
 
-  pub cut-counts : (k lo count : ℕ) → a < top → k + lo ≤ count + a → k + 1 + lo ≤ count + c
-  cut-counts k lo count h l = omega (arith, next-gt a top es h)
+  pub cut-counts : (k lower count : ℕ) → a < top → k + lower ≤ count + a → k + 1 + lower ≤ count + c
+  cut-counts k lower count h l = omega (arith, next-gt a top es h)
 
   pub cut-most : top ≤ 4294967296 → c ≤ 4294967296
   cut-most f = omega (arith, next-le a top es)

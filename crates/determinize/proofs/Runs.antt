@@ -10,7 +10,7 @@ use borrow.Author.Tests.{eqb-true, leb-true, ltb-true, ltb-false}
 use lib.Dec.{eqb, leb, ltb}
 use lib.ListN.{getD, length, List·getD-eq-default}
 use Rattle.lists.specs.Lists.{_∈_}
-use Rattle.lists.proofs.Lists.{keep-out}
+use Rattle.lists.proofs.Lists.{filter-out}
 use Rattle.lists.proofs.Tests.{test, and-parts}
 use Rattle.automata.specs.Automaton.{Transition, Automaton, Run, stay, skip, read, Accepts, Word, none, more, InBounds, holds, carries}
 use Rattle.lists.specs.Index.{index, same}
@@ -24,7 +24,7 @@ use Rattle.words.proofs.Kind.{kindOf-some, kindOf-least}
 use Rattle.search.specs.Search.{found}
 use Rattle.lists.proofs.Members.{at-in}
 use Rattle.ranges.proofs.Spans.{cut-stretch, cut-alike}
-use Rattle.determinize.specs.Determinize.{table, states, transitionOf, built}
+use Rattle.determinize.specs.Determinize.{table, setsAndSink, transitionOf, subsetAutomaton}
 use Rattle.determinize.proofs.Steps.{step-alike}
 use Rattle.determinize.proofs.Finished.{table-start, table-closed, table-all}
 use Rattle.determinize.proofs.Result.{states-at, length-states, origin, accept-built, one-built}
@@ -33,31 +33,31 @@ zero-both : (a b : ℕ) → a ≤ 0 → (0 < b → 0 < a) → a ≡ b
 zero-both a zero h f = omega arith
 zero-both a (suc b) h f = absurd (let g = f (omega arith) in omega arith)
 
-module _ (lo hi : ℕ) (A : Automaton) (ok : InBounds A) (T : List Set) (e : table lo hi A ≡ found T) where
+module _ (lower upper : ℕ) (A : Automaton) (ok : InBounds A) (T : List Set) (e : table lower upper A ≡ found T) where
   abbrev D : Automaton
-  D = built lo hi A T
+  D = subsetAutomaton lower upper A T
 
   -- what a transition of the result says of the sets
   pub record TransitionFacts (d : Transition) : Type 0 where
     pub is-range : d .kind ≡ 1
     pub from-lt : d .from < D .size
     pub to-lt : d .to < D .size
-    pub low : lo ≤ d .first
+    pub low : lower ≤ d .first
     pub full : d .first ≤ d .last
-    pub high : d .last ≤ hi
+    pub high : d .last ≤ upper
     pub to-at : (x : ℕ) → d .first ≤ x → x ≤ d .last → getD T (d .to) [] ≡ step A (getD T (d .from) []) x
 
   pub transition-facts : (d : Transition) → d ∈ D .transitions → TransitionFacts d
-  unfolding built transitionOf
+  unfolding subsetAutomaton transitionOf
   transition-facts d m =
-      let r = origin lo hi A T 0 (states T) d m in
+      let r = origin lower upper A T 0 (setsAndSink T) d m in
       let s = r .span in
       let n : r .place < suc (length T) = rw (length-states T) at (r .near) in
       let f : d .from ≡ r .place = ap (λ x. x .from) (r .is) ∙ omega arith in
       let S = getD T (d .from) [] in
-      let p : getD (states T) (r .place) [] ≡ S = states-at T (r .place) ∙ ap (λ k. getD T k []) (sym f) in
+      let p : getD (setsAndSink T) (r .place) [] ≡ S = states-at T (r .place) ∙ ap (λ k. getD T k []) (sym f) in
       let i = rw p at (r .in) in
-      let v = cut-stretch lo hi (outgoing A S) s i in
+      let v = cut-stretch lower upper (outgoing A S) s i in
       let t : d .to ≡ index same (step A S (s .low)) T = ap (λ x. x .to) (r .is) ∙ ap (λ R. index same (step A R (s .low)) T) p in
       let z = index-le same (step A S (s .low)) T in
       let a : d .first ≡ s .low = ap (λ x. x .first) (r .is) in
@@ -70,12 +70,12 @@ module _ (lo hi : ℕ) (A : Automaton) (ok : InBounds A) (T : List Set) (e : tab
         full = omega (arith, v .full);
         high = omega (arith, v .below);
         to-at = λ x l u.
-            ap (λ k. getD T k []) t ∙ at-index T _ (table-closed lo hi A ok T e (d .from) (s .low) (v .above) (omega (arith, v .full, v .below)))
-            ∙ sym (step-alike A S x (s .low) (cut-alike lo hi (outgoing A S) s i x (omega arith) (omega arith)));
+            ap (λ k. getD T k []) t ∙ at-index T _ (table-closed lower upper A ok T e (d .from) (s .low) (v .above) (omega (arith, v .full, v .below)))
+            ∙ sym (step-alike A S x (s .low) (cut-alike lower upper (outgoing A S) s i x (omega arith) (omega arith)));
       }
 
   pub built-bounds : InBounds D
-  built-bounds = record { starts = unfold built in omega arith; froms = λ d m. transition-facts d m .from-lt; tos = λ d m. transition-facts d m .to-lt }
+  built-bounds = record { starts = unfold subsetAutomaton in omega arith; froms = λ d m. transition-facts d m .from-lt; tos = λ d m. transition-facts d m .to-lt }
 
   run-set : {j k : ℕ} {w : List ℕ} → Run D j w k → getD T k [] ≡ simulate A (getD T j []) w
   unfolding simulate
@@ -84,13 +84,13 @@ module _ (lo hi : ℕ) (A : Automaton) (ok : InBounds A) (T : List Set) (e : tab
   run-set {j} {k} (read {a} {w} d m f c l u r) =
       run-set r ∙ ap (λ S. simulate A S w) (transition-facts d m .to-at a l u ∙ ap (λ i. step A (getD T i []) a) f)
 
-  run-on : {w : List ℕ} → Word lo hi w → (j : ℕ) → j < D .size → (k : ℕ) × Run D j w k
+  run-on : {w : List ℕ} → Word lower upper w → (j : ℕ) → j < D .size → (k : ℕ) × Run D j w k
   unfolding carries holds
   run-on none j h = (j, stay)
   run-on (more {a} l u r) j h =
-      let o = one-built lo hi A T j a h l u in
+      let o = one-built lower upper A T j a h l u in
       let d = o .0 in
-      let m = keep-out (carries j a) d (D .transitions) (rw (o .1) (List·Memᴰ·head refl)) in
+      let m = filter-out (carries j a) d (D .transitions) (rw (o .1) (List·Memᴰ·head refl)) in
       let c = and-parts (eqb (d .from) j) _ (m .1) in
       let b = and-parts (eqb (d .kind) 1) _ (c .1) in
       let i = and-parts (leb (d .first) a) _ (b .1) in
@@ -99,14 +99,14 @@ module _ (lo hi : ℕ) (A : Automaton) (ok : InBounds A) (T : List Set) (e : tab
 
   -- a run from the start ends at the set of its word
   pub run-end : {k : ℕ} {w : List ℕ} → Run D (D .start) w k → getD T k [] ≡ simulate A (startSet A) w
-  unfolding built
-  run-end {w = w} r = run-set r ∙ ap (λ S. simulate A S w) (table-start lo hi A ok T e)
+  unfolding subsetAutomaton
+  run-end {w = w} r = run-set r ∙ ap (λ S. simulate A S w) (table-start lower upper A ok T e)
 
   end-kind : {k : ℕ} {w : List ℕ} → Run D (D .start) w k → getD (D .accept) k 0 ≡ kind A w
   unfolding kind
-  end-kind {k} r = accept-built lo hi A T k ∙ ap (kindOf A) (run-end r)
+  end-kind {k} r = accept-built lower upper A T k ∙ ap (kindOf A) (run-end r)
 
-  pub words-kept : (w : List ℕ) → Word lo hi w → Accepts D w ↔ Accepts A w
+  pub words-kept : (w : List ℕ) → Word lower upper w → Accepts D w ↔ Accepts A w
   words-kept w v = (
     λ a. accepts-kind A ok w .1 (rw (end-kind (a .1)) at (a .2)),
     λ a.
@@ -114,7 +114,7 @@ module _ (lo hi : ℕ) (A : Automaton) (ok : InBounds A) (T : List Set) (e : tab
         (r .0, r .1, rw (end-kind (r .1)) (accepts-kind A ok w .0 a)),
   )
 
-  pub kind-kept : (w : List ℕ) → Word lo hi w → kind D w ≡ kind A w
+  pub kind-kept : (w : List ℕ) → Word lower upper w → kind D w ≡ kind A w
   unfolding kind startSet
   kind-kept w v =
       let S = simulate D (closure D (D .start)) w in
@@ -135,14 +135,14 @@ module _ (lo hi : ℕ) (A : Automaton) (ok : InBounds A) (T : List Set) (e : tab
   -- the empty set is not in the table
   pub sink-index : index same [] T ≡ length T
   sink-index =
-      ⊎-elim (λ (q : index same [] T ≡ length T). q) (λ (l : index same [] T < length T). absurd (table-all lo hi A ok T e .good .nonempty [] (index-in same same-decides [] T l) refl))
+      ⊎-elim (λ (q : index same [] T ≡ length T). q) (λ (l : index same [] T < length T). absurd (table-all lower upper A ok T e .good .nonempty [] (index-in same same-decides [] T l) refl))
       (eq-or-lt-of-le (index-le same [] T))
 
   -- a state is the place of its set, the sink that of the empty set
   state-index : (j : ℕ) → j < D .size → index same (getD T j []) T ≡ j
-  unfolding built
+  unfolding subsetAutomaton
   state-index j h =
-      ⊎-elim (λ t. index-place same same-decides [] (table-all lo hi A ok T e .good .distinct) j (ltb-true j (length T) t))
+      ⊎-elim (λ t. index-place same same-decides [] (table-all lower upper A ok T e .good .distinct) j (ltb-true j (length T) t))
       (λ t.
       let l : length T ≤ j = ltb-false j (length T) t in
       let z : length T ≡ j = omega arith in
@@ -150,7 +150,7 @@ module _ (lo hi : ℕ) (A : Automaton) (ok : InBounds A) (T : List Set) (e : tab
       (test (ltb j (length T)))
 
   -- a word leads to a state exactly where it leads to the state's set
-  pub run-exact : (k : ℕ) → k < D .size → (v : List ℕ) → Word lo hi v → Run D (D .start) v k ↔ (simulate A (startSet A) v ≡ getD T k [])
+  pub run-exact : (k : ℕ) → k < D .size → (v : List ℕ) → Word lower upper v → Run D (D .start) v k ↔ (simulate A (startSet A) v ≡ getD T k [])
   run-exact k h v x = (
     λ r. sym (run-end r),
     λ q.
@@ -160,7 +160,7 @@ module _ (lo hi : ℕ) (A : Automaton) (ok : InBounds A) (T : List Set) (e : tab
   )
 
   -- a word leads to every state but the sink
-  pub state-reached : (j : ℕ) → j < length T → (w : List ℕ) × Word lo hi w × Run D (D .start) w j
+  pub state-reached : (j : ℕ) → j < length T → (w : List ℕ) × Word lower upper w × Run D (D .start) w j
   state-reached j h =
-      let (w, v, q) = table-all lo hi A ok T e .good .reached _ (at-in T j [] h) in
-      (w, v, run-exact j (unfold built in omega arith) w v .1 q)
+      let (w, v, q) = table-all lower upper A ok T e .good .reached _ (at-in T j [] h) in
+      (w, v, run-exact j (unfold subsetAutomaton in omega arith) w v .1 q)

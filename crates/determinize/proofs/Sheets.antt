@@ -22,7 +22,7 @@ use Rattle.refusal.specs.declared.StateRefusal.the-variants.{States, Transition
 use Rattle.determinize.specs.declared.Progress.{Progress}
 use Rattle.determinize.specs.declared.Progress.the-variants.{Sets, Over}
 use Rattle.determinize.specs.declared.Determinized.the-variants.{Sheet, Refused}
-use Rattle.determinize.specs.Determinize.{states, built, determinize}
+use Rattle.determinize.specs.Determinize.{setsAndSink, subsetAutomaton, determinize}
 use Rattle.determinize.specs.inner.Notes.{notesFrom, settle, Canonical, TableFinished, Explored}
 use Rattle.determinize.specs.inner.Attempts.{Complete}
 use Rattle.determinize.specs.inner.Sheets.{automatonOf, sheetOutput, determinizedOf}
@@ -33,12 +33,12 @@ take-sets : (l vs : List ℕ) → length vs ≤ length l → take (length vs) (s
 take-sets l vs h = ap (take (length vs)) (sets-eq vs l 0 (omega arith)) ∙ take-append-seam vs (drop (0 + length vs) l)
 
 -- a finished table and its notes stand for the automaton of the table
-module _ (lo hi : ℕ) (A : Automaton) (ok : InBounds A) (before t r : List ℕ) (n m : ℕ) (f : TableFinished lo hi A before t r n m) where
+module _ (lower upper : ℕ) (A : Automaton) (ok : InBounds A) (before t r : List ℕ) (n m : ℕ) (f : TableFinished lower upper A before t r n m) where
   T : List Set
   T = entries t n
 
   all : List Transition
-  all = notesFrom lo hi A T 0 (states T)
+  all = notesFrom lower upper A T 0 (setsAndSink T)
 
   noted : Written before 0 (writeRecords all) r (5 * m)
   unfolding all T
@@ -47,11 +47,11 @@ module _ (lo hi : ℕ) (A : Automaton) (ok : InBounds A) (before t r : List ℕ)
   count-all : m ≡ length all
   count-all = omega (arith, noted .behind, length-write all)
 
-  finished-transitions : map (settle (length T)) all ≡ built lo hi A T .transitions
-  unfolding all T built
-  finished-transitions = settle-states lo hi A ok (entries t n) (f .whole)
+  finished-transitions : map (settle (length T)) all ≡ subsetAutomaton lower upper A T .transitions
+  unfolding all T subsetAutomaton
+  finished-transitions = settle-states lower upper A ok (entries t n) (f .whole)
 
-  pub finished-count : m ≡ length (built lo hi A (entries t n) .transitions)
+  pub finished-count : m ≡ length (subsetAutomaton lower upper A (entries t n) .transitions)
   unfolding T
   finished-count = count-all ∙ sym (length-map all (settle (length T))) ∙ ap length finished-transitions
 
@@ -67,22 +67,22 @@ module _ (lo hi : ℕ) (A : Automaton) (ok : InBounds A) (before t r : List ℕ)
   accept-words [] = refl
   accept-words (R ∷ S) = ap (λ l. kindOf A R ∷ l) (accept-words S)
 
-  pub finished-sheet : 5 * m ≤ length before → automatonOf A (entries t n) (readRecords (take (5 * m) r)) ≡ built lo hi A (entries t n)
-  unfolding automatonOf built T states
+  pub finished-sheet : 5 * m ≤ length before → automatonOf A (entries t n) (readRecords (take (5 * m) r)) ≡ subsetAutomaton lower upper A (entries t n)
+  unfolding automatonOf subsetAutomaton T setsAndSink
   finished-sheet b =
       ap₂ (λ x y. record { size = suc (length (entries t n)); start = 0; accept = x; transitions = y }) (accept-words (entries t n))
       (ap (map (settle (length (entries t n)))) (notes-read b) ∙ finished-transitions)
 
 -- the answers of determinizing an accepted sheet
-module _ (lo hi : ℕ) (s : List ℕ) (a : Accepted s) (t r : List ℕ) (x : Progress) (p : Complete lo hi (read s) t r x) where
-  pub accepted-over : (o : List ℕ) → x ≡ Over → determinizedOf (Refused States) o ≡ sheetOutput o (determinize lo hi (read s))
+module _ (lower upper : ℕ) (s : List ℕ) (a : Accepted s) (t r : List ℕ) (x : Progress) (p : Complete lower upper (read s) t r x) where
+  pub accepted-over : (o : List ℕ) → x ≡ Over → determinizedOf (Refused States) o ≡ sheetOutput o (determinize lower upper (read s))
   unfolding Explored sheetOutput
-  accepted-over o e = sym (ap (sheetOutput o) (answer-over lo hi (read s) (subst (Explored lo hi (read s) (p .before) t r) e (p .explored))))
+  accepted-over o e = sym (ap (sheetOutput o) (answer-over lower upper (read s) (subst (Explored lower upper (read s) (p .before) t r) e (p .explored))))
 
   module _ (n m : ℕ) (e : x ≡ Sets n m) where
-    finished : TableFinished lo hi (read s) (p .before) t r n m
+    finished : TableFinished lower upper (read s) (p .before) t r n m
     unfolding Explored
-    finished = subst (Explored lo hi (read s) (p .before) t r) e (p .explored)
+    finished = subst (Explored lower upper (read s) (p .before) t r) e (p .explored)
 
     ok : InBounds (read s)
     ok = read-well s a .states
@@ -100,21 +100,21 @@ module _ (lo hi : ℕ) (s : List ℕ) (a : Accepted s) (t r : List ℕ) (x : Pro
     pub accepted-room : m ≤ 2048 → length (take (5 * m) r) ≤ 10240
     accepted-room h = omega (arith, accepted-part m (omega arith) h)
 
-    pub accepted-many : (o : List ℕ) (i : ℕ) → i < m → 2048 ≤ i → determinizedOf (Refused Transitions) o ≡ sheetOutput o (determinize lo hi (read s))
+    pub accepted-many : (o : List ℕ) (i : ℕ) → i < m → 2048 ≤ i → determinizedOf (Refused Transitions) o ≡ sheetOutput o (determinize lower upper (read s))
     unfolding sheetOutput
     accepted-many o i g h =
         let k : 2048 < m = omega arith in
         sym
         (ap (sheetOutput o)
-        (answer-many lo hi (read s) (entries t n) (finished .whole) (subst (λ k. 2048 < k) (finished-count lo hi (read s) ok (p .before) t r n m finished) k)))
+        (answer-many lower upper (read s) (entries t n) (finished .whole) (subst (λ k. 2048 < k) (finished-count lower upper (read s) ok (p .before) t r n m finished) k)))
 
     pub accepted-given : m ≤ 2048 → (o o′ : List ℕ) (w : ℕ) → Written o 0 (write (automatonOf (read s) (entries t n) (readRecords (take (5 * m) r)))) o′ w
-        → determinizedOf (Sheet w (n + 1)) o′ ≡ sheetOutput o (determinize lo hi (read s))
-    unfolding sheetOutput built
+        → determinizedOf (Sheet w (n + 1)) o′ ≡ sheetOutput o (determinize lower upper (read s))
+    unfolding sheetOutput subsetAutomaton
     accepted-given h o o′ w v =
-        let D = built lo hi (read s) (entries t n) in
-        let u : Written o 0 (write D) o′ w = subst (λ E. Written o 0 (write E) o′ w) (finished-sheet lo hi (read s) ok (p .before) t r n m finished (p .room n m e h)) v in
+        let D = subsetAutomaton lower upper (read s) (entries t n) in
+        let u : Written o 0 (write D) o′ w = subst (λ E. Written o 0 (write E) o′ w) (finished-sheet lower upper (read s) ok (p .before) t r n m finished (p .room n m e h)) v in
         let c : w ≡ length (write D) = u .behind ∙ omega arith in
         let k : n + 1 ≡ suc (length (entries t n)) = add-one n ∙ ap suc (sym (length-entries t n)) in
         rw (u .stored, c, k)
-        (sym (ap (sheetOutput o) (answer-given lo hi (read s) (entries t n) (finished .whole) (subst (λ k. k ≤ 2048) (finished-count lo hi (read s) ok (p .before) t r n m finished) h))))
+        (sym (ap (sheetOutput o) (answer-given lower upper (read s) (entries t n) (finished .whole) (subst (λ k. k ≤ 2048) (finished-count lower upper (read s) ok (p .before) t r n m finished) h))))

@@ -9,7 +9,7 @@ use borrow.Author.Tests.{not-true}
 use lib.Dec.{eqb}
 use lib.ListN.{getD, length, List·getD-eq-default}
 use Rattle.lists.specs.Lists.{_∈_, any}
-use Rattle.lists.proofs.Lists.{keep-in, keep-out}
+use Rattle.lists.proofs.Lists.{filter-in, filter-out}
 use Rattle.lists.proofs.Tests.{test}
 use Rattle.automata.specs.Automaton.{Transition, Automaton, Run, Word, InBounds, holds, leaving}
 use Rattle.lists.specs.Index.{index, same}
@@ -27,7 +27,7 @@ use Rattle.lists.proofs.Members.{map-in}
 use Rattle.ranges.proofs.Spans.{cut-stretch}
 use Rattle.words.proofs.Outgoing.{outgoing-nil, step-nil}
 use Rattle.determinize.specs.Partition.{Part, partOf, partition}
-use Rattle.determinize.specs.Determinize.{table, states, transitionOf, transitionsOf, built}
+use Rattle.determinize.specs.Determinize.{table, setsAndSink, transitionOf, transitionsOf, subsetAutomaton}
 use Rattle.determinize.proofs.Parts.{part-out, part-in}
 use Rattle.determinize.proofs.Steps.{step-free, step-held}
 use Rattle.determinize.proofs.Finished.{table-closed}
@@ -35,15 +35,15 @@ use Rattle.determinize.proofs.Runs.{built-bounds, run-end, run-exact, s
 use Rattle.determinize.proofs.Result.{states-at, origin, leaving-built, accept-built}
 
 -- without ranges there is one span
-pub cut-nothing : (lo hi : ℕ) → lo ≤ hi → cutAll lo hi [] ≡ record { low = lo; high = hi } ∷ []
+pub cut-nothing : (lower upper : ℕ) → lower ≤ upper → cutAll lower upper [] ≡ record { low = lower; high = upper } ∷ []
 unfolding nextCut
-cut-nothing lo hi h =
-    let z : suc hi - 1 ≡ hi = omega arith in
-    cut-step hi [] lo h ∙ rw (z, cut-end hi [] (suc hi) (omega arith))
+cut-nothing lower upper h =
+    let z : suc upper - 1 ≡ upper = omega arith in
+    cut-step upper [] lower h ∙ rw (z, cut-end upper [] (suc upper) (omega arith))
 
-module _ (lo hi : ℕ) (A : Automaton) (ok : InBounds A) (T : List Set) (e : table lo hi A ≡ found T) where
+module _ (lower upper : ℕ) (A : Automaton) (ok : InBounds A) (T : List Set) (e : table lower upper A ≡ found T) where
   -- a symbol leads to the sink exactly if no range of the set holds it
-  pub holes-sink : (j x : ℕ) → lo ≤ x → x ≤ hi → (index same (step A (getD T j []) x) T ≡ length T) ↔ (any (holds x) (outgoing A (getD T j [])) ≡ false)
+  pub holes-sink : (j x : ℕ) → lower ≤ x → x ≤ upper → (index same (step A (getD T j []) x) T ≡ length T) ↔ (any (holds x) (outgoing A (getD T j [])) ≡ false)
   holes-sink j x l u =
       let S = getD T j [] in
       let R = step A S x in (
@@ -52,44 +52,44 @@ module _ (lo hi : ℕ) (A : Automaton) (ok : InBounds A) (T : List Set) (e : tab
             (λ (t : any (holds x) (outgoing A S) ≡ true).
             absurd
             (⊎-elim (λ (z : R ≡ []). step-held A ok S x t z) (λ (m : R ∈ T). let k = index-lt same same-decides R m in omega arith)
-            (table-closed lo hi A ok T e j x l u)))
+            (table-closed lower upper A ok T e j x l u)))
             (λ t. t)
             (test (any (holds x) (outgoing A S))),
-        λ f. rw (step-free A S x f) (sink-index lo hi A ok T e),
+        λ f. rw (step-free A S x f) (sink-index lower upper A ok T e),
       )
 
   abbrev D : Automaton
-  D = built lo hi A T
+  D = subsetAutomaton lower upper A T
 
-  span-in : (j : ℕ) → j < D .size → (s : Span) → s ∈ cutAll lo hi (outgoing A (getD T j [])) → transitionOf A T j (getD T j []) s ∈ D .transitions
+  span-in : (j : ℕ) → j < D .size → (s : Span) → s ∈ cutAll lower upper (outgoing A (getD T j [])) → transitionOf A T j (getD T j []) s ∈ D .transitions
   unfolding leaving transitionsOf
   span-in j h s m =
       let S = getD T j [] in
-      keep-out (λ e. eqb (e .from) j) (transitionOf A T j S s) (D .transitions) (rw (leaving-built lo hi A T j h) (map-in (transitionOf A T j S) m)) .0
+      filter-out (λ e. eqb (e .from) j) (transitionOf A T j S s) (D .transitions) (rw (leaving-built lower upper A T j h) (map-in (transitionOf A T j S) m)) .0
 
   -- the transitions of a state to which a word leads: each part leads to a set of the table, each hole to the sink
   module _ (w : List ℕ) (j : ℕ) (r : Run D (D .start) w j) where
     here : getD T j [] ≡ simulate A (startSet A) w
-    here = run-end lo hi A ok T e r
+    here = run-end lower upper A ok T e r
 
     near : j < D .size
-    near = run-bound D (built-bounds lo hi A ok T e) (built-bounds lo hi A ok T e .starts) r
+    near = run-bound D (built-bounds lower upper A ok T e) (built-bounds lower upper A ok T e .starts) r
 
     -- words lead to this state exactly where they lead to the same set
-    pub state-same : (v : List ℕ) → Word lo hi v → Run D (D .start) v j ↔ (simulate A (startSet A) v ≡ simulate A (startSet A) w)
-    state-same v x = let t = run-exact lo hi A ok T e j near v x in (λ q. t .0 q ∙ here, λ q. t .1 (q ∙ sym here))
+    pub state-same : (v : List ℕ) → Word lower upper v → Run D (D .start) v j ↔ (simulate A (startSet A) v ≡ simulate A (startSet A) w)
+    state-same v x = let t = run-exact lower upper A ok T e j near v x in (λ q. t .0 q ∙ here, λ q. t .1 (q ∙ sym here))
 
-    pub part-transition : (p : Part) → p ∈ partition (A .size) lo hi (outgoing A (simulate A (startSet A) w))
+    pub part-transition : (p : Part) → p ∈ partition (A .size) lower upper (outgoing A (simulate A (startSet A) w))
         → (k : ℕ) × (k < length T) × ((record { from = j; kind = 1; first = p .low; last = p .high; to = k }) ∈ D .transitions)
         × (getD T k [] ≡ step A (simulate A (startSet A) w) (p .low))
     unfolding transitionOf partOf
     part-transition p m =
         let S = getD T j [] in
-        let x = part-out (A .size) lo hi (outgoing A S) p (subst (λ R. p ∈ partition (A .size) lo hi (outgoing A R)) (sym here) m) in
+        let x = part-out (A .size) lower upper (outgoing A S) p (subst (λ R. p ∈ partition (A .size) lower upper (outgoing A R)) (sym here) m) in
         let s = x .span in
-        let v = cut-stretch lo hi (outgoing A S) s (x .in) in
+        let v = cut-stretch lower upper (outgoing A S) s (x .in) in
         let k = index same (step A S (s .low)) T in
-        let i = table-closed lo hi A ok T e j (s .low) (v .above) (omega (arith, v .full, v .below)) in
+        let i = table-closed lower upper A ok T e j (s .low) (v .above) (omega (arith, v .full, v .below)) in
         let l : k < length T =
         ⊎-elim (λ (z : step A S (s .low) ≡ []). absurd (step-held A ok S (s .low) (x .held) z)) (λ i. index-lt same same-decides (step A S (s .low)) i) i in (
           k,
@@ -98,42 +98,42 @@ module _ (lo hi : ℕ) (A : Automaton) (ok : InBounds A) (T : List Set) (e : tab
           at-index T (step A S (s .low)) i ∙ ap (λ R. step A R (s .low)) here ∙ ap (λ (q : Part). step A (simulate A (startSet A) w) (q .low)) (sym (x .is)),
         )
 
-    pub hole-transition : (s : Span) → s ∈ missing lo hi (outgoing A (simulate A (startSet A) w))
+    pub hole-transition : (s : Span) → s ∈ missing lower upper (outgoing A (simulate A (startSet A) w))
         → (record { from = j; kind = 1; first = s .low; last = s .high; to = length T }) ∈ D .transitions
     unfolding transitionOf missing covered
     hole-transition s m =
         let S = getD T j [] in
-        let k = keep-out (λ s. not (covered (outgoing A S) s)) s (cutAll lo hi (outgoing A S)) (subst (λ R. s ∈ missing lo hi (outgoing A R)) (sym here) m) in
-        let v = cut-stretch lo hi (outgoing A S) s (k .0) in
+        let k = filter-out (λ s. not (covered (outgoing A S) s)) s (cutAll lower upper (outgoing A S)) (subst (λ R. s ∈ missing lower upper (outgoing A R)) (sym here) m) in
+        let v = cut-stretch lower upper (outgoing A S) s (k .0) in
         rw (sym (holes-sink j (s .low) (v .above) (omega (arith, v .full, v .below)) .1 (not-true _ (k .1)))) (span-in j near s (k .0))
 
     -- each transition that leaves it is that of a part or of a hole
     pub only-transition : (d : Transition) → d ∈ D .transitions → d .from ≡ j
-        → ((p : Part) × p ∈ partition (A .size) lo hi (outgoing A (simulate A (startSet A) w)) × (d .first ≡ p .low) × (d .last ≡ p .high))
-        ⊎ ((h : Span) × h ∈ missing lo hi (outgoing A (simulate A (startSet A) w)) × (d .first ≡ h .low) × (d .last ≡ h .high))
-    unfolding built transitionOf partOf missing covered
+        → ((p : Part) × p ∈ partition (A .size) lower upper (outgoing A (simulate A (startSet A) w)) × (d .first ≡ p .low) × (d .last ≡ p .high))
+        ⊎ ((h : Span) × h ∈ missing lower upper (outgoing A (simulate A (startSet A) w)) × (d .first ≡ h .low) × (d .last ≡ h .high))
+    unfolding subsetAutomaton transitionOf partOf missing covered
     only-transition d m f =
         let S = simulate A (startSet A) w in
-        let r = origin lo hi A T 0 (states T) d m in
+        let r = origin lower upper A T 0 (setsAndSink T) d m in
         let s = r .span in
         let g : d .from ≡ 0 + r .place = ap (λ x. x .from) (r .is) in
         let q : r .place ≡ j = omega arith in
-        let i : s ∈ cutAll lo hi (outgoing A S) = subst (λ R. s ∈ cutAll lo hi (outgoing A R)) (states-at T (r .place) ∙ ap (λ k. getD T k []) q ∙ here) (r .in) in
+        let i : s ∈ cutAll lower upper (outgoing A S) = subst (λ R. s ∈ cutAll lower upper (outgoing A R)) (states-at T (r .place) ∙ ap (λ k. getD T k []) q ∙ here) (r .in) in
         let a : d .first ≡ s .low = ap (λ x. x .first) (r .is) in
         let b : d .last ≡ s .high = ap (λ x. x .last) (r .is) in
-        ⊎-elim (λ (t : any (holds (s .low)) (outgoing A S) ≡ true). inl (partOf (A .size) (outgoing A S) s, part-in (A .size) lo hi (outgoing A S) s i t, a, b))
-        (λ (t : any (holds (s .low)) (outgoing A S) ≡ false). inr (s, keep-in (λ s. not (covered (outgoing A S) s)) i (ap not t), a, b))
+        ⊎-elim (λ (t : any (holds (s .low)) (outgoing A S) ≡ true). inl (partOf (A .size) (outgoing A S) s, part-in (A .size) lower upper (outgoing A S) s i t, a, b))
+        (λ (t : any (holds (s .low)) (outgoing A S) ≡ false). inr (s, filter-in (λ s. not (covered (outgoing A S) s)) i (ap not t), a, b))
         (test (any (holds (s .low)) (outgoing A S)))
 
-  pub sink-loop : lo ≤ hi → leaving D (length T) ≡ record { from = length T; kind = 1; first = lo; last = hi; to = length T } ∷ []
+  pub sink-loop : lower ≤ upper → leaving D (length T) ≡ record { from = length T; kind = 1; first = lower; last = upper; to = length T } ∷ []
   unfolding transitionsOf transitionOf
   sink-loop h =
       let n = length T in
-      leaving-built lo hi A T n (unfold built in omega arith)
-      ∙ ap (transitionsOf lo hi A T n) (List·getD-eq-default T [] (omega arith))
-      ∙ ap (map (transitionOf A T n [])) (ap (cutAll lo hi) (outgoing-nil A) ∙ cut-nothing lo hi h)
-      ∙ ap (λ k. record { from = n; kind = 1; first = lo; last = hi; to = k } ∷ []) (ap (λ R. index same R T) (step-nil A lo) ∙ sink-index lo hi A ok T e)
+      leaving-built lower upper A T n (unfold subsetAutomaton in omega arith)
+      ∙ ap (transitionsOf lower upper A T n) (List·getD-eq-default T [] (omega arith))
+      ∙ ap (map (transitionOf A T n [])) (ap (cutAll lower upper) (outgoing-nil A) ∙ cut-nothing lower upper h)
+      ∙ ap (λ k. record { from = n; kind = 1; first = lower; last = upper; to = k } ∷ []) (ap (λ R. index same R T) (step-nil A lower) ∙ sink-index lower upper A ok T e)
 
   pub sink-rejects : getD (D .accept) (length T) 0 ≡ 0
   unfolding kindOf
-  sink-rejects = accept-built lo hi A T (length T) ∙ ap (kindOf A) (List·getD-eq-default T [] (omega arith))
+  sink-rejects = accept-built lower upper A T (length T) ∙ ap (kindOf A) (List·getD-eq-default T [] (omega arith))

@@ -6,7 +6,7 @@ use mathlib.Core.Path.{_≡_, refl, sym, _∙_}
 use borrow.Author.Tests.{eq-eqb, eqb-true, leb-true}
 use lib.Dec.{eqb, leb}
 use Rattle.lists.specs.Lists.{_∈_, any}
-use Rattle.lists.proofs.Lists.{any-in, any-out, any-ext, keep-out}
+use Rattle.lists.proofs.Lists.{any-in, any-out, any-ext, filter-out}
 use Rattle.lists.proofs.Tests.{true-same, and-both, and-parts}
 use Rattle.automata.specs.Automaton.{Transition, Automaton, stay, InBounds, holds}
 use Rattle.sets.specs.Sets.{Set, has, pick}
@@ -41,7 +41,7 @@ module _ (A : Automaton) (ok : InBounds A) where
   step-held S a h z =
       let r = any-out (holds a) (outgoing A S) h in
       let d = r .0 in
-      let k = keep-out _ d (A .transitions) (r .1) in
+      let k = filter-out _ d (A .transitions) (r .1) in
       let c = and-parts (eqb (d .kind) 1) _ (k .1) in
       let i = and-parts (leb (d .first) a) _ (r .2) in
       let s : Stepped A ok S a (d .to) = record { edge = d; «in» = k .0; is-range = eqb-true _ _ (c .0); from-in = c .1; low = leb-true _ _ (i .0); high = leb-true _ _ (i .1); then = stay } in
@@ -59,7 +59,7 @@ module _ (A : Automaton) (ok : InBounds A) where
       let r = any-out _ (outgoing A S) h in
       let e = r .0 in
       let c = and-parts (holds (s .low) e) _ (r .2) in
-      let k = keep-out _ e (A .transitions) (r .1) .0 in
+      let k = filter-out _ e (A .transitions) (r .1) .0 in
       any-in (λ t. has q (closure A t))
       (has-mem (e .to) _
       (picked (A .size) _ (e .to) (ok .tos e k)

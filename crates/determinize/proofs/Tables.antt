@@ -4,8 +4,8 @@ use mathlib.Core.List.{List, [], _∷_, _++_, List·Memᴰ·head}
 use mathlib.Core.Logic.{_⊎_, inl, inr, ⊎-elim}
 use mathlib.Core.Path.{_≡_, refl, _∙_, ap}
 use lib.ListN.{length}
-use Rattle.lists.specs.Lists.{_∈_, keep}
-use Rattle.lists.proofs.Lists.{keep-append, keep-out}
+use Rattle.lists.specs.Lists.{_∈_, filter}
+use Rattle.lists.proofs.Lists.{filter-append, filter-out}
 use Rattle.search.specs.Search
 use Rattle.search.proofs.Tables
 use Rattle.search.proofs.Tables.{Extends}
@@ -18,12 +18,12 @@ use Rattle.determinize.specs.inner.Notes.{add, meet}
 
 -- meeting sets
 pub meet-nil : (T : List Set) → meet [] T ≡ T
-unfolding meet someOf keep Search.meet
+unfolding meet someOf filter Search.meet
 meet-nil T = refl
 
 pub meet-cons : (R : Set) (Rs T : List Set) → meet (R ∷ Rs) T ≡ meet Rs (add R T)
 unfolding meet add someOf
-meet-cons R Rs T = ap (λ l. Search.meet same l T) (keep-append _ (R ∷ []) Rs) ∙ Tables.meet-append same (someOf (R ∷ [])) (someOf Rs) T
+meet-cons R Rs T = ap (λ l. Search.meet same l T) (filter-append _ (R ∷ []) Rs) ∙ Tables.meet-append same (someOf (R ∷ [])) (someOf Rs) T
 
 pub meet-extends : (Rs T : List Set) → Extends T (meet Rs T)
 unfolding meet
@@ -32,15 +32,15 @@ meet-extends Rs T = Tables.meet-extends same (someOf Rs) T
 -- what is in the table then was there or is one of them
 pub meet-out : (Rs T : List Set) (S : Set) → S ∈ meet Rs T → (S ∈ T) ⊎ (S ∈ Rs)
 unfolding meet someOf
-meet-out Rs T S m = ⊎-elim inl (λ k. inr (keep-out _ S Rs k .0)) (Tables.meet-out same (someOf Rs) T S m)
+meet-out Rs T S m = ⊎-elim inl (λ k. inr (filter-out _ S Rs k .0)) (Tables.meet-out same (someOf Rs) T S m)
 
 -- the three cases of adding a set
 pub add-empty : (T : List Set) → add [] T ≡ T
-unfolding add meet someOf keep isEmpty Search.meet
+unfolding add meet someOf filter isEmpty Search.meet
 add-empty T = refl
 
 add-some : (S : Set) (T : List Set) → (S ≡ [] → ⊥) → add S T ≡ Search.add same S T
-unfolding add meet someOf keep isEmpty Search.meet
+unfolding add meet someOf filter isEmpty Search.meet
 add-some [] T n = absurd (n refl)
 add-some (q ∷ S) T n = refl
 
@@ -55,6 +55,6 @@ unfolding add
 add-extends S T = meet-extends (S ∷ []) T
 
 pub add-in : (S : Set) (T : List Set) → In (add S T) S
-unfolding add meet someOf keep isEmpty
+unfolding add meet someOf filter isEmpty
 add-in [] T = inl refl
 add-in (q ∷ S) T = inr (Tables.meet-in same same-decides ((q ∷ S) ∷ []) T (q ∷ S) (List·Memᴰ·head refl))

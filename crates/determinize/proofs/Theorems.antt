@@ -1,5 +1,5 @@
 -- What is proved of determinizing, for every automaton whose states are in bounds. An accepted sheet reads as such an automaton, and as a
--- well-formed one. `lo` and `hi` are the least and the greatest symbol.
+-- well-formed one. `lower` and `upper` are the least and the greatest symbol.
 -- determinize-parts, determinize-holes, determinize-targets: the parts, the holes and the targets of a set are those of document 01.
 -- determinize-words, determinize-kinds: the words are kept.
 -- determinize-one, determinize-deterministic, determinize-between: every symbol has exactly one transition in every state.
@@ -19,8 +19,8 @@ use mathlib.Core.Logic.{_⊎_, _↔_}
 use mathlib.Core.Path.{_≡_, refl, sym, _∙_, ap, subst}
 use native.Mathlib.Omega.{arith}
 use lib.ListN.{length, take}
-use Rattle.lists.specs.Lists.{_∈_, any, keep}
-use Rattle.lists.proofs.Lists.{keep-out, length-tabulate}
+use Rattle.lists.specs.Lists.{_∈_, any, filter}
+use Rattle.lists.proofs.Lists.{filter-out, length-tabulate}
 use Rattle.automata.specs.Automaton.{Transition, Automaton, Run, Accepts, Word, InBounds, carries}
 use Rattle.automata.specs.WellFormed.{lastSymbol, WellFormed, Fits}
 use Rattle.labels.specs.Forms.{numberedLabel, numbered}
@@ -45,11 +45,11 @@ use Rattle.ranges.proofs.Missing.{missing-holes}
 use Rattle.refusal.specs.Answer.{Answer, refused, given}
 use Rattle.search.specs.Search.{found, over}
 use Rattle.determinize.specs.Partition.{Part, partOf, partition, Parts}
-use Rattle.determinize.specs.Determinize.{table, built, determinize}
+use Rattle.determinize.specs.Determinize.{table, subsetAutomaton, determinize}
 use Rattle.automata.specs.Deterministic.{Deterministic, Between}
 use Rattle.determinize.specs.Sink.{Sink}
 use Rattle.determinize.specs.Reached.{MoreThan, AllReached, degrees, MoreTransitions}
-use Rattle.determinize.specs.Sheets.{labelled, determinizeSheet}
+use Rattle.determinize.specs.Sheets.{labelled, determinizeAnswer}
 use Rattle.determinize.proofs.Parts.{parts-exact}
 use Rattle.determinize.proofs.Steps.{part-step}
 use Rattle.determinize.proofs.Finished.{table-few, table-all, over-exact}
@@ -60,114 +60,114 @@ use Rattle.determinize.proofs.Sink.{state-same, part-transition, hole-t
 use Rattle.determinize.proofs.Counts.{listed-states, listed-transitions, many-exact}
 use Rattle.determinize.proofs.Answers.{Outcome, too-many-sets, too-many-transitions, fits, outcome, Built, made-built, refused-above, refused-over, refused-many, answer-over}
 
-module _ (lo hi : ℕ) (A : Automaton) (ok : InBounds A) where
+module _ (lower upper : ℕ) (A : Automaton) (ok : InBounds A) where
   -- the parts of a set are those of document 01
-  pub determinize-parts : (S : Set) → Parts lo hi (outgoing A S) (partition (A .size) lo hi (outgoing A S))
+  pub determinize-parts : (S : Set) → Parts lower upper (outgoing A S) (partition (A .size) lower upper (outgoing A S))
   determinize-parts S =
-      parts-exact (A .size) lo hi (outgoing A S) (unfold outgoing in λ e m. ok .tos e (keep-out _ e (A .transitions) m .0))
+      parts-exact (A .size) lower upper (outgoing A S) (unfold outgoing in λ e m. ok .tos e (filter-out _ e (A .transitions) m .0))
 
   -- its holes are the maximal runs of symbols that no range holds
-  pub determinize-holes : WellFormed A → (S : Set) → Holes lo hi (outgoing A S) (missing lo hi (outgoing A S))
-  determinize-holes w S = missing-holes lo hi (outgoing A S) (unfold outgoing in λ e m. w .sound e (keep-out _ e (A .transitions) m .0) .full)
+  pub determinize-holes : WellFormed A → (S : Set) → Holes lower upper (outgoing A S) (missing lower upper (outgoing A S))
+  determinize-holes w S = missing-holes lower upper (outgoing A S) (unfold outgoing in λ e m. w .sound e (filter-out _ e (A .transitions) m .0) .full)
 
   -- a part leads to the union of the closures of its targets
   pub determinize-targets : (S : Set) (s : Span)
       → step A S (s .low) ≡ pick (A .size) (λ q. any (λ t. has q (closure A t)) (partOf (A .size) (outgoing A S) s .targets))
   determinize-targets = part-step A ok
 
-  module _ (D : Automaton) (e : determinize lo hi A ≡ given D) where
-    by : Built lo hi A D
-    by = made-built lo hi A D e
+  module _ (D : Automaton) (e : determinize lower upper A ≡ given D) where
+    by : Built lower upper A D
+    by = made-built lower upper A D e
 
     -- the words are kept
-    pub determinize-words : (w : List ℕ) → Word lo hi w → Accepts D w ↔ Accepts A w
-    determinize-words w v = rw (by .is) (words-kept lo hi A ok (by .sets) (by .whole) w v)
+    pub determinize-words : (w : List ℕ) → Word lower upper w → Accepts D w ↔ Accepts A w
+    determinize-words w v = rw (by .is) (words-kept lower upper A ok (by .sets) (by .whole) w v)
 
     -- and the accept word that each word is given
-    pub determinize-kinds : (w : List ℕ) → Word lo hi w → kind D w ≡ kind A w
-    determinize-kinds w v = rw (by .is) (kind-kept lo hi A ok (by .sets) (by .whole) w v)
+    pub determinize-kinds : (w : List ℕ) → Word lower upper w → kind D w ≡ kind A w
+    determinize-kinds w v = rw (by .is) (kind-kept lower upper A ok (by .sets) (by .whole) w v)
 
     -- every symbol between the ends has exactly one transition in every state
-    pub determinize-one : (j x : ℕ) → j < D .size → lo ≤ x → x ≤ hi → (d : Transition) × (keep (carries j x) (D .transitions) ≡ d ∷ [])
-    determinize-one = rw (by .is) (one-built lo hi A (by .sets))
+    pub determinize-one : (j x : ℕ) → j < D .size → lower ≤ x → x ≤ upper → (d : Transition) × (filter (carries j x) (D .transitions) ≡ d ∷ [])
+    determinize-one = rw (by .is) (one-built lower upper A (by .sets))
 
     -- and there are no epsilons
-    pub determinize-deterministic : Deterministic lo hi D
+    pub determinize-deterministic : Deterministic lower upper D
     determinize-deterministic =
-        let l = transition-facts lo hi A ok (by .sets) (by .whole) in
-        rw (by .is) (record { ranges = λ d m. l d m .is-range; one = one-built lo hi A (by .sets) })
+        let l = transition-facts lower upper A ok (by .sets) (by .whole) in
+        rw (by .is) (record { ranges = λ d m. l d m .is-range; one = one-built lower upper A (by .sets) })
 
     -- no transition holds a symbol outside the ends
-    pub determinize-between : Between lo hi D
+    pub determinize-between : Between lower upper D
     determinize-between =
-        let l = transition-facts lo hi A ok (by .sets) (by .whole) in
+        let l = transition-facts lower upper A ok (by .sets) (by .whole) in
         rw (by .is) (record { above = λ d m. l d m .low; below = λ d m. l d m .high })
 
     -- a word leads to every state but the last
-    pub determinize-reached : (j : ℕ) → suc j < D .size → (w : List ℕ) × Word lo hi w × Run D (D .start) w j
-    unfolding built
-    determinize-reached j h = rw (by .is) (state-reached lo hi A ok (by .sets) (by .whole) j (let k = rw (by .is) at h in omega (arith, k)))
+    pub determinize-reached : (j : ℕ) → suc j < D .size → (w : List ℕ) × Word lower upper w × Run D (D .start) w j
+    unfolding subsetAutomaton
+    determinize-reached j h = rw (by .is) (state-reached lower upper A ok (by .sets) (by .whole) j (let k = rw (by .is) at h in omega (arith, k)))
 
     -- the last state is the sink: it loops on all symbols and rejects
-    pub determinize-sink : lo ≤ hi → Sink lo hi D
+    pub determinize-sink : lower ≤ upper → Sink lower upper D
     determinize-sink h =
         rw (by .is)
         (record {
           state = length (by .sets);
-          last = unfold built in refl;
-          loops = sink-loop lo hi A ok (by .sets) (by .whole) h;
-          rejects = sink-rejects lo hi A ok (by .sets) (by .whole);
+          last = unfold subsetAutomaton in refl;
+          loops = sink-loop lower upper A ok (by .sets) (by .whole) h;
+          rejects = sink-rejects lower upper A ok (by .sets) (by .whole);
         })
 
     -- of a state to which a word w leads
     module _ (w : List ℕ) (j : ℕ) (r : Run D (D .start) w j) where
-      run : Run (built lo hi A (by .sets)) (built lo hi A (by .sets) .start) w j
+      run : Run (subsetAutomaton lower upper A (by .sets)) (subsetAutomaton lower upper A (by .sets) .start) w j
       run = subst (λ (E : Automaton). Run E (E .start) w j) (by .is) r
 
       -- states are sets: another word leads to it exactly where it leads to the same set
-      pub determinize-state : (v : List ℕ) → Word lo hi v → Run D (D .start) v j ↔ (simulate A (startSet A) v ≡ simulate A (startSet A) w)
-      determinize-state v x = rw (by .is) (state-same lo hi A ok (by .sets) (by .whole) w j run v x)
+      pub determinize-state : (v : List ℕ) → Word lower upper v → Run D (D .start) v j ↔ (simulate A (startSet A) v ≡ simulate A (startSet A) w)
+      determinize-state v x = rw (by .is) (state-same lower upper A ok (by .sets) (by .whole) w j run v x)
 
       -- each part of its set has a transition, to the state of exactly the set to which the part leads; that is not the sink
-      pub determinize-part : (p : Part) → p ∈ partition (A .size) lo hi (outgoing A (simulate A (startSet A) w))
+      pub determinize-part : (p : Part) → p ∈ partition (A .size) lower upper (outgoing A (simulate A (startSet A) w))
           → (k : ℕ) × (suc k < D .size) × ((record { from = j; kind = 1; first = p .low; last = p .high; to = k }) ∈ D .transitions)
-          × ((v : List ℕ) → Word lo hi v → Run D (D .start) v k ↔ (simulate A (startSet A) v ≡ step A (simulate A (startSet A) w) (p .low)))
-      unfolding built
+          × ((v : List ℕ) → Word lower upper v → Run D (D .start) v k ↔ (simulate A (startSet A) v ≡ step A (simulate A (startSet A) w) (p .low)))
+      unfolding subsetAutomaton
       determinize-part p m =
-          let (k, l, t, q) = part-transition lo hi A ok (by .sets) (by .whole) w j run p m in
-          rw (by .is) (k, omega arith, t, λ v x. let c = run-exact lo hi A ok (by .sets) (by .whole) k (omega arith) v x in (λ y. c .0 y ∙ q, λ y. c .1 (y ∙ sym q)))
+          let (k, l, t, q) = part-transition lower upper A ok (by .sets) (by .whole) w j run p m in
+          rw (by .is) (k, omega arith, t, λ v x. let c = run-exact lower upper A ok (by .sets) (by .whole) k (omega arith) v x in (λ y. c .0 y ∙ q, λ y. c .1 (y ∙ sym q)))
 
       -- each hole of its set has a transition, to the sink
-      pub determinize-hole : (s : Span) → s ∈ missing lo hi (outgoing A (simulate A (startSet A) w)) → (k : ℕ) → D .size ≡ suc k
+      pub determinize-hole : (s : Span) → s ∈ missing lower upper (outgoing A (simulate A (startSet A) w)) → (k : ℕ) → D .size ≡ suc k
           → (record { from = j; kind = 1; first = s .low; last = s .high; to = k }) ∈ D .transitions
-      unfolding built
+      unfolding subsetAutomaton
       determinize-hole s m k n =
           let z : length (by .sets) ≡ k = let y = rw (by .is) at n in omega (arith, y) in
-          rw (by .is, ← z) (hole-transition lo hi A ok (by .sets) (by .whole) w j run s m)
+          rw (by .is, ← z) (hole-transition lower upper A ok (by .sets) (by .whole) w j run s m)
 
       -- it has no other transitions
       pub determinize-only : (d : Transition) → d ∈ D .transitions → d .from ≡ j
-          → ((p : Part) × p ∈ partition (A .size) lo hi (outgoing A (simulate A (startSet A) w)) × (d .first ≡ p .low) × (d .last ≡ p .high))
-          ⊎ ((h : Span) × h ∈ missing lo hi (outgoing A (simulate A (startSet A) w)) × (d .first ≡ h .low) × (d .last ≡ h .high))
+          → ((p : Part) × p ∈ partition (A .size) lower upper (outgoing A (simulate A (startSet A) w)) × (d .first ≡ p .low) × (d .last ≡ p .high))
+          ⊎ ((h : Span) × h ∈ missing lower upper (outgoing A (simulate A (startSet A) w)) × (d .first ≡ h .low) × (d .last ≡ h .high))
       determinize-only d m f =
-          only-transition lo hi A ok (by .sets) (by .whole) w j run d (subst (λ (E : Automaton). d ∈ E .transitions) (by .is) m) f
+          only-transition lower upper A ok (by .sets) (by .whole) w j run d (subst (λ (E : Automaton). d ∈ E .transitions) (by .is) m) f
 
     -- the states are the nonempty sets that words reach, in whatever order they are listed, and the sink
-    pub determinize-states : (U : List Set) → AllReached lo hi A U → D .size ≡ length U + 1
-    determinize-states U u = rw (by .is) (listed-states lo hi A ok (by .sets) (by .whole) U u)
+    pub determinize-states : (U : List Set) → AllReached lower upper A U → D .size ≡ length U + 1
+    determinize-states U u = rw (by .is) (listed-states lower upper A ok (by .sets) (by .whole) U u)
 
     -- the transitions are the parts and the holes of these sets, and the sink's loop
-    pub determinize-transitions : lo ≤ hi → (U : List Set) → AllReached lo hi A U → length (D .transitions) ≡ degrees lo hi A U + 1
-    determinize-transitions h U u = rw (by .is) (listed-transitions lo hi A ok (by .sets) (by .whole) h U u)
+    pub determinize-transitions : lower ≤ upper → (U : List Set) → AllReached lower upper A U → length (D .transitions) ≡ degrees lower upper A U + 1
+    determinize-transitions h U u = rw (by .is) (listed-transitions lower upper A ok (by .sets) (by .whole) h U u)
 
     -- the result of a well-formed automaton is well-formed
     pub determinize-wellformed : WellFormed A → WellFormed D
-    determinize-wellformed w = rw (by .is) (built-well-formed lo hi A w (by .sets) (by .whole))
+    determinize-wellformed w = rw (by .is) (built-well-formed lower upper A w (by .sets) (by .whole))
 
     -- it has at most 256 states and 2,048 transitions
     pub determinize-fits : Fits D
-    unfolding built
-    determinize-fits = record { few-states = rw (by .is) (omega (arith, table-few lo hi A ok (by .sets) (by .whole))); few-transitions = by .few }
+    unfolding subsetAutomaton
+    determinize-fits = record { few-states = rw (by .is) (omega (arith, table-few lower upper A ok (by .sets) (by .whole))); few-transitions = by .few }
 
     -- it is written as an accepted sheet
     pub determinize-written : WellFormed A → fault (write D) ≡ 0
@@ -182,41 +182,41 @@ module _ (lo hi : ℕ) (A : Automaton) (ok : InBounds A) where
     determinize-room w = write-room D (determinize-wellformed w .accepts) determinize-fits
 
   -- where 21 is not given there is a list of the sets that words reach
-  pub reached-listed : (MoreThan 255 lo hi A → ⊥) → (T : List Set) × AllReached lo hi A T
-  reached-listed n = go (outcome lo hi A)
+  pub reached-listed : (MoreThan 255 lower upper A → ⊥) → (T : List Set) × AllReached lower upper A T
+  reached-listed n = go (outcome lower upper A)
     where
-      go : Outcome lo hi A → (T : List Set) × AllReached lo hi A T
-      go (too-many-sets e q) = absurd (n (over-exact lo hi A ok .0 e))
-      go (too-many-transitions T e h q) = (T, table-all lo hi A ok T e)
-      go (fits T e h q) = (T, table-all lo hi A ok T e)
+      go : Outcome lower upper A → (T : List Set) × AllReached lower upper A T
+      go (too-many-sets e q) = absurd (n (over-exact lower upper A ok .0 e))
+      go (too-many-transitions T e h q) = (T, table-all lower upper A ok T e)
+      go (fits T e h q) = (T, table-all lower upper A ok T e)
 
   -- 21 is given exactly where words reach more than 255 nonempty sets
-  pub refused-21 : (determinize lo hi A ≡ refused 21) ↔ MoreThan 255 lo hi A
-  refused-21 = (λ e. over-exact lo hi A ok .0 (refused-over lo hi A e), λ m. answer-over lo hi A (over-exact lo hi A ok .1 m))
+  pub refused-21 : (determinize lower upper A ≡ refused 21) ↔ MoreThan 255 lower upper A
+  refused-21 = (λ e. over-exact lower upper A ok .0 (refused-over lower upper A e), λ m. answer-over lower upper A (over-exact lower upper A ok .1 m))
 
-  found-few : {T : List Set} → table lo hi A ≡ found T → MoreThan 255 lo hi A → ⊥
-  found-few {T} e m = let c : found T ≡ over = sym e ∙ over-exact lo hi A ok .1 m in let z : _≡_ {A = ℕ} 0 1 = cc in absurd (omega arith)
+  found-few : {T : List Set} → table lower upper A ≡ found T → MoreThan 255 lower upper A → ⊥
+  found-few {T} e m = let c : found T ≡ over = sym e ∙ over-exact lower upper A ok .1 m in let z : _≡_ {A = ℕ} 0 1 = cc in absurd (omega arith)
 
   -- 22 is given exactly where they don't, and the parts and the holes of the sets with the sink's loop are more than 2,048
-  pub refused-22 : (determinize lo hi A ≡ refused 22) ↔ ((MoreThan 255 lo hi A → ⊥) × MoreTransitions 2048 lo hi A)
+  pub refused-22 : (determinize lower upper A ≡ refused 22) ↔ ((MoreThan 255 lower upper A → ⊥) × MoreTransitions 2048 lower upper A)
   refused-22 = (
-    λ e. let r = refused-many lo hi A e in (found-few (r .whole), many-exact lo hi A ok (r .sets) (r .whole) .0 (r .many)),
-    λ m. go (m .0) (m .1) (outcome lo hi A),
+    λ e. let r = refused-many lower upper A e in (found-few (r .whole), many-exact lower upper A ok (r .sets) (r .whole) .0 (r .many)),
+    λ m. go (m .0) (m .1) (outcome lower upper A),
   )
     where
-      go : (MoreThan 255 lo hi A → ⊥) → MoreTransitions 2048 lo hi A → Outcome lo hi A → determinize lo hi A ≡ refused 22
-      go n m (too-many-sets e q) = absurd (n (over-exact lo hi A ok .0 e))
+      go : (MoreThan 255 lower upper A → ⊥) → MoreTransitions 2048 lower upper A → Outcome lower upper A → determinize lower upper A ≡ refused 22
+      go n m (too-many-sets e q) = absurd (n (over-exact lower upper A ok .0 e))
       go n m (too-many-transitions T e h q) = q
-      go n m (fits T e h q) = let k = many-exact lo hi A ok T e .1 m in absurd (omega arith)
+      go n m (fits T e h q) = let k = many-exact lower upper A ok T e .1 m in absurd (omega arith)
 
   -- an automaton is given where neither holds
-  pub determinize-given : (MoreThan 255 lo hi A → ⊥) → (MoreTransitions 2048 lo hi A → ⊥) → (D : Automaton) × (determinize lo hi A ≡ given D)
-  determinize-given n k = go (outcome lo hi A)
+  pub determinize-given : (MoreThan 255 lower upper A → ⊥) → (MoreTransitions 2048 lower upper A → ⊥) → (D : Automaton) × (determinize lower upper A ≡ given D)
+  determinize-given n k = go (outcome lower upper A)
     where
-      go : Outcome lo hi A → (D : Automaton) × (determinize lo hi A ≡ given D)
-      go (too-many-sets e q) = absurd (n (over-exact lo hi A ok .0 e))
-      go (too-many-transitions T e h q) = absurd (k (many-exact lo hi A ok T e .0 h))
-      go (fits T e h q) = (built lo hi A T, q)
+      go : Outcome lower upper A → (D : Automaton) × (determinize lower upper A ≡ given D)
+      go (too-many-sets e q) = absurd (n (over-exact lower upper A ok .0 e))
+      go (too-many-transitions T e h q) = absurd (k (many-exact lower upper A ok T e .0 h))
+      go (fits T e h q) = (subsetAutomaton lower upper A T, q)
 
 -- the answer with labels is refused and given where the answer is
 labelled-refused : (a : Answer Automaton) (n : ℕ) → (labelled a ≡ refused n) ↔ (a ≡ refused n)
@@ -238,13 +238,13 @@ unfolding labelled
 given-labelled a D e = ap labelled e
 
 -- what the call leaves: r is its answer, o and l are the outputs before it, o′ and l′ after it
-module _ (s o l o′ l′ : List ℕ) (r : Made) (call : outputOf r o′ l′ ≡ outputs o l (determinizeSheet s o l)) where
+module _ (s o l o′ l′ : List ℕ) (r : Made) (call : outputOf r o′ l′ ≡ outputs o l (determinizeAnswer s o l)) where
   -- the answer behind 20 and the sheet's faults
   abbrev answer : Answer Pattern
   answer = labelled (determinize 0 lastSymbol (read s))
 
   contract : outputOf r o′ l′ ≡ outputs o l (roomFirst o l (sheetFirst s answer))
-  unfolding determinizeSheet
+  unfolding determinizeAnswer
   contract = call
 
   well : fault s ≡ 0 → WellFormed (read s)

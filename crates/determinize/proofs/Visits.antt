@@ -21,7 +21,7 @@ use Rattle.words.specs.Simulation.{outgoing, step}
 use Rattle.words.proofs.Stepping.{step-canon}
 use Rattle.ranges.specs.Cuts.{nextCut}
 use Rattle.determinize.specs.declared.Progress.the-variants.{Sets, Over}
-use Rattle.determinize.specs.Determinize.{targets, states}
+use Rattle.determinize.specs.Determinize.{targets, setsAndSink}
 use Rattle.determinize.specs.inner.Notes.{number, notesOf, Canonical, Placed, Visited, SetVisited, add, meet}
 use Rattle.determinize.proofs.Tables.{add-extends, add-in, meet-out}
 use Rattle.determinize.proofs.Targets.{spanTargets}
@@ -50,21 +50,21 @@ canonical-add n R T c d = record {
 }
 
 -- the spans of the state j, which is the set S, are visited up to a: t has n sets, r has k notes
-pub record Visiting (lo hi : ℕ) (A : Automaton) (S : Set) (T : List Set) (j : ℕ) (before : List ℕ) (count : ℕ) (t r : List ℕ) (n k a : ℕ) : Type 0 where
-  pub met : meet (spanTargets a hi A S) (entries t n) ≡ meet (targets lo hi A S) T
-  pub noted : (more : List Set) → Left before (5 * count) (writeRecords (notesOf lo hi A (entries t n ++ more) j S)) r (5 * k) (writeRecords (notesOf a hi A (entries t n ++ more) j S))
+pub record Visiting (lower upper : ℕ) (A : Automaton) (S : Set) (T : List Set) (j : ℕ) (before : List ℕ) (count : ℕ) (t r : List ℕ) (n k a : ℕ) : Type 0 where
+  pub met : meet (spanTargets a upper A S) (entries t n) ≡ meet (targets lower upper A S) T
+  pub noted : (more : List Set) → Left before (5 * count) (writeRecords (notesOf lower upper A (entries t n ++ more) j S)) r (5 * k) (writeRecords (notesOf a upper A (entries t n ++ more) j S))
 
-module _ (lo hi : ℕ) (A : Automaton) (S : Set) (j : ℕ) (before : List ℕ) (count : ℕ) where
-  pub visit-begins : (t : List ℕ) (n : ℕ) → Visiting lo hi A S (entries t n) j before count t before n count lo
+module _ (lower upper : ℕ) (A : Automaton) (S : Set) (j : ℕ) (before : List ℕ) (count : ℕ) where
+  pub visit-begins : (t : List ℕ) (n : ℕ) → Visiting lower upper A S (entries t n) j before count t before n count lower
   visit-begins t n =
-      record { met = meet-begins lo hi A S (entries t n); noted = λ more. left-start before (5 * count) _ }
+      record { met = meet-begins lower upper A S (entries t n); noted = λ more. left-start before (5 * count) _ }
 
-  module _ (T : List Set) (t r : List ℕ) (n k a : ℕ) (i : Visiting lo hi A S T j before count t r n k a) where
-    module _ (h : a < hi + 1) (c : ℕ) (e : c ≡ nextCut a (hi + 1) (outgoing A S)) (t′ r′ : List ℕ) (n′ : ℕ) (v : Visited (step A S a) (entries t n) j a (c - 1) r k t′ r′ n′) where
-      met-next : meet (spanTargets c hi A S) (entries t′ n′) ≡ meet (targets lo hi A S) T
-      met-next = meet-next lo hi A S T a (entries t n) (i .met) h (step A S a) (entries t′ n′) c refl (v .added) e
+  module _ (T : List Set) (t r : List ℕ) (n k a : ℕ) (i : Visiting lower upper A S T j before count t r n k a) where
+    module _ (h : a < upper + 1) (c : ℕ) (e : c ≡ nextCut a (upper + 1) (outgoing A S)) (t′ r′ : List ℕ) (n′ : ℕ) (v : Visited (step A S a) (entries t n) j a (c - 1) r k t′ r′ n′) where
+      met-next : meet (spanTargets c upper A S) (entries t′ n′) ≡ meet (targets lower upper A S) T
+      met-next = meet-next lower upper A S T a (entries t n) (i .met) h (step A S a) (entries t′ n′) c refl (v .added) e
 
-      noted-next : (more : List Set) → Left before (5 * count) (writeRecords (notesOf lo hi A (entries t′ n′ ++ more) j S)) r′ (5 * (k + 1)) (writeRecords (notesOf c hi A (entries t′ n′ ++ more) j S))
+      noted-next : (more : List Set) → Left before (5 * count) (writeRecords (notesOf lower upper A (entries t′ n′ ++ more) j S)) r′ (5 * (k + 1)) (writeRecords (notesOf c upper A (entries t′ n′ ++ more) j S))
       unfolding writeRecords
       noted-next more =
           let R = step A S a in
@@ -72,34 +72,34 @@ module _ (lo hi : ℕ) (A : Automaton) (S : Set) (j : ℕ) (before : List ℕ) (
           let F = U ++ more in
           let x = add-extends R (entries t n) in
           let f : entries t n ++ (x .rest ++ more) ≡ F = sym (append-assoc (entries t n) (x .rest) more) ∙ ap (λ l. l ++ more) (sym (v .added ∙ x .is)) in
-          let p : Left before (5 * count) (writeRecords (notesOf lo hi A F j S)) r (5 * k) (writeRecords (notesOf a hi A F j S)) =
-          subst (λ G. Left before (5 * count) (writeRecords (notesOf lo hi A G j S)) r (5 * k) (writeRecords (notesOf a hi A G j S))) f (i .noted (x .rest ++ more)) in
+          let p : Left before (5 * count) (writeRecords (notesOf lower upper A F j S)) r (5 * k) (writeRecords (notesOf a upper A F j S)) =
+          subst (λ G. Left before (5 * count) (writeRecords (notesOf lower upper A G j S)) r (5 * k) (writeRecords (notesOf a upper A G j S))) f (i .noted (x .rest ++ more)) in
           let y : number R U ≡ number R F = sym (number-later R U more (subst (λ G. In G R) (sym (v .added)) (add-in R (entries t n)))) in
-          let s : writeRecords (notesOf a hi A F j S) ≡ j ∷ 1 ∷ a ∷ (c - 1) ∷ number R U ∷ writeRecords (notesOf c hi A F j S) =
-          ap writeRecords (notes-step hi A F j S a h)
-          ∙ ap (λ d. j ∷ 1 ∷ a ∷ (d - 1) ∷ number R F ∷ writeRecords (notesOf d hi A F j S)) (sym e)
-          ∙ ap (λ z. j ∷ 1 ∷ a ∷ (c - 1) ∷ z ∷ writeRecords (notesOf c hi A F j S)) (sym y) in
-          let q = left-next _ _ _ _ _ _ p (j ∷ 1 ∷ a ∷ (c - 1) ∷ number R U ∷ []) (writeRecords (notesOf c hi A F j S)) s r′ (5 * k + 5) (v .noted) in
+          let s : writeRecords (notesOf a upper A F j S) ≡ j ∷ 1 ∷ a ∷ (c - 1) ∷ number R U ∷ writeRecords (notesOf c upper A F j S) =
+          ap writeRecords (notes-step upper A F j S a h)
+          ∙ ap (λ d. j ∷ 1 ∷ a ∷ (d - 1) ∷ number R F ∷ writeRecords (notesOf d upper A F j S)) (sym e)
+          ∙ ap (λ z. j ∷ 1 ∷ a ∷ (c - 1) ∷ z ∷ writeRecords (notesOf c upper A F j S)) (sym y) in
+          let q = left-next _ _ _ _ _ _ p (j ∷ 1 ∷ a ∷ (c - 1) ∷ number R U ∷ []) (writeRecords (notesOf c upper A F j S)) s r′ (5 * k + 5) (v .noted) in
           let z : 5 * k + 5 ≡ 5 * (k + 1) = omega arith in
           rw z at q
 
-      pub visit-next : Visiting lo hi A S T j before count t′ r′ n′ (k + 1) c
+      pub visit-next : Visiting lower upper A S T j before count t′ r′ n′ (k + 1) c
       visit-next = record { met = met-next; noted = noted-next }
 
       -- a table with 256 sets is too many
-      pub visit-over : n′ ≡ 256 → SetVisited lo hi A S T j before count t′ r′ Over
+      pub visit-over : n′ ≡ 256 → SetVisited lower upper A S T j before count t′ r′ Over
       unfolding SetVisited
-      visit-over g = meet-full lo hi A S T c (entries t′ n′) met-next (omega (arith, length-entries t′ n′))
+      visit-over g = meet-full lower upper A S T c (entries t′ n′) met-next (omega (arith, length-entries t′ n′))
 
-    pub visit-ended : hi + 1 ≤ a → n < 256 → Canonical (A .size) (entries t n) → k + lo ≤ count + a → a ≤ 4294967296 → SetVisited lo hi A S T j before count t r (Sets n k)
+    pub visit-ended : upper + 1 ≤ a → n < 256 → Canonical (A .size) (entries t n) → k + lower ≤ count + a → a ≤ 4294967296 → SetVisited lower upper A S T j before count t r (Sets n k)
     unfolding SetVisited writeRecords
     visit-ended h f c b d =
         record {
-          met = meet-ended lo hi A S T a (entries t n) (i .met) h;
+          met = meet-ended lower upper A S T a (entries t n) (i .met) h;
           few = f;
           canonical = c;
           noted = λ more.
-              left-done _ _ _ _ _ _ (i .noted more) (ap writeRecords (notes-end hi A (entries t n ++ more) j S a h));
+              left-done _ _ _ _ _ _ (i .noted more) (ap writeRecords (notes-end upper A (entries t n ++ more) j S a h));
           bounded = omega arith;
         }
 

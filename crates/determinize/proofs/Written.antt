@@ -17,19 +17,19 @@ use Rattle.words.proofs.Kind.{kindOf-some}
 use Rattle.search.specs.Search.{found}
 use Rattle.lists.proofs.Members.{ascending-map, ascending-append}
 use Rattle.ranges.proofs.Spans.{Ahead, cut-ascend}
-use Rattle.determinize.specs.Determinize.{table, states, transitionOf, transitionsOf, transitionsFrom, built}
+use Rattle.determinize.specs.Determinize.{table, setsAndSink, transitionOf, transitionsOf, transitionsFrom, subsetAutomaton}
 use Rattle.determinize.proofs.Result.{length-states, from-of, from-above, accept-built}
 use Rattle.determinize.proofs.Runs.{transition-facts, built-bounds}
 
-module _ (lo hi : ℕ) (A : Automaton) (T : List Set) where
-  transitions-ascend : (j : ℕ) (Ss : List Set) → Ascending Before (transitionsFrom lo hi A T j Ss)
+module _ (lower upper : ℕ) (A : Automaton) (T : List Set) where
+  transitions-ascend : (j : ℕ) (Ss : List Set) → Ascending Before (transitionsFrom lower upper A T j Ss)
   unfolding transitionsFrom transitionsOf transitionOf
   transitions-ascend j [] = Ascending.none
   transitions-ascend j (S ∷ Ss) =
       ascending-append
-      (ascending-map {R = Ahead} (transitionOf A T j S) (λ s t h. Lex.later refl (Lex.later refl (Lex.here (omega (arith, h .0, h .1))))) (cut-ascend lo hi (outgoing A S)))
+      (ascending-map {R = Ahead} (transitionOf A T j S) (λ s t h. Lex.later refl (Lex.later refl (Lex.here (omega (arith, h .0, h .1))))) (cut-ascend lower upper (outgoing A S)))
       (transitions-ascend (suc j) Ss)
-      (λ d c m n. let f = from-of lo hi A T j S d m in let g = from-above lo hi A T (suc j) Ss c n in Lex.here (omega arith))
+      (λ d c m n. let f = from-of lower upper A T j S d m in let g = from-above lower upper A T (suc j) Ss c n in Lex.here (omega arith))
 
 -- an accept word of a set is one of its members'
 kindOf-most : (A : Automaton) → ((q : ℕ) → getD (A .accept) q 0 ≤ greatestAccept) → (S : Set) → kindOf A S ≤ greatestAccept
@@ -37,15 +37,15 @@ kindOf-most A h S =
     ⊎-elim (λ t. let r = kindOf-some A S (ltb-true 0 (kindOf A S) t) in let k = h (r .0) in omega (arith, r .2)) (λ t. let k = ltb-false 0 (kindOf A S) t in omega arith)
     (test (ltb 0 (kindOf A S)))
 
-pub built-well-formed : (lo hi : ℕ) (A : Automaton) → WellFormed A → (T : List Set) → table lo hi A ≡ found T → WellFormed (built lo hi A T)
-built-well-formed lo hi A w T e =
+pub built-well-formed : (lower upper : ℕ) (A : Automaton) → WellFormed A → (T : List Set) → table lower upper A ≡ found T → WellFormed (subsetAutomaton lower upper A T)
+built-well-formed lower upper A w T e =
     record {
-      states = built-bounds lo hi A (w .states) T e;
-      accepts = unfold built in length-map (states T) (kindOf A) ∙ length-states T;
-      accept-words = λ q. rw (accept-built lo hi A T q) (kindOf-most A (w .accept-words) (getD T q []));
+      states = built-bounds lower upper A (w .states) T e;
+      accepts = unfold subsetAutomaton in length-map (setsAndSink T) (kindOf A) ∙ length-states T;
+      accept-words = λ q. rw (accept-built lower upper A T q) (kindOf-most A (w .accept-words) (getD T q []));
       sound = λ d m.
-          let r = transition-facts lo hi A (w .states) T e d m in
+          let r = transition-facts lower upper A (w .states) T e d m in
           let k = r .is-range in
           record { known = omega arith; full = r .full; blank = λ z. absurd (omega arith) };
-      ascends = unfold built in transitions-ascend lo hi A T 0 (states T);
+      ascends = unfold subsetAutomaton in transitions-ascend lower upper A T 0 (setsAndSink T);
     }

@@ -15,5 +15,5 @@ labelled (refused n) = refused n
 labelled (given D) = given (record { automaton = D; labels = numbered (D .size) })
 
 -- determinizing a sheet s into the outputs o and l: 20, then the sheet's faults, then 21 and 22
-unfoldable pub determinizeSheet : List ℕ → List ℕ → List ℕ → Answer Pattern
-determinizeSheet s o l = roomFirst o l (sheetFirst s (labelled (determinize 0 4294967295 (read s))))
+unfoldable pub determinizeAnswer : List ℕ → List ℕ → List ℕ → Answer Pattern
+determinizeAnswer s o l = roomFirst o l (sheetFirst s (labelled (determinize 0 4294967295 (read s))))

@@ -11,7 +11,7 @@ ghost use Rattle.words.specs.inner.Gather.{Tables};
 ghost use Rattle.output.specs.Made.{outputOf};
 ghost use Rattle.output.specs.Output.{outputs};
 ghost use Rattle.determinize.specs.Determinize.{determinize};
-ghost use Rattle.determinize.specs.Sheets.{determinizeSheet};
+ghost use Rattle.determinize.specs.Sheets.{determinizeAnswer};
 ghost use Rattle.determinize.specs.inner.Attempts.{Complete};
 ghost use Rattle.determinize.specs.inner.Sheets.{determinizedOf, sheetOutput};
 use output::Made;
@@ -134,7 +134,7 @@ pub fn determinize_accepted(s: &[u32], lower: u32, upper: u32, out: &mut [u32]) 
 
 // Determinizes a sheet: the result at the front of out, its labels D0, D1 and so on at the front of names.
 pub fn determinize(s: &[u32], out: &mut [u32], names: &mut [u8]) -> Made
-    ensures { λ r. ⌜ outputOf r (now (out .exit)) (now (names .exit)) ≡ outputs (now (out .entry)) (now (names .entry)) (determinizeSheet (now (s .entry)) (now (out .entry)) (now (names .entry))) ⌝ }
+    ensures { λ r. ⌜ outputOf r (now (out .exit)) (now (names .exit)) ≡ outputs (now (out .entry)) (now (names .entry)) (determinizeAnswer (now (s .entry)) (now (out .entry)) (now (names .entry))) ⌝ }
 {
     if output::lacks_room(out, names) {
         return Made::Refused(Refusal::State(StateRefusal::OutputLength));

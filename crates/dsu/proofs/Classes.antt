@@ -86,13 +86,13 @@ pub merged-joins : {n : ℕ} {f g : ℕ → ℕ} {x y : ℕ} → x < n → y < n
 merged-joins {n} {f} {g} {x} {y} x-in y-in apart m = record {
   apart = apart;
   joined = m .left x x-in apart ∙ sym (m .moved y y-in refl);
-  kept = λ p q a b e. keep p q a b e (ℕ-discrete (f p) (f y));
+  kept = λ p q a b e. filter p q a b e (ℕ-discrete (f p) (f y));
   only = λ p q a b e. why p q a b e (ℕ-discrete (f p) (f y)) (ℕ-discrete (f q) (f y));
 }
   where
-    keep : (p q : ℕ) → p < n → q < n → f p ≡ f q → Dec (f p ≡ f y) → g p ≡ g q
-    keep p q a b e (yes h) = m .moved p a h ∙ sym (m .moved q b (sym e ∙ h))
-    keep p q a b e (no h) = m .left p a h ∙ e ∙ sym (m .left q b (λ k. h (e ∙ k)))
+    filter : (p q : ℕ) → p < n → q < n → f p ≡ f q → Dec (f p ≡ f y) → g p ≡ g q
+    filter p q a b e (yes h) = m .moved p a h ∙ sym (m .moved q b (sym e ∙ h))
+    filter p q a b e (no h) = m .left p a h ∙ e ∙ sym (m .left q b (λ k. h (e ∙ k)))
 
     why : (p q : ℕ) → p < n → q < n → g p ≡ g q → Dec (f p ≡ f y) → Dec (f q ≡ f y) → Joined (Ker f) x y p q
     why p q a b e (yes h) (yes k) = before (h ∙ sym k)

@@ -12,13 +12,13 @@ use Rattle.dsu.specs.declared.Found.the-variants.{Root, Refused}
 use Rattle.dsu.specs.declared.FindAnswer.{FindAnswer}
 use Rattle.dsu.specs.Sets.{Way, broken, reached, way, foundBy, findOf}
 use Rattle.dsu.specs.Refusals.{OnWay, here, next, Compressed}
-use Rattle.dsu.proofs.Leads.{Leads, after, leads-start, leads-find, way-leads, after-long}
-use Rattle.dsu.proofs.Leads as leads
+use Rattle.dsu.proofs.WayLeads.{WayLeads, after, leads-start, leads-find, way-leads, after-long}
+use Rattle.dsu.proofs.WayLeads as leads
 use Rattle.dsu.proofs.Keep.{set-case}
 
 module _ (d : DSU) where
   abbrev LeadsIn : ℕ → ℕ → Type 0
-  LeadsIn x a = Leads (d .repr) (d .size) (d .n) x a
+  LeadsIn x a = WayLeads (d .repr) (d .size) (d .n) x a
 
   after-passed : {x a y : ℕ} → d .n ≤ length (d .repr) → (t : LeadsIn x a) → OnWay d x y → getD (after t) y 0 ≡ a
   unfolding after

@@ -15,7 +15,7 @@ use Rattle.dsu.specs.declared.Found.the-variants.{Root, Refused}
 use Rattle.dsu.specs.declared.DSU.{DSU}
 use Rattle.dsu.specs.declared.FindAnswer.{FindAnswer}
 use Rattle.dsu.specs.Sets.{Way, broken, reached, point, way, changed, foundBy, findOf}
-use Rattle.dsu.specs.inner.Steps.{Met, climbed, answered}
+use Rattle.dsu.specs.inner.Steps.{SizedElement, climbed, answered}
 use Rattle.dsu.proofs.Ways.{seen-many, seen-none, seen-over, seen-top, seen-outside, seen-small, seen-up, way-fault, way-top, way-up}
 
 -- an answer and the parents with it
@@ -27,7 +27,7 @@ module _ (l z : List ℕ) (n x : ℕ) where
   faulty e = rw e
 
   -- `find_in`: p is the parent
-  module _ (m : Met z n x) (p : ℕ) (is-p : p ≡ getD l x 0) where
+  module _ (m : SizedElement z n x) (p : ℕ) (is-p : p ≡ getD l x 0) where
     pub in-top : p ≡ x → _≡_ {A = Both} (Root (getD l x 0), l) (climbed l (way l z n x))
     in-top h = let e : getD l x 0 ≡ x = sym is-p ∙ h in rw (way-top l z n x (seen-top l z n x m e), e)
 

@@ -4,7 +4,7 @@ use Prim.Native.Nat.{ℕ, _+_, _≤_, _<_}
 use mathlib.Core.Path.{_≡_, sym, subst, _∙_}
 use native.Mathlib.Omega.{arith}
 use Rattle.dsu.specs.Classes.{Classes, none, old, new, Joined, before, across, back}
-use Rattle.dsu.specs.inner.Generated.{Ker, Merges, Generated, pair, same, turn, chain, Spanned}
+use Rattle.dsu.specs.inner.Generated.{Ker, Merges, Generated, pair, reflexive, symmetric, transitive, Spanned}
 use Rattle.dsu.proofs.Classes.{classes-moved}
 
 -- some number, some class
@@ -16,13 +16,13 @@ classes-positive (new o c) h = omega arith
 -- what holds of each pair holds of all that the pairs generate
 pub generated-into : {n : ℕ} {one two : ℕ → ℕ} {k : ℕ} (R : ℕ → ℕ → Type 0) → ((p : ℕ) → p < n → R p p) → ((p q : ℕ) → R p q → R q p) → ((p q s : ℕ) → R p q → R q s → R p s) → ((i : ℕ) → i < k → R (one i) (two i)) → {p q : ℕ} → Generated n one two k p q → R p q
 generated-into R s u c h (pair i b) = h i b
-generated-into R s u c h (same {p = p} b) = s p b
-generated-into R s u c h (turn {p = p} {q = q} l) = u p q (generated-into R s u c h l)
-generated-into R s u c h (chain {p = p} {q = q} {s = w} l m) = c p q w (generated-into R s u c h l) (generated-into R s u c h m)
+generated-into R s u c h (reflexive {p = p} b) = s p b
+generated-into R s u c h (symmetric {p = p} {q = q} l) = u p q (generated-into R s u c h l)
+generated-into R s u c h (transitive {p = p} {q = q} {s = w} l m) = c p q w (generated-into R s u c h l) (generated-into R s u c h m)
 
 -- more pairs generate more
 pub generated-more : {n : ℕ} {one two one′ two′ : ℕ → ℕ} {k m : ℕ} → k ≤ m → ((j : ℕ) → j < k → one′ j ≡ one j) → ((j : ℕ) → j < k → two′ j ≡ two j) → {p q : ℕ} → Generated n one two k p q → Generated n one′ two′ m p q
-generated-more {n} {one} {two} {one′} {two′} {k} {m} h a b l = generated-into (Generated n one′ two′ m) (λ p c. same c) (λ p q l. turn l) (λ p q u l n. chain l n)
+generated-more {n} {one} {two} {one′} {two′} {k} {m} h a b l = generated-into (Generated n one′ two′ m) (λ p c. reflexive c) (λ p q l. symmetric l) (λ p q u l n. transitive l n)
     (λ i c. subst (λ (p : ℕ). Generated n one′ two′ m p (two i)) (a i c) (subst (Generated n one′ two′ m (one′ i)) (b i c) (pair i (omega arith)))) l
 
 -- of the joined pair and of what was joined before, what is joined now
@@ -36,7 +36,7 @@ merged-into {n} {f} {g} {p} {q} m R tn ch h e u v hu hv d = by-way (m .only u v 
 
 -- no pairs: each number is alone
 pub spanned-alone : {n : ℕ} {f : ℕ → ℕ} (one two : ℕ → ℕ) → ((x y : ℕ) → x < n → y < n → f x ≡ f y → x ≡ y) → Classes (Ker f) n n → Spanned n f one two 0
-spanned-alone {n} {f} one two alone c = record { only = λ p q a b e. subst (Generated n one two 0 p) (alone p q a b e) (same a); number = n; classes = c; counted = omega arith }
+spanned-alone {n} {f} one two alone c = record { only = λ p q a b e. subst (Generated n one two 0 p) (alone p q a b e) (reflexive a); number = n; classes = c; counted = omega arith }
 
 -- a pair more, which was apart
 pub spanned-more : {n : ℕ} {f g : ℕ → ℕ} {one two one′ two′ : ℕ → ℕ} {k x y : ℕ} → Spanned n f one two k → Merges n f g x y
@@ -44,7 +44,7 @@ pub spanned-more : {n : ℕ} {f g : ℕ → ℕ} {one two one′ two′ : ℕ �
 spanned-more {n} {f} {g} {one} {two} {one′} {two′} {k} {x} {y} s m a b p q =
     let c = m .fewer (s .number) (s .classes) in
     record {
-      only = merged-into m (Generated n one′ two′ (k + 1)) (λ p q l. turn l) (λ p q s l n. chain l n)
+      only = merged-into m (Generated n one′ two′ (k + 1)) (λ p q l. symmetric l) (λ p q s l n. transitive l n)
           (λ u v hu hv d. generated-more (omega arith) a b (s .only u v hu hv d))
           (subst (λ (u : ℕ). Generated n one′ two′ (k + 1) u y) p (subst (Generated n one′ two′ (k + 1) (one′ k)) q (pair k (omega arith))));
       number = c .0;

@@ -21,7 +21,7 @@ use Rattle.dsu.specs.declared.United.the-variants as united
 use Rattle.dsu.specs.Sets.{Way, broken, reached, way, changed, refuse, After, join, joinSecond, joinFirst, unionIn, madeOf, unionOf}
 use Rattle.dsu.specs.inner.Steps.{Roots, climbed, answered}
 use Rattle.dsu.proofs.United.{the-type}
-use Rattle.dsu.proofs.Leads.{leads-end, way-leads}
+use Rattle.dsu.proofs.WayLeads.{leads-end, way-leads}
 
 -- `join_roots`
 module _ (l z : List ℕ) (n a b : ℕ) where

@@ -7,10 +7,10 @@ use native.Mathlib.Omega.{arith}
 use lib.ListN.{length, getD, set, length-set}
 use lib.Seq.{getD-set-same, getD-set-other}
 use Rattle.dsu.specs.inner.Lent.{setsOf}
-use Rattle.dsu.specs.inner.Steps.{Met}
+use Rattle.dsu.specs.inner.Steps.{SizedElement}
 use Rattle.dsu.specs.Laws.{classOf, count, Valid}
 use Rattle.dsu.proofs.Count.{count-cong}
-use Rattle.dsu.proofs.Leads.{Leads, here, above, after, leads-start, leads-end, leads-lt, leads-class, pointed-leads, end-apart, after-leads}
+use Rattle.dsu.proofs.WayLeads.{WayLeads, here, above, after, leads-start, leads-end, leads-lt, leads-class, pointed-leads, end-apart, after-leads}
 
 -- what holds of the element at y after a store at x, by whether y is x
 pub set-case : (P : ℕ → Type 0) (l : List ℕ) (x a y : ℕ) → x < length l → (y ≡ x → P a) → ((y ≡ x → ⊥) → P (getD l y 0)) → P (getD (set l x a) y 0)
@@ -21,27 +21,27 @@ set-case P l x a y h f g = by-place (ℕ-discrete y x)
     by-place (no e) = subst P (sym (getD-set-other l x y a 0 e)) (g e)
 
 module _ (l z : List ℕ) (n : ℕ) (v : Valid (setsOf l z n)) where
-  pub met : (x : ℕ) → x < n → Met z n x
+  pub met : (x : ℕ) → x < n → SizedElement z n x
   met x h = record { few = v .few; inside = h; some = v .some x h; fits = v .fits x h }
 
   -- the first number bounds the steps
-  leads-some : (k x : ℕ) → x < n → n < k + getD z x 0 → (a : ℕ) × Leads l z n x a
+  leads-some : (k x : ℕ) → x < n → n < k + getD z x 0 → (a : ℕ) × WayLeads l z n x a
   leads-some zero x h b = absurd (omega (arith, v .fits x h))
   leads-some (suc k) x h b = by-parent (λ c. leads-some k (getD l x 0) (v .inside x h) c) (ℕ-discrete (getD l x 0) x)
     where
-      by-parent : (n < k + getD z (getD l x 0) 0 → (a : ℕ) × Leads l z n (getD l x 0) a) → Dec (getD l x 0 ≡ x) → (a : ℕ) × Leads l z n x a
+      by-parent : (n < k + getD z (getD l x 0) 0 → (a : ℕ) × WayLeads l z n (getD l x 0) a) → Dec (getD l x 0 ≡ x) → (a : ℕ) × WayLeads l z n x a
       by-parent ih (yes e) = (x, here (met x h) e)
       by-parent ih (no e) =
           let w = ih (omega (arith, v .grows x h e)) in
           (w .0, above (met x h) (record { apart = e; inside = v .inside x h; grows = v .grows x h e }) (w .1))
 
-  pub leads-to-class : (x : ℕ) → x < n → Leads l z n x (classOf (setsOf l z n) x)
+  pub leads-to-class : (x : ℕ) → x < n → WayLeads l z n x (classOf (setsOf l z n) x)
   leads-to-class x h =
       let w = leads-some (suc n) x h (omega (arith, v .some x h)) in
-      subst (λ (a : ℕ). Leads l z n x a) (sym (leads-class (w .1))) (w .1)
+      subst (λ (a : ℕ). WayLeads l z n x a) (sym (leads-class (w .1))) (w .1)
 
   -- x is pointed at its representative a
-  module _ (x a : ℕ) (t : Leads l z n x a) (apart : a ≡ x → ⊥) where
+  module _ (x a : ℕ) (t : WayLeads l z n x a) (apart : a ≡ x → ⊥) where
     x-in : x < length l
     x-in = omega (arith, v .long-repr, leads-start t .inside)
 
@@ -61,10 +61,10 @@ module _ (l z : List ℕ) (n : ℕ) (v : Valid (setsOf l z n)) where
     }
 
 -- what `find` leaves
-pub after-valid : {l z : List ℕ} {n x a : ℕ} → Valid (setsOf l z n) → (t : Leads l z n x a) → Valid (setsOf (after t) z n)
+pub after-valid : {l z : List ℕ} {n x a : ℕ} → Valid (setsOf l z n) → (t : WayLeads l z n x a) → Valid (setsOf (after t) z n)
 unfolding after
 after-valid v (here m e) = v
 after-valid {l} {z} {n} v (above {x = x} {a = a} m h t) = pointed-valid (after t) z n (after-valid v t) x a (after-leads (v .long-repr) t (above m h t)) (end-apart h t)
 
-pub after-class : {l z : List ℕ} {n x a : ℕ} → Valid (setsOf l z n) → (t : Leads l z n x a) (y : ℕ) → y < n → classOf (setsOf (after t) z n) y ≡ classOf (setsOf l z n) y
+pub after-class : {l z : List ℕ} {n x a : ℕ} → Valid (setsOf l z n) → (t : WayLeads l z n x a) (y : ℕ) → y < n → classOf (setsOf (after t) z n) y ≡ classOf (setsOf l z n) y
 after-class {l} {z} {n} v t y h = leads-class (after-leads (v .long-repr) t (leads-to-class l z n v y h))

@@ -16,12 +16,12 @@ use Rattle.dsu.specs.declared.United.{United}
 use Rattle.dsu.specs.declared.United.the-variants as united
 use Rattle.dsu.specs.Sets.{findOf, After, under, join, unionIn, madeOf, unionOf, upTo, fresh, newOf}
 use Rattle.dsu.specs.inner.Lent.{setsOf}
-use Rattle.dsu.specs.inner.Steps.{Met}
+use Rattle.dsu.specs.inner.Steps.{SizedElement}
 use Rattle.dsu.specs.Classes.{Classes, before}
 use Rattle.dsu.specs.Laws.{classOf, Same, Valid, NewLaw, FindLaw, UnionLaw}
 use Rattle.dsu.proofs.Count.{count-one}
 use Rattle.dsu.proofs.Classes.{classes-unique, classes-some, classes-moved, classes-alone, Joins, turned, merged-joins, classes-fewer}
-use Rattle.dsu.proofs.Leads.{Leads, here, after, leads-end, leads-way, leads-find, leads-class}
+use Rattle.dsu.proofs.WayLeads.{WayLeads, here, after, leads-end, leads-way, leads-find, leads-class}
 use Rattle.dsu.proofs.Keep.{leads-to-class, after-valid, after-class}
 use Rattle.dsu.proofs.Merge.{Apart, two-fit, merged-class, merged-valid}
 
@@ -136,7 +136,7 @@ module _ (d : DSU) (m : List ℕ) (v : Valid (setsOf m (d .size) (d .n))) (same 
     abbrev b : ℕ
     b = classOf d y
 
-    join-unites : Met (d .size) (d .n) a × (getD m a 0 ≡ a) → Met (d .size) (d .n) b × (getD m b 0 ≡ b) → UnitesIn d x y (join m (d .size) (d .n) a b)
+    join-unites : SizedElement (d .size) (d .n) a × (getD m a 0 ≡ a) → SizedElement (d .size) (d .n) b × (getD m b 0 ≡ b) → UnitesIn d x y (join m (d .size) (d .n) a b)
     unfolding join
     join-unites ra rb = by-same (ℕ-discrete a b)
       where
@@ -161,10 +161,10 @@ union-unites d x y v x-in y-in =
     let s = leads-to-class (d .repr) z n v x x-in in
     let v₁ = after-valid v s in
     let same₁ = after-class v s in
-    let t = subst (λ (b : ℕ). Leads (after s) z n y b) (same₁ y y-in) (leads-to-class (after s) z n v₁ y y-in) in
+    let t = subst (λ (b : ℕ). WayLeads (after s) z n y b) (same₁ y y-in) (leads-to-class (after s) z n v₁ y y-in) in
     let v₂ = after-valid v₁ t in
     let same₂ : (w : ℕ) → w < n → classOf (setsOf (after t) z n) w ≡ classOf d w = λ w h. after-class v₁ t w h ∙ same₁ w h in
-    let end : (w : ℕ) → w < n → Met z n (classOf d w) × (getD (after t) (classOf d w) 0 ≡ classOf d w) = λ w h. leads-end (subst (Leads (after t) z n w) (same₂ w h) (leads-to-class (after t) z n v₂ w h)) in
+    let end : (w : ℕ) → w < n → SizedElement z n (classOf d w) × (getD (after t) (classOf d w) 0 ≡ classOf d w) = λ w h. leads-end (subst (WayLeads (after t) z n w) (same₂ w h) (leads-to-class (after t) z n v₂ w h)) in
     let is : unionIn (d .repr) z n x y ≡ join (after t) z n (classOf d x) (classOf d y) = rw (lt-leb n x x-in, lt-leb n y y-in, leads-way s, leads-way t) in
     subst (UnitesIn d x y) (sym is) (join-unites d (after t) v₂ same₂ x y x-in y-in (end x x-in) (end y y-in))
 

@@ -4,7 +4,7 @@ pub mod Finding
 pub mod Joining
 pub mod Fresh
 pub mod Count
-pub mod Leads
+pub mod WayLeads
 pub mod Keep
 pub mod Merge
 pub mod Classes

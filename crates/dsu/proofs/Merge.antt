@@ -8,11 +8,11 @@ use native.Mathlib.Omega.{arith}
 use lib.ListN.{length, getD, set, length-set}
 use lib.Seq.{getD-set-same, getD-set-other}
 use Rattle.dsu.specs.inner.Lent.{setsOf}
-use Rattle.dsu.specs.inner.Steps.{Met}
+use Rattle.dsu.specs.inner.Steps.{SizedElement}
 use Rattle.dsu.specs.Laws.{classOf, count, Valid}
 use Rattle.dsu.proofs.Ways.{Higher}
 use Rattle.dsu.proofs.Count.{count-two, Merged, count-win, count-rest}
-use Rattle.dsu.proofs.Leads.{Leads, here, above, leads-class}
+use Rattle.dsu.proofs.WayLeads.{WayLeads, here, above, leads-class}
 use Rattle.dsu.proofs.Keep.{set-case, leads-to-class}
 
 -- two roots, and their sizes together
@@ -58,21 +58,21 @@ module _ (l z : List ℕ) (n : ℕ) (v : Valid (setsOf l z n)) (a b : ℕ) (r : 
   still-fits : (y : ℕ) → y < n → getD sized y 0 ≤ n
   still-fits y h = set-case (λ (k : ℕ). k ≤ n) z a joint y a-long (λ e. two-fit) (λ e. v .fits y h)
 
-  still-met : (y : ℕ) → y < n → Met sized n y
+  still-met : (y : ℕ) → y < n → SizedElement sized n y
   still-met y h = record { few = v .few; inside = h; some = omega (arith, v .some y h, no-less y); fits = still-fits y h }
 
-  a-leads : Leads parents sized n a a
+  a-leads : WayLeads parents sized n a a
   a-leads = here (still-met a (r .a-in)) (getD-set-other l b a a 0 (r .apart) ∙ r .a-root)
 
-  b-leads : Leads parents sized n b a
+  b-leads : WayLeads parents sized n b a
   b-leads = above {a = a} (still-met b (r .b-in)) (record { apart = λ e. r .apart (sym b-parent ∙ e); inside = rw b-parent (r .a-in); grows = rw b-parent b-below-a }) (rw b-parent a-leads)
 
   -- an element that is not its own parent is none of the two
   not-root : (y c : ℕ) → (getD l y 0 ≡ y → ⊥) → getD l c 0 ≡ c → y ≡ c → ⊥
   not-root y c h e q = h (ap (λ (k : ℕ). getD l k 0) q ∙ e ∙ sym q)
 
-  merged-leads : {y c : ℕ} → Leads l z n y c → (c ≡ b → Leads parents sized n y a) × ((c ≡ b → ⊥) → Leads parents sized n y c)
-  merged-leads (here {x = y} m e) = (λ q. subst (λ (k : ℕ). Leads parents sized n k a) (sym q) b-leads, λ h. here (still-met y (m .inside)) (getD-set-other l b y a 0 h ∙ e))
+  merged-leads : {y c : ℕ} → WayLeads l z n y c → (c ≡ b → WayLeads parents sized n y a) × ((c ≡ b → ⊥) → WayLeads parents sized n y c)
+  merged-leads (here {x = y} m e) = (λ q. subst (λ (k : ℕ). WayLeads parents sized n k a) (sym q) b-leads, λ h. here (still-met y (m .inside)) (getD-set-other l b y a 0 h ∙ e))
   merged-leads (above {x = y} {a = c} m h t) =
       let ih = merged-leads t in
       let p : getD parents y 0 ≡ getD l y 0 = getD-set-other l b y a 0 (not-root y b (h .apart) (r .b-root)) in

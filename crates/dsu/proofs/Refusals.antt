@@ -15,7 +15,7 @@ use Rattle.dsu.specs.declared.Answer.{Answer}
 use Rattle.dsu.specs.Sets.{Seen, top, up, fault, seen, Way, broken, reached, point, onward, walk, way, findOf, After, under, join, joinSecond, joinFirst, unionIn, madeOf, unionOf, newOf}
 use Rattle.dsu.specs.Laws.{classOf}
 use Rattle.dsu.specs.Refusals.{foundNumber, outcomeNumber, OnWay, here, next, Fault, many, outside, small, no-size, large, Broken, TooLarge, BrokenUnion, first, second, joint, NewRefusals, FindRefusals, UnionRefusals}
-use Rattle.dsu.proofs.Leads.{Leads, after, leads-start, leads-way, leads-class, way-leads, after-leads, after-back}
+use Rattle.dsu.proofs.WayLeads.{WayLeads, after, leads-start, leads-way, leads-class, way-leads, after-leads, after-back}
 use Rattle.dsu.proofs.Ways.{fault-top, fault-up, seen-many, seen-none, seen-over, at-top, at-up, way-fault, way-up}
 
 -- a call that gets past 23: refused with 24 where P holds, and as it was, or passed
@@ -138,7 +138,7 @@ module _ (d : DSU) where
     union-ways w e = rw (lt-leb n x x-in, lt-leb n y y-in, e)
 
     -- the way of x leads to a; then that of y, with the parents afterwards
-    module _ (a : ℕ) (t : Leads l z n x a) where
+    module _ (a : ℕ) (t : WayLeads l z n x a) where
       after-ways : (w : Way) → way (after t) z n y ≡ w → joinSecond (after t) z n a w ≡ unionIn l z n x y
       after-ways w e = ap (joinSecond (after t) z n a) (sym e) ∙ union-ways (reached a (after t)) (leads-way t)
 
@@ -156,8 +156,8 @@ module _ (d : DSU) where
               let v : _≡_ {A = ℕ} 0 1 = cc in absurd (omega arith)
 
       -- that of y leads to b
-      module _ (b : ℕ) (s : Leads (after t) z n y b) where
-        y-leads : Leads l z n y b
+      module _ (b : ℕ) (s : WayLeads (after t) z n y b) where
+        y-leads : WayLeads l z n y b
         y-leads = after-back fits t s
 
         no-fault : (TooLarge d x y → ⊥) → BrokenUnion d x y → ⊥
@@ -181,7 +181,7 @@ module _ (d : DSU) where
     union-answers : UnionAnswers (unionIn l z n x y)
     union-answers = by-first (way l z n x) refl
       where
-        by-second : (a : ℕ) (t : Leads l z n x a) (w : Way) → way (after t) z n y ≡ w → UnionAnswers (unionIn l z n x y)
+        by-second : (a : ℕ) (t : WayLeads l z n x a) (w : Way) → way (after t) z n y ≡ w → UnionAnswers (unionIn l z n x y)
         by-second a t broken e = subst UnionAnswers (after-ways a t broken e) (refused (second (after-broken a t e)) refl refl)
         by-second a t (reached b m) e = let s = way-leads (after t) z n y b m y-in e in subst UnionAnswers (after-ways a t (reached b (after s)) (leads-way s)) (join-answers a t b s)
 

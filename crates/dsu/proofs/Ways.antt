@@ -8,7 +8,7 @@ use lib.Dec.{leb, ltb, eqb}
 use lib.ListN.{getD}
 use borrow.Author.Tests.{lt-ltb, le-ltb, le-leb, lt-leb, eq-eqb, ne-eqb, ltb-false, leb-false, eqb-true, eqb-false}
 use Rattle.dsu.specs.Sets.{Seen, top, up, fault, seen, broken, reached, point, onward, walk, way}
-use Rattle.dsu.specs.inner.Steps.{Met}
+use Rattle.dsu.specs.inner.Steps.{SizedElement}
 
 cond-same : {A : Type 0} (b : Bool) (a : A) → cond b a a ≡ a
 cond-same true a = refl
@@ -37,7 +37,7 @@ module _ (l z : List ℕ) (n x : ℕ) where
   unfolding seen
   seen-over h = rw (lt-ltb n (getD z x 0) h, cond-same (eqb (getD z x 0) 0) fault) (cond-same (ltb 512 n) fault)
 
-  module _ (m : Met z n x) where
+  module _ (m : SizedElement z n x) where
     seen-met : seen l z n x ≡ cond (eqb (getD l x 0) x) top parent-seen
     unfolding seen parent-seen
     seen-met = rw (le-ltb 512 n (m .few), ne-eqb (getD z x 0) 0 (λ e. omega (arith, m .some)), le-ltb n (getD z x 0) (m .fits))
@@ -77,7 +77,7 @@ pub fault-up : fault ≡ up → ⊥
 fault-up e = let q : _≡_ {A = ℕ} 0 1 = cc in omega arith
 
 module _ (l z : List ℕ) (n x : ℕ) where
-  no-fault : (s : Seen) → (fault ≡ s → ⊥) → seen l z n x ≡ s → (x < n → Met z n x) × (cond (eqb (getD l x 0) x) top (parent-seen l z n x) ≡ s)
+  no-fault : (s : Seen) → (fault ≡ s → ⊥) → seen l z n x ≡ s → (x < n → SizedElement z n x) × (cond (eqb (getD l x 0) x) top (parent-seen l z n x) ≡ s)
   unfolding seen parent-seen
   no-fault s h e =
       let q₁ = cond-else (ltb 512 n) fault _ s h e in
@@ -101,10 +101,10 @@ module _ (l z : List ℕ) (n x : ℕ) where
       let q = cond-else (leb n (getD l x 0)) fault _ top fault-top e in
       absurd (top-up (sym (cond-else (leb (getD z (getD l x 0) 0) (getD z x 0)) fault up top fault-top (q .1) .1)))
 
-  pub at-top : x < n → seen l z n x ≡ top → Met z n x × (getD l x 0 ≡ x)
+  pub at-top : x < n → seen l z n x ≡ top → SizedElement z n x × (getD l x 0 ≡ x)
   at-top i e = let q = no-fault top fault-top e in (q .0 i, own (eqb (getD l x 0) x) refl (q .1))
 
-  pub at-up : seen l z n x ≡ up → (x < n → Met z n x) × Higher l z n x
+  pub at-up : seen l z n x ≡ up → (x < n → SizedElement z n x) × Higher l z n x
   at-up e = let q = no-fault up fault-up e in (q .0, higher (q .1))
 
 -- the steps of a way

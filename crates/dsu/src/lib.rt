@@ -5,7 +5,7 @@ ghost use Prim.Native.Nat.{ℕ, _<_};
 ghost use Rattle.dsu.specs.declared.Found.{Found};
 ghost use Rattle.dsu.specs.Sets.{way, After, join, unionIn, newOf, findOf, unionOf};
 ghost use Rattle.dsu.specs.inner.Lent.{setsOf, JoinLaw};
-ghost use Rattle.dsu.specs.inner.Steps.{Met, Roots, answered, climbed};
+ghost use Rattle.dsu.specs.inner.Steps.{SizedElement, Roots, answered, climbed};
 ghost use Rattle.dsu.specs.Laws.{Valid};
 use refusal::StateRefusal;
 
@@ -53,7 +53,7 @@ fn wide(x: u32) -> usize
 // The representative of x, an element with a size as it should be; each element passed points at it afterwards. A broken
 // value makes this 512 calls deep, so the arrays are lent and none is copied.
 fn find_in(repr: &mut [u32; 512], size: &[u32; 512], n: usize, x: usize) -> Found
-    requires { ⌜ Met (now size) n x ⌝ }
+    requires { ⌜ SizedElement (now size) n x ⌝ }
     ensures { λ r. ⌜ _≡_ {A = Found × List ℕ} (r, now (repr .exit)) (climbed (now (repr .entry)) (way (now (repr .entry)) (now (size .entry)) n x)) ⌝ }
 {
     let parent = repr[x];

@@ -21,10 +21,10 @@ use Rattle.sheets.proofs.Accepted.{check-accepted}
 use Rattle.sheets.proofs.Below.{blank-at}
 use Rattle.sheets.proofs.Checking.{sheet-passed, sheet-refused}
 use Rattle.sheets.proofs.Runs.{starts-indexed}
-use Rattle.emptiness.specs.inner.Marks.{Ready}
+use Rattle.emptiness.specs.inner.Marks.{UnmarkedSearch}
 use Rattle.emptiness.specs.Reachable.{hasReachableAccepting, reachableAnswer}
 
-pub all-ready : (s old starts : List ℕ) → Accepted.Accepted s → starts ≡ sets old 0 (startsOf s) → length old ≡ 257 → Ready s starts (replicate 256 0) (replicate 256 0)
+pub all-ready : (s old starts : List ℕ) → Accepted.Accepted s → starts ≡ sets old 0 (startsOf s) → length old ≡ 257 → UnmarkedSearch s starts (replicate 256 0) (replicate 256 0)
 all-ready s old starts a e l =
     record {
       accepted = a;

@@ -11,7 +11,7 @@ use borrow.Author.Tests.{eq-eqb, eqb-true, eqb-false}
 use lib.Dec.{eqb}
 use lib.ListN.{length, getD, drop, set, length-set}
 use lib.Seq.{getD-set-same, getD-set-other}
-use Rattle.lists.specs.Lists.{_∈_, keep}
+use Rattle.lists.specs.Lists.{_∈_, filter}
 use Rattle.lists.proofs.Tests.{test}
 use Rattle.automata.specs.Automaton.{Transition}
 use Rattle.automata.specs.Records.{readRecords}
@@ -19,34 +19,34 @@ use Rattle.automata.specs.inner.Records.{recordAt}
 use Rattle.automata.proofs.Records.{records-at, records-end}
 use Rattle.sheets.specs.inner.Runs.{Named}
 use Rattle.sheets.proofs.Named.{named-target, named-next}
-use Rattle.emptiness.specs.inner.Marks.{Met, unmet, Skipped, Room, Pushed}
+use Rattle.emptiness.specs.inner.Marks.{Marked, unmet, Skipped, StackRoom, Pushed}
 
 -- one mark more
 module _ (marks : List ℕ) (t : ℕ) (l : t < length marks) where
-  pub mark-here : Met (set marks t 1) t
+  pub mark-here : Marked (set marks t 1) t
   mark-here = rw (getD-set-same marks t 1 0 l) (omega arith)
 
-  pub mark-out : (q : ℕ) → Met (set marks t 1) q → (q ≡ t) ⊎ Met marks q
+  pub mark-out : (q : ℕ) → Marked (set marks t 1) q → (q ≡ t) ⊎ Marked marks q
   mark-out q h = ⊎-elim (λ e. inl (eqb-true q t e)) (λ n. inr (rw (getD-set-other marks t q 1 0 (eqb-false q t n)) at h)) (test (eqb q t))
 
-  pub mark-old : (q : ℕ) → Met marks q → Met (set marks t 1) q
-  mark-old q h = ⊎-elim (λ e. subst (Met (set marks t 1)) (sym (eqb-true q t e)) mark-here) (λ n. rw (getD-set-other marks t q 1 0 (eqb-false q t n)) h) (test (eqb q t))
+  pub mark-old : (q : ℕ) → Marked marks q → Marked (set marks t 1) q
+  mark-old q h = ⊎-elim (λ e. subst (Marked (set marks t 1)) (sym (eqb-true q t e)) mark-here) (λ n. rw (getD-set-other marks t q 1 0 (eqb-false q t n)) h) (test (eqb q t))
 
 pub unmet-less : (marks : List ℕ) (t : ℕ) → t < length marks → getD marks t 0 ≡ 0 → suc (unmet (set marks t 1)) ≡ unmet marks
-unfolding unmet keep
+unfolding unmet filter
 unmet-less [] t l h = absurd (omega arith)
 unmet-less (x ∷ marks) zero l h = rw (eq-eqb x 0 h)
 unmet-less (x ∷ marks) (suc t) l h = go (eqb x 0) (unmet-less marks t (omega arith) h)
   where
     go : (b : Bool) → suc (unmet (set marks t 1)) ≡ unmet marks
-        → suc (length (cond b (x ∷ keep (λ y. eqb y 0) (set marks t 1)) (keep (λ y. eqb y 0) (set marks t 1)))) ≡ length (cond b (x ∷ keep (λ y. eqb y 0) marks) (keep (λ y. eqb y 0) marks))
+        → suc (length (cond b (x ∷ filter (λ y. eqb y 0) (set marks t 1)) (filter (λ y. eqb y 0) (set marks t 1)))) ≡ length (cond b (x ∷ filter (λ y. eqb y 0) marks) (filter (λ y. eqb y 0) marks))
     go true e = ap suc e
     go false e = e
 
 -- the targets of the records before `at` were met
 pub record Passed (run marks : List ℕ) (at : ℕ) : Type 0 where
   pub among : (e : Transition) → e ∈ readRecords (drop at run) → e ∈ readRecords run
-  pub before : (e : Transition) → e ∈ readRecords run → Met marks (e .to) ⊎ (e ∈ readRecords (drop at run))
+  pub before : (e : Transition) → e ∈ readRecords run → Marked marks (e .to) ⊎ (e ∈ readRecords (drop at run))
 
 pub skip-begins : (run marks : List ℕ) → Passed run marks 0
 skip-begins run marks = record { among = λ e m. m; before = λ e m. inr m }
@@ -65,8 +65,8 @@ module _ (run marks : List ℕ) (at : ℕ) (p : Passed run marks at) where
         before = λ e m. ⊎-elim inl (λ i. one e (rw (records-at run at h) at i)) (p .before e m);
       }
     where
-      one : (e : Transition) → e ∈ (recordAt run at ∷ readRecords (drop (at + 5) run)) → Met marks (e .to) ⊎ (e ∈ readRecords (drop (at + 5) run))
-      one e (List·Memᴰ·head q) = inl (subst (λ (d : Transition). Met marks (d .to)) (sym q) (omega (arith, z)))
+      one : (e : Transition) → e ∈ (recordAt run at ∷ readRecords (drop (at + 5) run)) → Marked marks (e .to) ⊎ (e ∈ readRecords (drop (at + 5) run))
+      one e (List·Memᴰ·head q) = inl (subst (λ (d : Transition). Marked marks (d .to)) (sym q) (omega (arith, z)))
       one e (List·Memᴰ·tail i) = inr i
 
 pub ruleset skipLaws = (skip-begins, skip-ended, skip-found, skip-next, named-target, named-next, needs)
@@ -74,7 +74,7 @@ pub ruleset skipLaws = (skip-begins, skip-ended, skip-found, skip-next, named-ta
 -- one transition of those that are still to be followed
 module _ (marks stack : List ℕ) (top : ℕ) (es : List Transition) (d : Transition) (ds : List Transition) (m s : List ℕ) (e : ℕ)
     (p : Pushed marks stack top es (d ∷ ds) m s e) where
-  pushed-met : Met m (d .to) → Pushed marks stack top es ds m s e
+  pushed-met : Marked m (d .to) → Pushed marks stack top es ds m s e
   pushed-met h =
       record {
         room = p .room;
@@ -89,8 +89,8 @@ module _ (marks stack : List ℕ) (top : ℕ) (es : List Transition) (d : Transi
         entered = p .entered;
       }
     where
-      one : (x : Transition) → x ∈ (d ∷ ds) → Met m (x .to) ⊎ (x ∈ ds)
-      one x (List·Memᴰ·head q) = inl (subst (λ (y : Transition). Met m (y .to)) (sym q) h)
+      one : (x : Transition) → x ∈ (d ∷ ds) → Marked m (x .to) ⊎ (x ∈ ds)
+      one x (List·Memᴰ·head q) = inl (subst (λ (y : Transition). Marked m (y .to)) (sym q) h)
       one x (List·Memᴰ·tail i) = inr i
 
   module _ (u : d .to < 256) (z : getD m (d .to) 0 ≡ 0) where
@@ -125,8 +125,8 @@ module _ (marks stack : List ℕ) (top : ℕ) (es : List Transition) (d : Transi
               last j b (λ c. rw c (mark-here m (d .to) inside)) (λ c o. rw o (mark-old m (d .to) inside _ (p .entered j a c)));
         }
       where
-        one : (x : Transition) → x ∈ (d ∷ ds) → Met (set m (d .to) 1) (x .to) ⊎ (x ∈ ds)
-        one x (List·Memᴰ·head q) = inl (subst (λ (y : Transition). Met (set m (d .to) 1) (y .to)) (sym q) (mark-here m (d .to) inside))
+        one : (x : Transition) → x ∈ (d ∷ ds) → Marked (set m (d .to) 1) (x .to) ⊎ (x ∈ ds)
+        one x (List·Memᴰ·head q) = inl (subst (λ (y : Transition). Marked (set m (d .to) 1) (y .to)) (sym q) (mark-here m (d .to) inside))
         one x (List·Memᴰ·tail i) = inr i
 
         below : {j : ℕ} → j < e → j < e + 1
@@ -141,7 +141,7 @@ module _ (marks stack : List ℕ) (top : ℕ) (es : List Transition) (d : Transi
             le-of k = omega arith
 
 -- a run, record by record
-pub push-begins : (marks stack run : List ℕ) (top : ℕ) → Room marks stack top → Pushed marks stack top (readRecords run) (readRecords (drop 0 run)) marks stack top
+pub push-begins : (marks stack run : List ℕ) (top : ℕ) → StackRoom marks stack top → Pushed marks stack top (readRecords run) (readRecords (drop 0 run)) marks stack top
 push-begins marks stack run top r =
     record {
       room = r;

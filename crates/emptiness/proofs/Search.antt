@@ -11,7 +11,7 @@ use borrow.Author.Tests.{eq-eqb, eqb-true, leb-true, leb-false}
 use lib.Dec.{eqb, leb}
 use lib.ListN.{length, getD, take, drop, set, length-set}
 use Rattle.lists.specs.Lists.{_∈_}
-use Rattle.lists.proofs.Lists.{keep-in, keep-out, length-keep}
+use Rattle.lists.proofs.Lists.{filter-in, filter-out, length-filter}
 use Rattle.lists.proofs.Parts.{part-all}
 use Rattle.lists.proofs.Tests.{test}
 use Rattle.automata.specs.Automaton.{Transition, Automaton, InBounds, leaving}
@@ -24,7 +24,7 @@ use Rattle.sheets.specs.Sheet.{stateCount, read}
 use Rattle.sheets.proofs.Meaning.{read-well}
 use Rattle.sheets.proofs.Named.{run-named, named-target, named-next}
 use Rattle.sheets.proofs.Runs.{run-at}
-use Rattle.emptiness.specs.inner.Marks.{Met, unmet, Skipped, Room, Pushed, Done, Searched, Ready}
+use Rattle.emptiness.specs.inner.Marks.{Marked, unmet, Skipped, StackRoom, Pushed, Done, Searched, UnmarkedSearch}
 use Rattle.emptiness.specs.Reachable.{Path, stay, follow, hasReachableAccepting}
 use Rattle.emptiness.proofs.Marks.{mark-here, mark-out, mark-old, unmet-less}
 use Rattle.emptiness.proofs.Theorems.{accepting-paths}
@@ -39,7 +39,7 @@ path-bound ok l stay = l
 path-bound ok l (follow e m f r) = path-bound ok (ok .tos e m) r
 
 -- what is done stays so when more states are met
-done-more : {A : Automaton} {marks after : List ℕ} {x : ℕ} → ((q : ℕ) → Met marks q → Met after q) → Done A marks x → Done A after x
+done-more : {A : Automaton} {marks after : List ℕ} {x : ℕ} → ((q : ℕ) → Marked marks q → Marked after q) → Done A marks x → Done A after x
 done-more f d = record { rejects = d .rejects; followed = λ e m h. f (e .to) (d .followed e m h) }
 
 module _ (s : List ℕ) (a : Accepted s) (marks stack : List ℕ) (top q : ℕ) (t : Searched (read s) marks stack top q) where
@@ -52,7 +52,7 @@ module _ (s : List ℕ) (a : Accepted s) (marks stack : List ℕ) (top q : ℕ) 
   pub state-bound : q < stateCount s
   state-bound = path-bound ok (ok .starts) way
 
-  pub state-run : (starts old line : List ℕ) → Ready s starts old line → RunAt s starts q
+  pub state-run : (starts old line : List ℕ) → UnmarkedSearch s starts old line → RunAt s starts q
   state-run starts old line r = run-at s a starts q (r .indexed) state-bound
 
   -- a state that accepts is found
@@ -66,11 +66,11 @@ module _ (s : List ℕ) (a : Accepted s) (marks stack : List ℕ) (top q : ℕ) 
 
     run-in : (d : Transition) → d ∈ read s .transitions → d .from ≡ q → d ∈ readRecords run
     unfolding leaving
-    run-in d i f = rw records (keep-in _ i (eq-eqb (d .from) q f))
+    run-in d i f = rw records (filter-in _ i (eq-eqb (d .from) q f))
 
     run-out : (d : Transition) → d ∈ readRecords run → Path (read s) (getD s 1 0) (d .to)
     unfolding leaving
-    run-out d i = let r = keep-out _ d (read s .transitions) (rw records at i) in path-more way d (r .0) (eqb-true _ _ (r .1))
+    run-out d i = let r = filter-out _ d (read s .transitions) (rw records at i) in path-more way d (r .0) (eqb-true _ _ (r .1))
 
     names : Named (readRecords run)
     names = run-named s a q run e
@@ -88,10 +88,10 @@ module _ (s : List ℕ) (a : Accepted s) (marks stack : List ℕ) (top q : ℕ) 
       search-end z =
           ⊎-elim (λ b. let r = accepting-paths (read s) ok .0 b in absurd (no (r .0) (r .1) (r .2))) sym (test (hasReachableAccepting (read s)))
         where
-          all : (x : ℕ) → Met marks x → Done (read s) marks x
+          all : (x : ℕ) → Marked marks x → Done (read s) marks x
           all x m = ⊎-elim (λ c. subst (Done (read s) marks) (sym c) state-done) (⊎-elim (λ r. let l = r .1 in absurd (omega arith)) (λ d. d)) (t .others x m)
 
-          closed : {p x : ℕ} → Met marks p → Path (read s) p x → Met marks x
+          closed : {p x : ℕ} → Marked marks p → Path (read s) p x → Marked marks x
           closed m stay = m
           closed {p} m (follow d i f r) = closed (all p m .followed d i f) r
 
@@ -143,10 +143,10 @@ module _ (s : List ℕ) (a : Accepted s) (marks stack : List ℕ) (top q : ℕ) 
       next-named : Named (readRecords (take (length run - (at + 5)) (drop (at + 5) run)))
       next-named = subst (λ (l : List ℕ). Named (readRecords l)) (sym (part-all (at + 5) run)) (named-next run at left h)
 
-      next-room : Room (set marks (getD run (at + 4) 0) 1) stack top
+      next-room : StackRoom (set marks (getD run (at + 4) 0) 1) stack top
       next-room = record { wide = length-set marks _ 1 ∙ t .room .wide; long = t .room .long; enough = omega (arith, t .room .enough, next-fewer) }
 
-      pub next-asked : Named (readRecords (take (length run - (at + 5)) (drop (at + 5) run))) × Room (set marks (getD run (at + 4) 0) 1) stack top
+      pub next-asked : Named (readRecords (take (length run - (at + 5)) (drop (at + 5) run))) × StackRoom (set marks (getD run (at + 4) 0) 1) stack top
       next-asked = (next-named, next-room)
 
       module _ (after line : List ℕ) (end : ℕ)
@@ -154,10 +154,10 @@ module _ (s : List ℕ) (a : Accepted s) (marks stack : List ℕ) (top q : ℕ) 
         pub next-less : 2 * unmet after + end < 2 * unmet marks + top
         next-less = omega (arith, p .total, p .grows, next-fewer)
 
-        old : (x : ℕ) → Met marks x → Met after x
+        old : (x : ℕ) → Marked marks x → Marked after x
         old x m = p .old x (mark-old marks _ next-inside x m)
 
-        this : Met after (getD run (at + 4) 0)
+        this : Marked after (getD run (at + 4) 0)
         this = p .old _ (mark-here marks _ next-inside)
 
         this-way : Path (read s) (getD s 1 0) (getD run (at + 4) 0)
@@ -166,8 +166,8 @@ module _ (s : List ℕ) (a : Accepted s) (marks stack : List ℕ) (top q : ℕ) 
         next-done : Done (read s) after q
         next-done = record { rejects = omega (arith, we); followed = λ d i f. ⊎-elim (old (d .to)) (λ m. one d (rw (records-at run at h) at m)) (k .before d (run-in d i f)) }
           where
-            one : (d : Transition) → d ∈ (recordAt run at ∷ readRecords (drop (at + 5) run)) → Met after (d .to)
-            one d (List·Memᴰ·head c) = subst (λ (x : Transition). Met after (x .to)) (sym c) this
+            one : (d : Transition) → d ∈ (recordAt run at ∷ readRecords (drop (at + 5) run)) → Marked after (d .to)
+            one d (List·Memᴰ·head c) = subst (λ (x : Transition). Marked after (x .to)) (sym c) this
             one d (List·Memᴰ·tail i) = ⊎-elim (λ m. m) (λ m. elim m [ ]) (p .targets d (rw (part-all (at + 5) run) i))
 
         pub search-next : Searched (read s) after line end (getD run (at + 4) 0)
@@ -198,7 +198,7 @@ module _ (s : List ℕ) (a : Accepted s) (marks stack : List ℕ) (top q : ℕ) 
             further l = omega (arith, p .grows)
 
 -- the search begins with the start
-pub search-begin : (s starts marks stack : List ℕ) → Ready s starts marks stack → Searched (read s) (set marks (getD s 1 0) 1) stack 0 (getD s 1 0)
+pub search-begin : (s starts marks stack : List ℕ) → UnmarkedSearch s starts marks stack → Searched (read s) (set marks (getD s 1 0) 1) stack 0 (getD s 1 0)
 search-begin s starts marks stack r =
     let here = mark-here marks (getD s 1 0) inside in
     record {
@@ -214,9 +214,9 @@ search-begin s starts marks stack r =
     inside = omega (arith, r .accepted .start, r .accepted .few-states, r .wide)
 
     few : unmet (set marks (getD s 1 0) 1) ≤ 256
-    few = unfold unmet in omega (arith, length-keep (λ x. eqb x 0) (set marks (getD s 1 0) 1), length-set marks (getD s 1 0) 1, r .wide)
+    few = unfold unmet in omega (arith, length-filter (λ x. eqb x 0) (set marks (getD s 1 0) 1), length-set marks (getD s 1 0) 1, r .wide)
 
-    only : (x : ℕ) → Met (set marks (getD s 1 0) 1) x → x ≡ getD s 1 0
+    only : (x : ℕ) → Marked (set marks (getD s 1 0) 1) x → x ≡ getD s 1 0
     only x m = ⊎-elim (λ c. c) (λ c. let z = r .nothing x in absurd (omega arith)) (mark-out marks (getD s 1 0) inside x m)
 
 pub ruleset searchLaws = (run-named, state-bound, state-run, state-accepts, search-begin, needs)

@@ -64,11 +64,11 @@ module _ (A : Automaton) (w : WellFormed A) where
   record Reads (p q : ℕ) : Type 0 where
     pub word : List ℕ
     pub run : Run A p word q
-    pub symbols : (hi : ℕ) → ((e : Transition) → e ∈ A .transitions → e .last ≤ hi) → Word 0 hi word
+    pub symbols : (upper : ℕ) → ((e : Transition) → e ∈ A .transitions → e .last ≤ upper) → Word 0 upper word
 
   -- a path reads the first symbols of its ranges
   path-reads : {p q : ℕ} → Path A p q → Reads p q
-  path-reads stay = record { word = []; run = runs.stay; symbols = λ hi t. none }
+  path-reads stay = record { word = []; run = runs.stay; symbols = λ upper t. none }
   path-reads {p} {q} (follow e m f r) = go (e .kind) refl (path-reads r)
     where
       go : (k : ℕ) → e .kind ≡ k → Reads (e .to) q → Reads p q
@@ -79,7 +79,7 @@ module _ (A : Automaton) (w : WellFormed A) where
           record {
             word = e .first ∷ s .word;
             run = runs.read e m f one (le-refl (e .first)) full (s .run);
-            symbols = λ hi t. more {a = e .first} (omega arith) (omega (arith, t e m)) (s .symbols hi t);
+            symbols = λ upper t. more {a = e .first} (omega arith) (omega (arith, t e m)) (s .symbols upper t);
           }
 
   some-word : hasReachableAccepting A ≡ true → (r : ℕ) × Reads (A .start) r × (0 < getD (A .accept) r 0)
@@ -96,10 +96,10 @@ module _ (A : Automaton) (w : WellFormed A) where
   )
 
   -- and the same of words of symbols up to one that no range exceeds
-  pub empty-symbols : (hi : ℕ) → ((e : Transition) → e ∈ A .transitions → e .last ≤ hi) → (hasReachableAccepting A ≡ false) ↔ ((v : List ℕ) → Word 0 hi v → Accepts A v → ⊥)
-  empty-symbols hi t = (
+  pub empty-symbols : (upper : ℕ) → ((e : Transition) → e ∈ A .transitions → e .last ≤ upper) → (hasReachableAccepting A ≡ false) ↔ ((v : List ℕ) → Word 0 upper v → Accepts A v → ⊥)
+  empty-symbols upper t = (
     λ h v o. no-word h v,
-    λ n. ⊎-elim (λ c. let r = some-word c in absurd (n (r .1 .word) (r .1 .symbols hi t) (r .0, r .1 .run, r .2))) (λ c. c) (test (hasReachableAccepting A)),
+    λ n. ⊎-elim (λ c. let r = some-word c in absurd (n (r .1 .word) (r .1 .symbols upper t) (r .0, r .1 .run, r .2))) (λ c. c) (test (hasReachableAccepting A)),
   )
 
 -- a sheet of u32 words: it is empty exactly when no word of u32 symbols is accepted

@@ -5,9 +5,8 @@ use mathlib.Core.Bool.{Bool}
 use mathlib.Core.List.{List, map}
 use mathlib.Core.Path.{_≡_}
 use lib.Dec.{ltb}
-use lib.ListN.{getD}
 use Rattle.lists.specs.Lists.{_∈_, any}
-use Rattle.automata.specs.Automaton.{Transition, Automaton}
+use Rattle.automata.specs.Automaton.{Transition, Automaton, acceptOf}
 use Rattle.refusal.specs.Answer.{Answer, given}
 use Rattle.sets.specs.Sets.{Set}
 use Rattle.sheets.specs.Checked.{sheetFirst}
@@ -33,7 +32,7 @@ reachable A = closure (freed A) (A .start)
 
 -- some reachable state accepts; an automaton is empty when this is false
 unfoldable pub hasReachableAccepting : Automaton → Bool
-hasReachableAccepting A = any (λ q. ltb 0 (getD (A .accept) q 0)) (reachable A)
+hasReachableAccepting A = any (λ q. ltb 0 (acceptOf A q)) (reachable A)
 
 -- the answer for a sheet
 unfoldable pub reachableAnswer : List ℕ → Answer Bool

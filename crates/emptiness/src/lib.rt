@@ -8,7 +8,7 @@ ghost use Rattle.refusal.specs.Decision.{decisionOf};
 ghost use Rattle.sheets.specs.inner.Accepted.{Accepted};
 ghost use Rattle.sheets.specs.Sheet.{read};
 ghost use Rattle.sheets.specs.inner.Runs.{Named};
-ghost use Rattle.emptiness.specs.inner.Marks.{Skipped, Room, Pushed, Ready};
+ghost use Rattle.emptiness.specs.inner.Marks.{Skipped, StackRoom, Pushed, UnmarkedSearch};
 ghost use Rattle.emptiness.specs.Reachable.{hasReachableAccepting, reachableAnswer};
 use refusal::Decision;
 use sheets::Checked;
@@ -30,7 +30,7 @@ fn first_unmet(run: &[u32], marks: &[u8]) -> usize
 
 // The targets of the run that were not met are marked and put on the stack. The answer is the stack's end.
 fn push_unmet(run: &[u32], marks: &mut [u8], stack: &mut [u32], top: usize) -> usize
-    requires { ⌜ Named (readRecords (now run)) × Room (now marks) (now stack) top ⌝ }
+    requires { ⌜ Named (readRecords (now run)) × StackRoom (now marks) (now stack) top ⌝ }
     ensures { λ e. ⌜ Pushed (now (marks .entry)) (now (stack .entry)) top (readRecords (now (run .entry))) [] (now (marks .exit)) (now (stack .exit)) e ⌝ }
 {
     let mut e = top;
@@ -50,7 +50,7 @@ fn push_unmet(run: &[u32], marks: &mut [u8], stack: &mut [u32], top: usize) -> u
 
 // Whether a state that accepts is met, from the start on. A state's first unmet target is followed next, without the stack.
 fn explore(s: &[u32], starts: &[u32], marks: &mut [u8], stack: &mut [u32]) -> bool
-    requires { ⌜ Ready (now s) (now starts) (now marks) (now stack) ⌝ }
+    requires { ⌜ UnmarkedSearch (now s) (now starts) (now marks) (now stack) ⌝ }
     ensures { λ r. ⌜ r ≡ hasReachableAccepting (read (now (s .entry))) ⌝ }
 {
     let mut q = s[1];

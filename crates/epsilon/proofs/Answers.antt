@@ -37,7 +37,7 @@ use Rattle.sheets.specs.Sheet.{stateCount, read, write}
 use Rattle.sheets.proofs.Accepted.{check-accepted}
 use Rattle.sheets.proofs.Checking.{sheet-passed, sheet-refused}
 use Rattle.epsilon.specs.Eliminate.{closureRanges, eliminated, eliminatedWith, eliminateAnswer}
-use Rattle.epsilon.specs.inner.Tables.{TransitionsOf, Ready}
+use Rattle.epsilon.specs.inner.Tables.{TransitionsOf, EliminationInputs}
 use Rattle.epsilon.proofs.Gathering.{tables-closures}
 
 -- the transitions of all states are gathered
@@ -89,7 +89,7 @@ module _ (n : ℕ) (b : List ℕ) (r : labelled.Checked) (e : labelCheck.checked
 pub ruleset checkedLaws = (labels-accepted, labels-given, labels-stopped, needs)
 
 -- the room of the outputs, and the check of the sheet
-pub sheet-ready : (o l s : List ℕ) (w : Bool) → w ≡ (ltb (length o) 10500 || ltb (length l) 16642) → w ≡ false → (r : Checked) → checkedNumber r ≡ fault s → r ≡ sheetAnswer.Accepted → Ready s o l
+pub sheet-ready : (o l s : List ℕ) (w : Bool) → w ≡ (ltb (length o) 10500 || ltb (length l) 16642) → w ≡ false → (r : Checked) → checkedNumber r ≡ fault s → r ≡ sheetAnswer.Accepted → EliminationInputs s o l
 sheet-ready o l s w e h r f g = record { accepted = check-accepted r s f g; words = room-words o l w e h; bytes = room-bytes o l w e h }
 
 module _ (o l s b : List ℕ) (w : Bool) (e : w ≡ (ltb (length o) 10500 || ltb (length l) 16642)) where

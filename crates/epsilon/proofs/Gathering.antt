@@ -8,7 +8,7 @@ use borrow.Author.Needs.{needs}
 use borrow.Author.Tests.{eq-eqb, ne-eqb}
 use lib.Dec.{eqb}
 use lib.ListN.{length, getD, take, drop}
-use Rattle.lists.specs.Lists.{keep}
+use Rattle.lists.specs.Lists.{filter}
 use Rattle.automata.specs.Automaton.{Transition, leaving, rangesOf}
 use Rattle.automata.specs.Records.{readRecords, writeRecords}
 use Rattle.automata.specs.inner.Records.{recordAt}
@@ -39,11 +39,11 @@ use Rattle.epsilon.specs.inner.Tables.{ClosuresOf}
 -- one record
 module _ (buf : List ℕ) (sorted end p : ℕ) (r : Open buf sorted end) (e : Transition) where
   moved-one : e .kind ≡ 1 → movedTo p (e ∷ []) ≡ leavingFrom p e ∷ []
-  unfolding movedTo rangesOf keep
+  unfolding movedTo rangesOf filter
   moved-one h = rw (eq-eqb (e .kind) 1 h)
 
   moved-none : (e .kind ≡ 1 → ⊥) → movedTo p (e ∷ []) ≡ []
-  unfolding movedTo rangesOf keep
+  unfolding movedTo rangesOf filter
   moved-none h = rw (ne-eqb (e .kind) 1 h)
 
   pub range-other : (e .kind ≡ 1 → ⊥) → Gathered buf sorted end (recordsIn buf 0 end ++ movedTo p (e ∷ []))
@@ -56,10 +56,10 @@ pub ruleset rangeLaws = (range-other, range-put, needs)
 
 -- a run, record by record
 moved-cons : (p : ℕ) (e : Transition) (es : List Transition) → movedTo p (e ∷ es) ≡ movedTo p (e ∷ []) ++ movedTo p es
-unfolding movedTo rangesOf keep
+unfolding movedTo rangesOf filter
 moved-cons p e es = go (eqb (e .kind) 1)
   where
-    go : (b : Bool) → map (leavingFrom p) (cond b (e ∷ keep (λ d. eqb (d .kind) 1) es) (keep (λ d. eqb (d .kind) 1) es)) ≡ map (leavingFrom p) (cond b (e ∷ []) []) ++ map (leavingFrom p) (keep (λ d. eqb (d .kind) 1) es)
+    go : (b : Bool) → map (leavingFrom p) (cond b (e ∷ filter (λ d. eqb (d .kind) 1) es) (filter (λ d. eqb (d .kind) 1) es)) ≡ map (leavingFrom p) (cond b (e ∷ []) []) ++ map (leavingFrom p) (filter (λ d. eqb (d .kind) 1) es)
     go true = refl
     go false = refl
 
@@ -68,7 +68,7 @@ run-begins buf run sorted end p r = rest-begin buf sorted end _ r
 
 module _ (buf run : List ℕ) (sorted end p at : ℕ) (es : List Transition) (l : Rest buf sorted end (movedTo p (readRecords (drop at run))) es) where
   pub run-ended : length run - at < 5 → Gathered buf sorted end es
-  unfolding movedTo rangesOf keep
+  unfolding movedTo rangesOf filter
   run-ended h = rest-end buf sorted end es (subst (λ (x : List Transition). Rest buf sorted end x es) (ap (movedTo p) (records-end run at h)) l)
 
   pub run-room : Open buf sorted end

@@ -5,7 +5,7 @@ use mathlib.Core.Path.{_≡_, refl, sym, _∙_, ap, subst}
 use native.Mathlib.Omega.{arith}
 use borrow.Author.Tests.{eq-eqb, eqb-true}
 use Rattle.lists.specs.Lists.{_∈_}
-use Rattle.lists.proofs.Lists.{keep-in, keep-out}
+use Rattle.lists.proofs.Lists.{filter-in, filter-out}
 use Rattle.lists.proofs.Every.{flat-in, flat-out}
 use Rattle.lists.proofs.Members.{map-in, map-out}
 use Rattle.automata.specs.Automaton.{Transition, Automaton, leaving, rangesOf}
@@ -28,8 +28,8 @@ moved-out : (A : Automaton) (p q : ℕ) (e : Transition) → has q (closure A p)
 unfolding movedTo leaving rangesOf
 moved-out A p q e h m =
     let r = map-out (leavingFrom p) _ e m in
-    let k = keep-out _ (r .0) (leaving A q) (r .1) in
-    let l = keep-out _ (r .0) (A .transitions) (k .0) in
+    let k = filter-out _ (r .0) (leaving A q) (r .1) in
+    let l = filter-out _ (r .0) (A .transitions) (k .0) in
     record { source = r .0; «in» = l .0; is-range = eqb-true _ _ (k .1); closed = ap (λ x. has x (closure A p)) (eqb-true (r .0 .from) q (l .1)) ∙ h; is = r .2 }
 
 module _ (A : Automaton) where
@@ -49,4 +49,4 @@ module _ (A : Automaton) where
       inOrder-in
       (flat-in (closureRanges A) (states-in (A .size) p l)
       (flat-in _ (has-mem (d .from) (closure A p) h)
-      (map-in (leavingFrom p) (keep-in _ (keep-in _ m (eq-eqb (d .from) (d .from) refl)) (eq-eqb _ _ k)))))
+      (map-in (leavingFrom p) (filter-in _ (filter-in _ m (eq-eqb (d .from) (d .from) refl)) (eq-eqb _ _ k)))))

@@ -12,7 +12,7 @@ use Rattle.lists.specs.Index.{same}
 use Rattle.lists.specs.Lists.{_∈_, none}
 use Rattle.lists.proofs.Every.{flat-in, flat-out}
 use Rattle.lists.proofs.Index.{same-equal}
-use Rattle.lists.proofs.Lists.{keep-in, keep-out}
+use Rattle.lists.proofs.Lists.{filter-in, filter-out}
 use Rattle.lists.proofs.Members.{map-in, map-out, distinct-map, distinct-length, ascending-distinct}
 use Rattle.automata.specs.Automaton.{Transition, Automaton, states, leaving, rangesOf}
 use Rattle.automata.specs.Ordered.{inOrder}
@@ -40,7 +40,7 @@ module _ (A : Automaton) (p : ℕ) (S : Set) where
   unfolding movedTo rangesFrom rangesOf
   moved-there z m =
       let r = map-out (leavingFrom p) _ z m in
-      let k = keep-out _ (r .0) (inOrder (rangesFrom A 0 S)) (r .1) in
+      let k = filter-out _ (r .0) (inOrder (rangesFrom A 0 S)) (r .1) in
       let f = flat-out (λ q. movedTo 0 (leaving A q)) (r .0) S (inOrder-out (r .0) _ (k .0)) in
       let d = map-out (leavingFrom 0) (rangesOf (leaving A (f .0))) (r .0) (f .2) in
       flat-in (λ q. movedTo p (leaving A q)) (f .1)
@@ -51,9 +51,9 @@ module _ (A : Automaton) (p : ℕ) (S : Set) where
   moved-back z m =
       let f = flat-out (λ q. movedTo p (leaving A q)) z S m in
       let d = map-out (leavingFrom p) (rangesOf (leaving A (f .0))) z (f .2) in
-      let k = keep-out _ (d .0) (leaving A (f .0)) (d .1) in
+      let k = filter-out _ (d .0) (leaving A (f .0)) (d .1) in
       subst (λ (y : Transition). y ∈ movedTo p (inOrder (rangesFrom A 0 S))) (sym (d .2))
-      (map-in (leavingFrom p) (keep-in _ (inOrder-in (flat-in (λ q. movedTo 0 (leaving A q)) (f .1) (map-in (leavingFrom 0) (d .1)))) (k .1)))
+      (map-in (leavingFrom p) (filter-in _ (inOrder-in (flat-in (λ q. movedTo 0 (leaving A q)) (f .1) (map-in (leavingFrom 0) (d .1)))) (k .1)))
 
   -- and as many
   from-zero : (x : Transition) → x ∈ inOrder (rangesFrom A 0 S) → leavingFrom 0 x ≡ x
@@ -68,13 +68,13 @@ module _ (A : Automaton) (p : ℕ) (S : Set) where
   range-kind x m =
       let f = flat-out (λ q. movedTo 0 (leaving A q)) x S (inOrder-out x _ m) in
       let a = map-out (leavingFrom 0) (rangesOf (leaving A (f .0))) x (f .2) in
-      ap (λ (e : Transition). eqb (e .kind) 1) (a .2) ∙ keep-out _ (a .0) (leaving A (f .0)) (a .1) .1
+      ap (λ (e : Transition). eqb (e .kind) 1) (a .2) ∙ filter-out _ (a .0) (leaving A (f .0)) (a .1) .1
 
   all-moved : (z : Transition) → z ∈ map (leavingFrom p) (inOrder (rangesFrom A 0 S)) → z ∈ movedTo p (inOrder (rangesFrom A 0 S))
   unfolding movedTo rangesOf
   all-moved z m =
       let r = map-out (leavingFrom p) (inOrder (rangesFrom A 0 S)) z m in
-      subst (λ (y : Transition). y ∈ movedTo p (inOrder (rangesFrom A 0 S))) (sym (r .2)) (map-in (leavingFrom p) (keep-in _ (r .1) (range-kind (r .0) (r .1))))
+      subst (λ (y : Transition). y ∈ movedTo p (inOrder (rangesFrom A 0 S))) (sym (r .2)) (map-in (leavingFrom p) (filter-in _ (r .1) (range-kind (r .0) (r .1))))
 
   moved-few : (es : List Transition) → ((z : Transition) → z ∈ rangesFrom A p S → z ∈ es) → length (inOrder (rangesFrom A 0 S)) ≤ length es
   moved-few es h =

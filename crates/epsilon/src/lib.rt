@@ -22,7 +22,7 @@ ghost use Rattle.sheets.specs.Sheet.{stateCount, read, write};
 ghost use Rattle.words.specs.inner.Gather.{Tables};
 ghost use Rattle.words.specs.Simulation.{closure, kindOf};
 ghost use Rattle.epsilon.specs.Eliminate.{movedTo, rangesFrom, closureRanges, closureKinds, eliminated, eliminatedWith, eliminateAnswer};
-ghost use Rattle.epsilon.specs.inner.Tables.{ClosuresOf, TransitionsOf, Ready};
+ghost use Rattle.epsilon.specs.inner.Tables.{ClosuresOf, TransitionsOf, EliminationInputs};
 use output::Filled;
 use output::Made;
 use refusal::Refusal;
@@ -183,7 +183,7 @@ fn put_result(
     out: &mut [u32],
     names: &mut [u8],
 ) -> Made
-    requires { ⌜ ClosuresOf (now s) (now closures) × TransitionsOf (now s) (now records) × Ready (now s) (now out) (now names) × (labelsFault (stateCount (now s)) (now labels) ≡ 0) ⌝ }
+    requires { ⌜ ClosuresOf (now s) (now closures) × TransitionsOf (now s) (now records) × EliminationInputs (now s) (now out) (now names) × (labelsFault (stateCount (now s)) (now labels) ≡ 0) ⌝ }
     ensures { λ r. ⌜ outputOf r (now (out .exit)) (now (names .exit)) ≡ outputs (now (out .entry)) (now (names .entry)) (eliminatedWith (read (now (s .entry))) (readLabels (now (labels .entry)))) ⌝ }
 {
     let length = put_sheet(s, closures, records, out);
@@ -200,7 +200,7 @@ fn eliminate_large(
     out: &mut [u32],
     names: &mut [u8],
 ) -> Made
-    requires { ⌜ Tables (now s) (now starts) (now closures) × Ready (now s) (now out) (now names) × (labelsFault (stateCount (now s)) (now labels) ≡ 0) ⌝ }
+    requires { ⌜ Tables (now s) (now starts) (now closures) × EliminationInputs (now s) (now out) (now names) × (labelsFault (stateCount (now s)) (now labels) ≡ 0) ⌝ }
     ensures { λ r. ⌜ outputOf r (now (out .exit)) (now (names .exit)) ≡ outputs (now (out .entry)) (now (names .entry)) (eliminatedWith (read (now (s .entry))) (readLabels (now (labels .entry)))) ⌝ }
 {
     let mut part = [0u32; 11520];
@@ -223,7 +223,7 @@ fn eliminate_tables(
     names: &mut [u8],
     met: usize,
 ) -> Made
-    requires { ⌜ Tables (now s) (now starts) (now closures) × Ready (now s) (now out) (now names) × (labelsFault (stateCount (now s)) (now labels) ≡ 0) ⌝ }
+    requires { ⌜ Tables (now s) (now starts) (now closures) × EliminationInputs (now s) (now out) (now names) × (labelsFault (stateCount (now s)) (now labels) ≡ 0) ⌝ }
     ensures { λ r. ⌜ outputOf r (now (out .exit)) (now (names .exit)) ≡ outputs (now (out .entry)) (now (names .entry)) (eliminatedWith (read (now (s .entry))) (readLabels (now (labels .entry)))) ⌝ }
 {
     if 640 < met {
@@ -240,7 +240,7 @@ fn eliminate_tables(
 
 // Eliminates the epsilons of an accepted sheet with an accepted list of labels.
 fn eliminate_accepted(s: &[u32], labels: &[u8], out: &mut [u32], names: &mut [u8]) -> Made
-    requires { ⌜ Ready (now s) (now out) (now names) × (labelsFault (stateCount (now s)) (now labels) ≡ 0) ⌝ }
+    requires { ⌜ EliminationInputs (now s) (now out) (now names) × (labelsFault (stateCount (now s)) (now labels) ≡ 0) ⌝ }
     ensures { λ r. ⌜ outputOf r (now (out .exit)) (now (names .exit)) ≡ outputs (now (out .entry)) (now (names .entry)) (eliminatedWith (read (now (s .entry))) (readLabels (now (labels .entry)))) ⌝ }
 {
     let mut starts = [0u32; 257];
@@ -252,7 +252,7 @@ fn eliminate_accepted(s: &[u32], labels: &[u8], out: &mut [u32], names: &mut [u8
 
 // Eliminates the epsilons of an accepted sheet.
 fn eliminate_checked(s: &[u32], labels: &[u8], out: &mut [u32], names: &mut [u8]) -> Made
-    requires { ⌜ Ready (now s) (now out) (now names) ⌝ }
+    requires { ⌜ EliminationInputs (now s) (now out) (now names) ⌝ }
     ensures { λ r. ⌜ outputOf r (now (out .exit)) (now (names .exit)) ≡ outputs (now (out .entry)) (now (names .entry)) (labelsFirst (stateCount (now (s .entry))) (now (labels .entry)) (eliminatedWith (read (now (s .entry))) (readLabels (now (labels .entry))))) ⌝ }
 {
     match labels::check(s[2] as usize, labels) {

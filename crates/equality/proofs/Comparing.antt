@@ -35,22 +35,22 @@ use Rattle.equality.specs.declared.Verdict.{Verdict}
 use Rattle.equality.specs.declared.Verdict.the-variants.{Refused}
 use Rattle.equality.specs.Forced.{Two}
 use Rattle.equality.specs.Verdict.{Decided}
-use Rattle.equality.specs.Equality.{withSecond, withFirst, determinized, compared, Judged}
+use Rattle.equality.specs.Equality.{withSecond, withFirst, determinized, equalityAnswer, Judged}
 use Rattle.equality.specs.inner.Code.{twoOf}
 
 -- the sheet d is the determinization of the sheet s
-pub record Determinizes (low high : ℕ) (s d : List ℕ) : Type 0 where
-  pub is : determinize low high (read s) ≡ given (read d)
+pub record Determinizes (lower upper : ℕ) (s d : List ℕ) : Type 0 where
+  pub is : determinize lower upper (read s) ≡ given (read d)
   pub good : Accepted d
-  pub one : Deterministic low high (read d)
+  pub one : Deterministic lower upper (read d)
 
 -- the answer of `determinize_accepted`, with the output before and after
-module _ (low high : ℕ) (s old new : List ℕ) (r : Determinized) (e : determinizedOf r new ≡ sheetOutput old (determinize low high (read s))) where
-  pub refused-number : (k : StateRefusal) → r ≡ outcome.Refused k → determinize low high (read s) ≡ refused (stateNumber k)
+module _ (lower upper : ℕ) (s old new : List ℕ) (r : Determinized) (e : determinizedOf r new ≡ sheetOutput old (determinize lower upper (read s))) where
+  pub refused-number : (k : StateRefusal) → r ≡ outcome.Refused k → determinize lower upper (read s) ≡ refused (stateNumber k)
   unfolding sheetOutput
-  refused-number k q = by-answer (determinize low high (read s)) refl
+  refused-number k q = by-answer (determinize lower upper (read s)) refl
     where
-      by-answer : (x : Answer Automaton) → determinize low high (read s) ≡ x → x ≡ refused (stateNumber k)
+      by-answer : (x : Answer Automaton) → determinize lower upper (read s) ≡ x → x ≡ refused (stateNumber k)
       by-answer (refused n) h =
           let z : determinizedOf (outcome.Refused k) new ≡ sheetOutput old (refused n) = ap (λ (r : Determinized). determinizedOf r new) (sym q) ∙ e ∙ ap (sheetOutput old) h in
           let y = ap (λ (o : SheetOutput). o .answer) z in
@@ -66,7 +66,7 @@ module _ (low high : ℕ) (s old new : List ℕ) (r : Determinized) (e : determi
       is-n : n ≡ length (write D)
       is-new : new ≡ sets old 0 (write D)
 
-    stored : (D : Automaton) → determinize low high (read s) ≡ given D → Stored D
+    stored : (D : Automaton) → determinize lower upper (read s) ≡ given D → Stored D
     unfolding sheetOutput
     stored D h =
         let z : determinizedOf (Sheet n m) new ≡ sheetOutput old (given D) = ap (λ (r : Determinized). determinizedOf r new) (sym q) ∙ e ∙ ap (sheetOutput old) h in
@@ -74,11 +74,11 @@ module _ (low high : ℕ) (s old new : List ℕ) (r : Determinized) (e : determi
         let v : _≡_ {A = SheetSize} (record { words = n; states = m }) (record { words = length (write D); states = D .size }) = cc in
         record { is-n = ap (λ (x : SheetSize). x .words) v; is-new = ap (λ (o : SheetOutput). o .sheet) z }
 
-    some : (D : Automaton) × (determinize low high (read s) ≡ given D)
+    some : (D : Automaton) × (determinize lower upper (read s) ≡ given D)
     unfolding sheetOutput
-    some = by-answer (determinize low high (read s)) refl
+    some = by-answer (determinize lower upper (read s)) refl
       where
-        by-answer : (x : Answer Automaton) → determinize low high (read s) ≡ x → (D : Automaton) × (determinize low high (read s) ≡ given D)
+        by-answer : (x : Answer Automaton) → determinize lower upper (read s) ≡ x → (D : Automaton) × (determinize lower upper (read s) ≡ given D)
         by-answer (given D) h = (D, h)
         by-answer (refused k) h =
             let z : determinizedOf (Sheet n m) new ≡ sheetOutput old (refused k) = ap (λ (r : Determinized). determinizedOf r new) (sym q) ∙ e ∙ ap (sheetOutput old) h in
@@ -89,73 +89,73 @@ module _ (low high : ℕ) (s old new : List ℕ) (r : Determinized) (e : determi
       abbrev D : Automaton
       D = some .0
 
-      is-d : determinize low high (read s) ≡ given D
+      is-d : determinize lower upper (read s) ≡ given D
       is-d = some .1
 
       front : take n new ≡ write D
       front =
           let t = stored D is-d in
-          let l = determinize-room low high (read s) (read-well s good .states) D is-d (read-well s good) in
+          let l = determinize-room lower upper (read s) (read-well s good .states) D is-d (read-well s good) in
           ap (take n) (t .is-new ∙ sets-eq (write D) old 0 (omega arith)) ∙ ap (λ (k : ℕ). take k (write D ++ drop (0 + length (write D)) old)) (t .is-n) ∙ take-append-seam (write D) _
 
       pub part-length : length new ≡ 10500
       part-length = ap length (stored D is-d .is-new) ∙ length-sets old 0 (write D) ∙ long
 
       pub part-within : n ≤ length new
-      part-within = let l = determinize-room low high (read s) (read-well s good .states) D is-d (read-well s good) in omega (arith, stored D is-d .is-n, part-length)
+      part-within = let l = determinize-room lower upper (read s) (read-well s good .states) D is-d (read-well s good) in omega (arith, stored D is-d .is-n, part-length)
 
       pub part-count : n ≡ length (take n new)
       part-count = sym (length-take-le n new part-within)
 
-      pub part-determinizes : Determinizes low high s (take n new)
+      pub part-determinizes : Determinizes lower upper s (take n new)
       part-determinizes =
           let w = read-well s good in
-          let k = determinize-read low high (read s) (w .states) D is-d w in
-          subst (Determinizes low high s) (sym front) (record {
+          let k = determinize-read lower upper (read s) (w .states) D is-d w in
+          subst (Determinizes lower upper s) (sym front) (record {
             is = is-d ∙ ap given (sym k);
-            good = accepted (write D) (determinize-written low high (read s) (w .states) D is-d w);
-            one = subst (Deterministic low high) (sym k) (determinize-deterministic low high (read s) (w .states) D is-d);
+            good = accepted (write D) (determinize-written lower upper (read s) (w .states) D is-d w);
+            one = subst (Deterministic lower upper) (sym k) (determinize-deterministic lower upper (read s) (w .states) D is-d);
           })
 
 judged-refused : (o : List ℕ) (r : Refusal) → Judged (refused (numberOf r)) o o (Refused r)
 unfolding Judged
 judged-refused o r = (refl, refl)
 
-module _ (d b o : List ℕ) (low high : ℕ) where
-  pub second-refused : (k : StateRefusal) → determinize low high (read b) ≡ refused (stateNumber k) → Judged (withSecond low high (read d) (determinize low high (read b))) o o (Refused (State k))
+module _ (d b o : List ℕ) (lower upper : ℕ) where
+  pub second-refused : (k : StateRefusal) → determinize lower upper (read b) ≡ refused (stateNumber k) → Judged (withSecond lower upper (read d) (determinize lower upper (read b))) o o (Refused (State k))
   unfolding withSecond
-  second-refused k e = subst (λ (x : Answer Automaton). Judged (withSecond low high (read d) x) o o (Refused (State k))) (sym e) (judged-refused o (State k))
+  second-refused k e = subst (λ (x : Answer Automaton). Judged (withSecond lower upper (read d) x) o o (Refused (State k))) (sym e) (judged-refused o (State k))
 
-  pub second-given : (e : List ℕ) → Determinizes low high b e → (o′ : List ℕ) (r : Verdict) → Decided (twoOf d e low high) o o′ r → Judged (withSecond low high (read d) (determinize low high (read b))) o o′ r
+  pub second-given : (e : List ℕ) → Determinizes lower upper b e → (o′ : List ℕ) (r : Verdict) → Decided (twoOf d e lower upper) o o′ r → Judged (withSecond lower upper (read d) (determinize lower upper (read b))) o o′ r
   unfolding Judged withSecond
-  second-given e s o′ r h = subst (λ (x : Answer Automaton). Judged (withSecond low high (read d) x) o o′ r) (sym (s .is)) h
+  second-given e s o′ r h = subst (λ (x : Answer Automaton). Judged (withSecond lower upper (read d) x) o o′ r) (sym (s .is)) h
 
-module _ (a b o : List ℕ) (low high : ℕ) where
-  pub first-refused : (k : StateRefusal) → determinize low high (read a) ≡ refused (stateNumber k) → Judged (determinized low high (read a) (read b)) o o (Refused (State k))
+module _ (a b o : List ℕ) (lower upper : ℕ) where
+  pub first-refused : (k : StateRefusal) → determinize lower upper (read a) ≡ refused (stateNumber k) → Judged (determinized lower upper (read a) (read b)) o o (Refused (State k))
   unfolding determinized withFirst
-  first-refused k e = subst (λ (x : Answer Automaton). Judged (withFirst low high x (determinize low high (read b))) o o (Refused (State k))) (sym e) (judged-refused o (State k))
+  first-refused k e = subst (λ (x : Answer Automaton). Judged (withFirst lower upper x (determinize lower upper (read b))) o o (Refused (State k))) (sym e) (judged-refused o (State k))
 
-  pub first-given : (d : List ℕ) → Determinizes low high a d → (o′ : List ℕ) (r : Verdict) → Judged (withSecond low high (read d) (determinize low high (read b))) o o′ r → Judged (determinized low high (read a) (read b)) o o′ r
+  pub first-given : (d : List ℕ) → Determinizes lower upper a d → (o′ : List ℕ) (r : Verdict) → Judged (withSecond lower upper (read d) (determinize lower upper (read b))) o o′ r → Judged (determinized lower upper (read a) (read b)) o o′ r
   unfolding determinized withFirst
-  first-given d s o′ r h = subst (λ (x : Answer Automaton). Judged (withFirst low high x (determinize low high (read b))) o o′ r) (sym (s .is)) h
+  first-given d s o′ r h = subst (λ (x : Answer Automaton). Judged (withFirst lower upper x (determinize lower upper (read b))) o o′ r) (sym (s .is)) h
 
-module _ (low high : ℕ) (a b o : List ℕ) where
-  pub word-short : length o < 510 → Judged (compared low high a b o) o o (Refused (State OutputLength))
-  unfolding compared
+module _ (lower upper : ℕ) (a b o : List ℕ) where
+  pub word-short : length o < 510 → Judged (equalityAnswer lower upper a b o) o o (Refused (State OutputLength))
+  unfolding equalityAnswer
   word-short h = subst (λ (x : Answer Two). Judged x o o (Refused (State OutputLength))) (sym (rw (lt-ltb (length o) 510 h) refl)) (judged-refused o _)
 
   module _ (room : 510 ≤ length o) (r : Checked) (is-r : checkedNumber r ≡ fault a) where
-    pub first-faulty : (i : InputRefusal) → r ≡ checked.Refused i → Judged (compared low high a b o) o o (Refused (Input i))
-    unfolding compared
+    pub first-faulty : (i : InputRefusal) → r ≡ checked.Refused i → Judged (equalityAnswer lower upper a b o) o o (Refused (Input i))
+    unfolding equalityAnswer
     first-faulty i e = subst (λ (x : Answer Two). Judged x o o (Refused (Input i))) (sym (rw (le-ltb (length o) 510 room) (sheet-refused a _ r is-r i e))) (judged-refused o _)
 
     module _ (p : r ≡ checked.Accepted) (q : Checked) (is-q : checkedNumber q ≡ fault b) where
-      pub second-faulty : (i : InputRefusal) → q ≡ checked.Refused i → Judged (compared low high a b o) o o (Refused (Input i))
-      unfolding compared
+      pub second-faulty : (i : InputRefusal) → q ≡ checked.Refused i → Judged (equalityAnswer lower upper a b o) o o (Refused (Input i))
+      unfolding equalityAnswer
       second-faulty i e = subst (λ (x : Answer Two). Judged x o o (Refused (Input i))) (sym (rw (le-ltb (length o) 510 room) (sheet-passed a _ r is-r p ∙ sheet-refused b _ q is-q i e))) (judged-refused o _)
 
-      pub both-passed : q ≡ checked.Accepted → (o′ : List ℕ) (v : Verdict) → Judged (determinized low high (read a) (read b)) o o′ v → Judged (compared low high a b o) o o′ v
-      unfolding compared
+      pub both-passed : q ≡ checked.Accepted → (o′ : List ℕ) (v : Verdict) → Judged (determinized lower upper (read a) (read b)) o o′ v → Judged (equalityAnswer lower upper a b o) o o′ v
+      unfolding equalityAnswer
       both-passed e o′ v h = subst (λ (x : Answer Two). Judged x o o′ v) (sym (rw (le-ltb (length o) 510 room) (sheet-passed a _ r is-r p ∙ sheet-passed b _ q is-q e))) h
 
 pub ruleset comparing = (word-short, first-faulty, second-faulty, both-passed, check-accepted, needs)

@@ -14,26 +14,26 @@ use Rattle.determinize.specs.Determinize.{determinize}
 use Rattle.determinize.proofs.Theorems.{determinize-words, determinize-deterministic, determinize-wellformed}
 use Rattle.equality.specs.declared.Verdict.{Verdict}
 use Rattle.equality.specs.declared.Verdict.the-variants.{Same, Different, Refused}
-use Rattle.equality.specs.Successors.{acceptAfter}
+use Rattle.automata.specs.Successors.{acceptAfter}
 use Rattle.equality.specs.Forced.{Two, Forced, Smallest}
 use Rattle.equality.specs.Verdict.{Decided}
 use Rattle.equality.specs.Equality.{SameWords, ExactlyOne, Exact}
-use Rattle.equality.proofs.Forced.{total-of, forced-such, forced-least}
-use Rattle.equality.proofs.Successors.{accepts-after}
+use Rattle.equality.proofs.Forced.{total-of, forced-joins, forced-least}
+use Rattle.automata.proofs.Successors.{accepts-after}
 
-module _ (low high : ℕ) (A : Automaton) (well : WellFormed A) (D : Automaton) (e : determinize low high A ≡ given D) where
+module _ (lower upper : ℕ) (A : Automaton) (well : WellFormed A) (D : Automaton) (e : determinize lower upper A ≡ given D) where
   well-determinized : WellFormed D
-  well-determinized = determinize-wellformed low high A (well .states) D e well
+  well-determinized = determinize-wellformed lower upper A (well .states) D e well
 
-  deterministic : Deterministic low high D
-  deterministic = determinize-deterministic low high A (well .states) D e
+  deterministic : Deterministic lower upper D
+  deterministic = determinize-deterministic lower upper A (well .states) D e
 
-  module _ (w : List ℕ) (v : Word low high w) where
+  module _ (w : List ℕ) (v : Word lower upper w) where
     -- the determinization's accept word at a word's end says whether the automaton accepts the word, and is 0 or 1
     accepts-determinized : Accepts A w ↔ (0 < acceptAfter D w)
     accepts-determinized =
-        let k = determinize-words low high A (well .states) D e w v in
-        let m = accepts-after low high D deterministic (well-determinized .states) w v in
+        let k = determinize-words lower upper A (well .states) D e w v in
+        let m = accepts-after lower upper D deterministic (well-determinized .states) w v in
         (λ h. m .0 (k .1 h), λ h. k .0 (m .1 h))
 
     after-bit : acceptAfter D w ≤ 1
@@ -45,41 +45,41 @@ other-bits zero (suc n) h k d = inr (λ z. omega arith, omega arith)
 other-bits (suc m) zero h k d = inl (omega arith, λ z. omega arith)
 other-bits (suc m) (suc n) h k d = absurd (d (omega arith))
 
-module _ (low high : ℕ) (A B : Automaton) (well-a : WellFormed A) (well-b : WellFormed B) (D E : Automaton) (is-d : determinize low high A ≡ given D) (is-e : determinize low high B ≡ given E) where
+module _ (lower upper : ℕ) (A B : Automaton) (well-a : WellFormed A) (well-b : WellFormed B) (D E : Automaton) (is-d : determinize lower upper A ≡ given D) (is-e : determinize lower upper B ≡ given E) where
   abbrev two : Two
-  two = record { one = D; two = E; low = low; high = high }
+  two = record { one = D; two = E; lower = lower; upper = upper }
 
   -- what follows from the starts is the smallest equivalence, since every state has a successor
   pub smallest-two : Smallest two (Forced two)
   smallest-two =
       let total =
-      total-of two (deterministic low high A well-a D is-d) (well-determinized low high A well-a D is-d .states) (deterministic low high B well-b E is-e) (well-determinized low high B well-b E is-e .states) in
-      record { such = forced-such two total; least = λ S c p q f. forced-least two total S c f }
+      total-of two (deterministic lower upper A well-a D is-d) (well-determinized lower upper A well-a D is-d .states) (deterministic lower upper B well-b E is-e) (well-determinized lower upper B well-b E is-e .states) in
+      record { joins = forced-joins two total; least = λ S c p q f. forced-least two total S c f }
 
-  by-a : (w : List ℕ) → Word low high w → Accepts A w ↔ (0 < acceptAfter D w)
-  by-a = accepts-determinized low high A well-a D is-d
+  by-a : (w : List ℕ) → Word lower upper w → Accepts A w ↔ (0 < acceptAfter D w)
+  by-a = accepts-determinized lower upper A well-a D is-d
 
-  by-b : (w : List ℕ) → Word low high w → Accepts B w ↔ (0 < acceptAfter E w)
-  by-b = accepts-determinized low high B well-b E is-e
+  by-b : (w : List ℕ) → Word lower upper w → Accepts B w ↔ (0 < acceptAfter E w)
+  by-b = accepts-determinized lower upper B well-b E is-e
 
   -- where no word tells the determinizations apart, the automata accept the same words
-  pub same-words : ((w : List ℕ) → Word low high w → acceptAfter D w ≡ acceptAfter E w) → SameWords low high A B
+  pub same-words : ((w : List ℕ) → Word lower upper w → acceptAfter D w ≡ acceptAfter E w) → SameWords lower upper A B
   same-words all w v =
       let q = all w v in
       (λ h. by-b w v .1 (let k = by-a w v .0 h in omega arith), λ h. by-a w v .1 (let k = by-b w v .0 h in omega arith))
 
-  pub one-word : (w : List ℕ) → Word low high w → (acceptAfter D w ≡ acceptAfter E w → ⊥) → ExactlyOne A B w
-  one-word w v d = by-bits (other-bits (acceptAfter D w) (acceptAfter E w) (after-bit low high A well-a D is-d w v) (after-bit low high B well-b E is-e w v) d)
+  pub one-word : (w : List ℕ) → Word lower upper w → (acceptAfter D w ≡ acceptAfter E w → ⊥) → ExactlyOne A B w
+  one-word w v d = by-bits (other-bits (acceptAfter D w) (acceptAfter E w) (after-bit lower upper A well-a D is-d w v) (after-bit lower upper B well-b E is-e w v) d)
     where
       by-bits : ((0 < acceptAfter D w) × (0 < acceptAfter E w → ⊥)) ⊎ ((0 < acceptAfter D w → ⊥) × (0 < acceptAfter E w)) → ExactlyOne A B w
       by-bits (inl h) = inl (by-a w v .1 (h .0), λ k. h .1 (by-b w v .0 k))
       by-bits (inr h) = inr (λ k. h .0 (by-a w v .0 k), by-b w v .1 (h .1))
 
-  pub not-same : (w : List ℕ) → ExactlyOne A B w → Word low high w → SameWords low high A B → ⊥
+  pub not-same : (w : List ℕ) → ExactlyOne A B w → Word lower upper w → SameWords lower upper A B → ⊥
   not-same w (inl h) v s = h .1 (s w v .0 (h .0))
   not-same w (inr h) v s = h .0 (s w v .1 (h .1))
 
-  pub decided-exact : (o o′ : List ℕ) (r : Verdict) → Decided two o o′ r → Exact low high A B two o o′ r
+  pub decided-exact : (o o′ : List ℕ) (r : Verdict) → Decided two o o′ r → Exact lower upper A B two o o′ r
   unfolding Decided
   decided-exact o o′ (Same j) d =
       let s = same-words (d .0 .words) in

@@ -2,7 +2,7 @@
 pub mod Forced
 pub mod Classes
 pub mod Queue
-pub mod Successors
+pub mod Runs
 pub mod Spelling
 pub mod Entries
 pub mod Joining

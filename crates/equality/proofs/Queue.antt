@@ -8,8 +8,9 @@ use Rattle.dsu.specs.Classes.{Classes}
 use Rattle.dsu.specs.inner.Generated.{Ker, Merges}
 use Rattle.dsu.proofs.Classes.{classes-moved}
 use Rattle.dsu.proofs.Generated.{generated-into, spanned-alone, spanned-more, spanned-renamed, spanned-room}
-use Rattle.equality.specs.Successors.{successor, acceptOf}
-use Rattle.equality.specs.Forced.{Two, Symbol, states, left, right, successorIn, Such, Forced}
+use Rattle.automata.specs.Successors.{successor}
+use Rattle.automata.specs.Automaton.{acceptOf}
+use Rattle.equality.specs.Forced.{Two, Symbol, totalSize, left, right, successorIn, JoinsSuccessors, Forced}
 use Rattle.equality.proofs.Forced.{acceptIn, Total, successor-left, accept-left, successor-right, accept-right, forced-least, forced-in, agree-words}
 use Rattle.equality.specs.inner.Walking.{Queue, Met, Walking, Closed, Pushed}
 use Rattle.equality.specs.Verdict.{Equal}
@@ -34,27 +35,27 @@ module _ (t : Two) (total : Total t) (f : ℕ → ℕ) (r : Queue) (made : ℕ) 
   pair-forced i b = pair-forced-below (suc i) i (omega arith) b
 
   -- what is joined is forced, and agrees
-  pub joined-forced : (p q : ℕ) → p < states t → q < states t → f p ≡ f q → Forced t p q
-  joined-forced p q hp hq e = generated-into (Forced t) (λ p b. Forced.same b) (λ p q l. Forced.turn l) (λ p q s l m. Forced.chain l m) pair-forced (w .spanned .only p q hp hq e)
+  pub joined-forced : (p q : ℕ) → p < totalSize t → q < totalSize t → f p ≡ f q → Forced t p q
+  joined-forced p q hp hq e = generated-into (Forced t) (λ p b. Forced.reflexive b) (λ p q l. Forced.symmetric l) (λ p q s l m. Forced.transitive l m) pair-forced (w .spanned .only p q hp hq e)
 
-  pub joined-agree : (p q : ℕ) → p < states t → q < states t → f p ≡ f q → acceptIn t p ≡ acceptIn t q
+  pub joined-agree : (p q : ℕ) → p < totalSize t → q < totalSize t → f p ≡ f q → acceptIn t p ≡ acceptIn t q
   joined-agree p q hp hq e = generated-into (λ (p q : ℕ). acceptIn t p ≡ acceptIn t q) (λ p b. refl) (λ p q l. sym l) (λ p q s l m. l ∙ m)
       (λ i b. accept-left t (r .one i) (w .in-one i b) ∙ w .agree i b ∙ sym (accept-right t (r .two i))) (w .spanned .only p q hp hq e)
 
   module _ (closed : Closed t f r made) where
-    joined-follow : (p q x : ℕ) → p < states t → q < states t → Symbol t x → f p ≡ f q → f (successorIn t p x) ≡ f (successorIn t q x)
-    joined-follow p q x hp hq s e = generated-into {n = states t} {one = r .one} {two = λ i. right t (r .two i)} (λ (p q : ℕ). f (successorIn t p x) ≡ f (successorIn t q x)) (λ p b. refl) (λ p q l. sym l) (λ p q s l m. l ∙ m)
+    joined-follow : (p q x : ℕ) → p < totalSize t → q < totalSize t → Symbol t x → f p ≡ f q → f (successorIn t p x) ≡ f (successorIn t q x)
+    joined-follow p q x hp hq s e = generated-into {n = totalSize t} {one = r .one} {two = λ i. right t (r .two i)} (λ (p q : ℕ). f (successorIn t p x) ≡ f (successorIn t q x)) (λ p b. refl) (λ p q l. sym l) (λ p q s l m. l ∙ m)
         (λ i b. rw (successor-left t (r .one i) x (w .in-one i b), successor-right t (r .two i) x) (closed i b x s)) (w .spanned .only p q hp hq e)
 
-    such : Such t (Ker f)
-    such = record {
-      equivalence = record { same = λ p h. refl; turn = λ p q h k e. sym e; chain = λ p q s h k l d e. d ∙ e };
+    joins : JoinsSuccessors t (Ker f)
+    joins = record {
+      equivalence = record { reflexive = λ p h. refl; symmetric = λ p q h k e. sym e; transitive = λ p q s h k l d e. d ∙ e };
       starts = ap f (sym (w .at-one)) ∙ w .linked 0 (w .some) ∙ ap (λ (q : ℕ). f (right t q)) (w .at-two);
       follow = joined-follow;
     }
 
     pub forced-joined : (p q : ℕ) → Forced t p q → f p ≡ f q
-    forced-joined p q l = forced-least t total (Ker f) such l
+    forced-joined p q l = forced-least t total (Ker f) joins l
 
     -- the queue is empty: the machines are equal, and the joins are the states less the classes
     pub ended : Equal t made
@@ -66,7 +67,7 @@ module _ (t : Two) (total : Total t) (f : ℕ → ℕ) (r : Queue) (made : ℕ) 
     }
 
   -- two successors that differ: two classes at least are left, so the word to them is short
-  pub short : (i x : ℕ) → i < made → Symbol t x → (acceptOf (t .one) (successor (t .one) (r .one i) x) ≡ acceptOf (t .two) (successor (t .two) (r .two i) x) → ⊥) → r .depth i + 1 + 2 ≤ states t
+  pub short : (i x : ℕ) → i < made → Symbol t x → (acceptOf (t .one) (successor (t .one) (r .one i) x) ≡ acceptOf (t .two) (successor (t .two) (r .two i) x) → ⊥) → r .depth i + 1 + 2 ≤ totalSize t
   short i x b s d = omega (arith, more-than (w .spanned .number) refl, w .shallow i b, w .spanned .counted)
     where
       p : ℕ
@@ -90,11 +91,11 @@ module _ (t : Two) (total : Total t) (f : ℕ → ℕ) (r : Queue) (made : ℕ) 
       more-than (suc (suc k)) e = omega arith
 
   -- fewer joins than states
-  pub room : made < states t
+  pub room : made < totalSize t
   room = spanned-room (w .spanned) (omega (arith, total .first .start-in))
 
   -- other names for the same classes
-  pub renamed : (g : ℕ → ℕ) → ((p : ℕ) → p < states t → g p ≡ f p) → Walking t g r made
+  pub renamed : (g : ℕ → ℕ) → ((p : ℕ) → p < totalSize t → g p ≡ f p) → Walking t g r made
   renamed g e = record {
     some = w .some;
     at-one = w .at-one;
@@ -110,7 +111,7 @@ module _ (t : Two) (total : Total t) (f : ℕ → ℕ) (r : Queue) (made : ℕ) 
   }
 
 -- the starts joined
-module _ (t : Two) (total : Total t) (f g : ℕ → ℕ) (r : Queue) (alone : (x y : ℕ) → x < states t → y < states t → f x ≡ f y → x ≡ y) (all : Classes (Ker f) (states t) (states t)) (m : Merges (states t) f g (left t (t .one .start)) (right t (t .two .start))) where
+module _ (t : Two) (total : Total t) (f g : ℕ → ℕ) (r : Queue) (alone : (x y : ℕ) → x < totalSize t → y < totalSize t → f x ≡ f y → x ≡ y) (all : Classes (Ker f) (totalSize t) (totalSize t)) (m : Merges (totalSize t) f g (left t (t .one .start)) (right t (t .two .start))) where
   pub begun : r .one 0 ≡ t .one .start → r .two 0 ≡ t .two .start → r .depth 0 ≡ 0 → acceptOf (t .one) (t .one .start) ≡ acceptOf (t .two) (t .two .start) → Walking t g r 1
   begun a b z e = record {
     some = omega arith;
@@ -130,7 +131,7 @@ module _ (t : Two) (total : Total t) (f g : ℕ → ℕ) (r : Queue) (alone : (x
       first i h = omega arith
 
 -- a pair more
-module _ (t : Two) (total : Total t) (f g : ℕ → ℕ) (r s : Queue) (made i x : ℕ) (w : Walking t f r made) (u : Pushed r s made i x (successor (t .one) (r .one i) x) (successor (t .two) (r .two i) x)) (i-in : i < made) (x-in : Symbol t x) (m : Merges (states t) f g (left t (successor (t .one) (r .one i) x)) (right t (successor (t .two) (r .two i) x))) where
+module _ (t : Two) (total : Total t) (f g : ℕ → ℕ) (r s : Queue) (made i x : ℕ) (w : Walking t f r made) (u : Pushed r s made i x (successor (t .one) (r .one i) x) (successor (t .two) (r .two i) x)) (i-in : i < made) (x-in : Symbol t x) (m : Merges (totalSize t) f g (left t (successor (t .one) (r .one i) x)) (right t (successor (t .two) (r .two i) x))) where
   pub pushed : acceptOf (t .one) (successor (t .one) (r .one i) x) ≡ acceptOf (t .two) (successor (t .two) (r .two i) x) → Walking t g s (made + 1)
   pushed e = record {
     some = omega arith;

@@ -6,8 +6,8 @@ use native.Mathlib.Decide.{ℕ-discrete}
 use native.Mathlib.Omega.{arith}
 use lib.ListN.{length, getD, set, take, drop, length-set}
 use lib.Seq.{drop-cons, getD-set-same, drop-set-lt, length-take-le}
-use Rattle.automata.specs.Automaton.{Word, none, more}
-use Rattle.equality.specs.Successors.{successor, stateAfter, acceptOf}
+use Rattle.automata.specs.Automaton.{Word, none, more, acceptOf}
+use Rattle.automata.specs.Successors.{successor, stateAfter}
 use Rattle.equality.specs.Forced.{Two, Symbol}
 use Rattle.equality.specs.inner.Walking.{Queue, Trail, trail, Walking, Chained, Leads, here, back, Spelled}
 use Rattle.equality.specs.Verdict.{Apart}
@@ -102,7 +102,7 @@ chained w i-in = record {
 }
 
 -- the word leads both machines to the successors
-led : {t : Two} {f : ℕ → ℕ} {r : Queue} {made i x : ℕ} → Walking t f r made → i < made → Symbol t x → {c : ℕ} {v : List ℕ} → Leads (trail r) i x c v → Word (t .low) (t .high) v × (stateAfter (t .one) (r .one c) v ≡ successor (t .one) (r .one i) x) × (stateAfter (t .two) (r .two c) v ≡ successor (t .two) (r .two i) x)
+led : {t : Two} {f : ℕ → ℕ} {r : Queue} {made i x : ℕ} → Walking t f r made → i < made → Symbol t x → {c : ℕ} {v : List ℕ} → Leads (trail r) i x c v → Word (t .lower) (t .upper) v × (stateAfter (t .one) (r .one c) v ≡ successor (t .one) (r .one i) x) × (stateAfter (t .two) (r .two c) v ≡ successor (t .two) (r .two i) x)
 unfolding stateAfter
 led w i-in s here = (more (s .0) (s .1) none, refl, refl)
 led {t} w i-in s (back {c = c} {v = v} z h l) =

@@ -17,7 +17,7 @@ use Rattle.determinize.specs.Reached.{MoreThan, MoreTransitions}
 use Rattle.dsu.specs.Classes.{Classes}
 use Rattle.equality.specs.declared.Verdict.{Verdict}
 use Rattle.equality.specs.declared.Verdict.the-variants.{Same, Different, Refused}
-use Rattle.equality.specs.Forced.{Two, states, Forced}
+use Rattle.equality.specs.Forced.{Two, totalSize, Forced}
 use Rattle.equality.specs.Verdict.{Decided}
 
 -- the fixed size of the buffer for the difference word
@@ -26,19 +26,19 @@ wordSize = 510
 
 -- both determinizations, the first's refusals before the second's
 unfoldable pub withSecond : ℕ → ℕ → Automaton → Answer Automaton → Answer Two
-withSecond low high D (refused n) = refused n
-withSecond low high D (given E) = given (record { one = D; two = E; low = low; high = high })
+withSecond lower upper D (refused n) = refused n
+withSecond lower upper D (given E) = given (record { one = D; two = E; lower = lower; upper = upper })
 
 unfoldable pub withFirst : ℕ → ℕ → Answer Automaton → Answer Automaton → Answer Two
-withFirst low high (refused n) second = refused n
-withFirst low high (given D) second = withSecond low high D second
+withFirst lower upper (refused n) second = refused n
+withFirst lower upper (given D) second = withSecond lower upper D second
 
 unfoldable pub determinized : ℕ → ℕ → Automaton → Automaton → Answer Two
-determinized low high A B = withFirst low high (determinize low high A) (determinize low high B)
+determinized lower upper A B = withFirst lower upper (determinize lower upper A) (determinize lower upper B)
 
 -- the two automata that are walked, or the refusal: 20 where the buffer o is too short; the first sheet's faults, the second's; 21 and 22
-unfoldable pub compared : ℕ → ℕ → List ℕ → List ℕ → List ℕ → Answer Two
-compared low high a b o = cond (ltb (length o) wordSize) (refused 20) (sheetFirst a (sheetFirst b (determinized low high (read a) (read b))))
+unfoldable pub equalityAnswer : ℕ → ℕ → List ℕ → List ℕ → List ℕ → Answer Two
+equalityAnswer lower upper a b o = cond (ltb (length o) wordSize) (refused 20) (sheetFirst a (sheetFirst b (determinized lower upper (read a) (read b))))
 
 -- what holds of a verdict: after a refusal its number and an unchanged buffer, else what the walk decides
 unfoldable pub Judged : Answer Two → List ℕ → List ℕ → Verdict → Type 0
@@ -61,29 +61,29 @@ verdictNumber (Refused r) = numberOf r
 
 -- 22 of a determinization: it fits 256 states and has over 2,048 transitions
 abbrev pub Overfull : ℕ → ℕ → Automaton → Type 0
-Overfull low high A = (MoreThan 255 low high A → ⊥) × MoreTransitions 2048 low high A
+Overfull lower upper A = (MoreThan 255 lower upper A → ⊥) × MoreTransitions 2048 lower upper A
 
 -- a determinization fits 256 states and 2,048 transitions; the states are the nonempty sets that words reach, and the sink
 abbrev pub Limits : ℕ → ℕ → Automaton → Type 0
-Limits low high A = (MoreThan 255 low high A → ⊥) × (MoreTransitions 2048 low high A → ⊥)
+Limits lower upper A = (MoreThan 255 lower upper A → ⊥) × (MoreTransitions 2048 lower upper A → ⊥)
 
--- every word of symbols from low to high is accepted by both or by neither
+-- every word of symbols from lower to upper is accepted by both or by neither
 abbrev pub SameWords : ℕ → ℕ → Automaton → Automaton → Type 0
-SameWords low high A B = (w : List ℕ) → Word low high w → Accepts A w ↔ Accepts B w
+SameWords lower upper A B = (w : List ℕ) → Word lower upper w → Accepts A w ↔ Accepts B w
 
 abbrev pub ExactlyOne : Automaton → Automaton → List ℕ → Type 0
 ExactlyOne A B w = (Accepts A w × (Accepts B w → ⊥)) ⊎ ((Accepts A w → ⊥) × Accepts B w)
 
 -- n is the length of a word at the front of o′ that exactly one of A and B accepts; it is short, and nothing behind it was written
-pub record Differs (low high : ℕ) (A B : Automaton) (most : ℕ) (o o′ : List ℕ) (n : ℕ) : Type 0 where
-  pub word : Word low high (take n o′)
+pub record Differs (lower upper : ℕ) (A B : Automaton) (most : ℕ) (o o′ : List ℕ) (n : ℕ) : Type 0 where
+  pub word : Word lower upper (take n o′)
   pub one : ExactlyOne A B (take n o′)
   pub long : length (take n o′) ≡ n
   pub short : n + 2 ≤ most
   pub behind : drop n o′ ≡ drop n o
 
 -- demand 3 of the verdict r on the automata A and B, whose determinizations are those of t
-pub record Exact (low high : ℕ) (A B : Automaton) (t : Two) (o o′ : List ℕ) (r : Verdict) : Type 0 where
-  pub same : ((joins : ℕ) × (r ≡ Same joins)) ↔ SameWords low high A B
-  pub different : (SameWords low high A B → ⊥) → (n : ℕ) × (r ≡ Different n) × Differs low high A B (states t) o o′ n
-  pub joins : (joins : ℕ) → r ≡ Same joins → (classes : ℕ) × Classes (Forced t) (states t) classes × (joins + classes ≡ states t) × (o′ ≡ o)
+pub record Exact (lower upper : ℕ) (A B : Automaton) (t : Two) (o o′ : List ℕ) (r : Verdict) : Type 0 where
+  pub same : ((joins : ℕ) × (r ≡ Same joins)) ↔ SameWords lower upper A B
+  pub different : (SameWords lower upper A B → ⊥) → (n : ℕ) × (r ≡ Different n) × Differs lower upper A B (totalSize t) o o′ n
+  pub joins : (joins : ℕ) → r ≡ Same joins → (classes : ℕ) × Classes (Forced t) (totalSize t) classes × (joins + classes ≡ totalSize t) × (o′ ≡ o)

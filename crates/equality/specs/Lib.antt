@@ -1,5 +1,4 @@
--- Exact equality: deterministic automata read step by step, the smallest equivalence, and the verdict.
-pub mod Successors
+-- Exact equality: the smallest equivalence, and the verdict.
 pub mod Forced
 pub mod Verdict
 pub mod Equality

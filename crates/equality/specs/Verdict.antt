@@ -7,20 +7,20 @@ use Rattle.automata.specs.Automaton.{Word}
 use Rattle.dsu.specs.Classes.{Classes}
 use Rattle.equality.specs.declared.Verdict.{Verdict}
 use Rattle.equality.specs.declared.Verdict.the-variants.{Same, Different, Refused}
-use Rattle.equality.specs.Successors.{acceptAfter}
-use Rattle.equality.specs.Forced.{Two, states, Forced}
+use Rattle.automata.specs.Successors.{acceptAfter}
+use Rattle.equality.specs.Forced.{Two, totalSize, Forced}
 
 -- same: no word tells the two apart, and the joins are the states of both less the classes
 pub record Equal (t : Two) (joins : ℕ) : Type 0 where
-  pub words : (w : List ℕ) → Word (t .low) (t .high) w → acceptAfter (t .one) w ≡ acceptAfter (t .two) w
+  pub words : (w : List ℕ) → Word (t .lower) (t .upper) w → acceptAfter (t .one) w ≡ acceptAfter (t .two) w
   pub number : ℕ
-  pub counted : Classes (Forced t) (states t) number
-  pub joined : joins + number ≡ states t
+  pub counted : Classes (Forced t) (totalSize t) number
+  pub joined : joins + number ≡ totalSize t
 
 -- different: the word tells the two apart, and its symbols number at most the states of both less 2
 pub record Apart (t : Two) (w : List ℕ) : Type 0 where
-  pub word : Word (t .low) (t .high) w
-  pub short : length w + 2 ≤ states t
+  pub word : Word (t .lower) (t .upper) w
+  pub short : length w + 2 ≤ totalSize t
   pub differ : acceptAfter (t .one) w ≡ acceptAfter (t .two) w → ⊥
 
 -- what holds of a verdict on two such automata that is not refused; o is the lent buffer before, o′ after

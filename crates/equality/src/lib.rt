@@ -6,7 +6,7 @@ ghost use Rattle.sheets.specs.Sheet.{read};
 ghost use Rattle.automata.specs.WellFormed.{lastSymbol};
 ghost use Rattle.automata.specs.Deterministic.{Deterministic};
 ghost use Rattle.determinize.specs.Determinize.{determinize};
-ghost use Rattle.equality.specs.Equality.{withSecond, determinized, compared, Judged};
+ghost use Rattle.equality.specs.Equality.{withSecond, determinized, equalityAnswer, Judged};
 use determinize::Determinized;
 use refusal::Refusal;
 use refusal::StateRefusal;
@@ -22,25 +22,25 @@ pub enum Verdict {
 }
 
 // The sheet d of a determinization against the determinization of b.
-fn compare_second(d: &[u32], b: &[u32], low: u32, high: u32, word: &mut [u32]) -> Verdict
-    requires { ⌜ Accepted (now d) × Deterministic low high (read (now d)) × Accepted (now b) × (510 ≤ length (now word)) ⌝ }
-    ensures { λ r. ⌜ Judged (withSecond low high (read (now (d .entry))) (determinize low high (read (now (b .entry))))) (now (word .entry)) (now (word .exit)) r ⌝ }
+fn compare_second(d: &[u32], b: &[u32], lower: u32, upper: u32, word: &mut [u32]) -> Verdict
+    requires { ⌜ Accepted (now d) × Deterministic lower upper (read (now d)) × Accepted (now b) × (510 ≤ length (now word)) ⌝ }
+    ensures { λ r. ⌜ Judged (withSecond lower upper (read (now (d .entry))) (determinize lower upper (read (now (b .entry))))) (now (word .entry)) (now (word .exit)) r ⌝ }
 {
     let mut out = [0u32; 10500];
-    match determinize::determinize_accepted(b, low, high, &mut out) {
-        Determinized::Sheet(n, _) => pairs::walk(d, &out[..n], low, high, word),
+    match determinize::determinize_accepted(b, lower, upper, &mut out) {
+        Determinized::Sheet(n, _) => pairs::walk(d, &out[..n], lower, upper, word),
         Determinized::Refused(r) => Verdict::Refused(Refusal::State(r)),
     }
 }
 
-// The determinizations of two accepted sheets over the symbols from low to high.
-fn compare(a: &[u32], b: &[u32], low: u32, high: u32, word: &mut [u32]) -> Verdict
+// The determinizations of two accepted sheets over the symbols from lower to upper.
+fn compare(a: &[u32], b: &[u32], lower: u32, upper: u32, word: &mut [u32]) -> Verdict
     requires { ⌜ Accepted (now a) × Accepted (now b) × (510 ≤ length (now word)) ⌝ }
-    ensures { λ r. ⌜ Judged (determinized low high (read (now (a .entry))) (read (now (b .entry)))) (now (word .entry)) (now (word .exit)) r ⌝ }
+    ensures { λ r. ⌜ Judged (determinized lower upper (read (now (a .entry))) (read (now (b .entry)))) (now (word .entry)) (now (word .exit)) r ⌝ }
 {
     let mut out = [0u32; 10500];
-    match determinize::determinize_accepted(a, low, high, &mut out) {
-        Determinized::Sheet(n, _) => compare_second(&out[..n], b, low, high, word),
+    match determinize::determinize_accepted(a, lower, upper, &mut out) {
+        Determinized::Sheet(n, _) => compare_second(&out[..n], b, lower, upper, word),
         Determinized::Refused(r) => Verdict::Refused(Refusal::State(r)),
     }
 }
@@ -48,7 +48,7 @@ fn compare(a: &[u32], b: &[u32], low: u32, high: u32, word: &mut [u32]) -> Verdi
 // Whether two sheets accept the same words: same with the joins made, or different with the length of a word that exactly one
 // accepts, which stands at the front of word.
 pub fn equality(a: &[u32], b: &[u32], word: &mut [u32]) -> Verdict
-    ensures { λ r. ⌜ Judged (compared 0 lastSymbol (now (a .entry)) (now (b .entry)) (now (word .entry))) (now (word .entry)) (now (word .exit)) r ⌝ }
+    ensures { λ r. ⌜ Judged (equalityAnswer 0 lastSymbol (now (a .entry)) (now (b .entry)) (now (word .entry))) (now (word .entry)) (now (word .exit)) r ⌝ }
 {
     if word.len() < 510 {
         return Verdict::Refused(Refusal::State(StateRefusal::OutputLength));

@@ -31,15 +31,15 @@ pub struct Turned {
     pub seen: Seen,
 }
 
-// The first symbol from low to high that the records d and e share.
-fn first_common(d: &[u32], e: &[u32], low: u32, high: u32) -> First
+// The first symbol from lower to upper that the records d and e share.
+fn first_common(d: &[u32], e: &[u32], lower: u32, upper: u32) -> First
     requires { ⌜ (length (now d) ≡ 5) × (length (now e) ≡ 5) ⌝ }
-    ensures { λ r. ⌜ FirstOf (recordAt (now (d .entry)) 0) (recordAt (now (e .entry)) 0) low high r ⌝ }
+    ensures { λ r. ⌜ FirstOf (recordAt (now (d .entry)) 0) (recordAt (now (e .entry)) 0) lower upper r ⌝ }
 {
     match ranges::intersect_ranges(d[2], d[3], e[2], e[3]) {
         ranges::Common::Nothing => First::Nothing,
         ranges::Common::Range(first, last) => {
-            match ranges::intersect_ranges(first, last, low, high) {
+            match ranges::intersect_ranges(first, last, lower, upper) {
                 ranges::Common::Nothing => First::Nothing,
                 ranges::Common::Range(x, _) => First::Symbol(x),
             }
@@ -109,8 +109,8 @@ fn turn(
     b: &[u32],
     ra: &[u32],
     rb: &[u32],
-    low: u32,
-    high: u32,
+    lower: u32,
+    upper: u32,
     repr: &mut [u32; 512],
     size: &mut [u32; 512],
     queue: &mut [u32; 2560],
@@ -119,8 +119,8 @@ fn turn(
     n1: usize,
     i: usize,
 ) -> Turned
-    requires { ⌜ Ready (now a) (now b) low high (now ra) (now rb) n1 i (pairsOf (now repr) (now size) (now queue) n made) ⌝ }
-    ensures { λ r. ⌜ Saw (twoOf (now (a .entry)) (now (b .entry)) low high) i (pairsOf (now (repr .exit)) (now (size .exit)) (now (queue .exit)) n (r .made)) (r .seen) ⌝ }
+    requires { ⌜ Ready (now a) (now b) lower upper (now ra) (now rb) n1 i (pairsOf (now repr) (now size) (now queue) n made) ⌝ }
+    ensures { λ r. ⌜ Saw (twoOf (now (a .entry)) (now (b .entry)) lower upper) i (pairsOf (now (repr .exit)) (now (size .exit)) (now (queue .exit)) n (r .made)) (r .seen) ⌝ }
 {
     let ca = ra.len() / 5;
     let cb = rb.len() / 5;
@@ -137,7 +137,7 @@ fn turn(
                 break 'runs Seen::Alike;
             }
             let at_b = 5 * k;
-            match first_common(&ra[at_a..at_a + 5], &rb[at_b..at_b + 5], low, high) {
+            match first_common(&ra[at_a..at_a + 5], &rb[at_b..at_b + 5], lower, upper) {
                 First::Nothing => {}
                 First::Symbol(x) => {
                     let p = ra[at_a + 4];
@@ -165,8 +165,8 @@ fn walk_pairs(
     b: &[u32],
     starts_a: &[u32],
     starts_b: &[u32],
-    low: u32,
-    high: u32,
+    lower: u32,
+    upper: u32,
     repr: &mut [u32; 512],
     size: &mut [u32; 512],
     queue: &mut [u32; 2560],
@@ -175,8 +175,8 @@ fn walk_pairs(
     n1: usize,
     word: &mut [u32],
 ) -> Verdict
-    requires { ⌜ Going (now a) (now b) (now «starts_a») (now «starts_b») low high n1 0 (pairsOf (now repr) (now size) (now queue) n made) (now word) ⌝ }
-    ensures { λ r. ⌜ Decided (twoOf (now (a .entry)) (now (b .entry)) low high) (now (word .entry)) (now (word .exit)) r ⌝ }
+    requires { ⌜ Going (now a) (now b) (now «starts_a») (now «starts_b») lower upper n1 0 (pairsOf (now repr) (now size) (now queue) n made) (now word) ⌝ }
+    ensures { λ r. ⌜ Decided (twoOf (now (a .entry)) (now (b .entry)) lower upper) (now (word .entry)) (now (word .exit)) r ⌝ }
 {
     let mut head: usize = 0;
     while head < made {
@@ -189,8 +189,8 @@ fn walk_pairs(
             b,
             ra,
             rb,
-            low,
-            high,
+            lower,
+            upper,
             repr,
             size,
             queue,
@@ -213,10 +213,10 @@ fn walk_pairs(
     Verdict::Same(made)
 }
 
-// The walk over two sheets in which every symbol from low to high has one transition in every state.
-pub fn walk(a: &[u32], b: &[u32], low: u32, high: u32, word: &mut [u32]) -> Verdict
-    requires { ⌜ Given (now a) (now b) low high (now word) ⌝ }
-    ensures { λ r. ⌜ Decided (twoOf (now (a .entry)) (now (b .entry)) low high) (now (word .entry)) (now (word .exit)) r ⌝ }
+// The walk over two sheets in which every symbol from lower to upper has one transition in every state.
+pub fn walk(a: &[u32], b: &[u32], lower: u32, upper: u32, word: &mut [u32]) -> Verdict
+    requires { ⌜ Given (now a) (now b) lower upper (now word) ⌝ }
+    ensures { λ r. ⌜ Decided (twoOf (now (a .entry)) (now (b .entry)) lower upper) (now (word .entry)) (now (word .exit)) r ⌝ }
 {
     let first = a[1];
     let second = b[1];
@@ -249,8 +249,8 @@ pub fn walk(a: &[u32], b: &[u32], low: u32, high: u32, word: &mut [u32]) -> Verd
         b,
         &starts_a,
         &starts_b,
-        low,
-        high,
+        lower,
+        upper,
         &mut repr,
         &mut size,
         &mut queue,

@@ -11,8 +11,8 @@ use lib.ListN.{getD}
 use Rattle.lists.proofs.Members.{map-in, map-out}
 use Rattle.automata.specs.Automaton.{Transition, Automaton, InBounds, leaving}
 use Rattle.dsu.proofs.Generated.{generated-into}
-use Rattle.equivalence.specs.Triggers.{SameTrigger, First, Within}
-use Rattle.equivalence.specs.Equivalent.{Reached, start, step, Alike}
+use Rattle.equivalence.specs.Triggers.{SameTrigger, First, TriggersWithin}
+use Rattle.equivalence.specs.Equivalent.{ReachedByTriggers, start, step, Alike}
 use Rattle.equivalence.specs.inner.Walking.{Pairs, classes, oneAt, twoAt, Good}
 use Rattle.equivalence.proofs.Triggers.{trigger-turn, trigger-chain, first-target, first-exists, within-self, within-chain}
 use Rattle.equivalence.proofs.Exact.{reached-in}
@@ -20,8 +20,8 @@ use Rattle.equivalence.proofs.Exact.{reached-in}
 -- the states x and y, whose accept words and transitions are given for each number, agree, where f names the classes
 pub record Bisimilar (accept : ℕ → ℕ) (out : ℕ → List Transition) (f : ℕ → ℕ) (x y : ℕ) : Type 0 where
   pub accepts : accept x ≡ accept y
-  pub there : Within (out x) (out y)
-  pub back : Within (out y) (out x)
+  pub there : TriggersWithin (out x) (out y)
+  pub back : TriggersWithin (out y) (out x)
   pub joined : (d e : Transition) → First (out x) d → First (out y) e → SameTrigger d e → f (d .to) ≡ f (e .to)
 
 module _ (accept : ℕ → ℕ) (out : ℕ → List Transition) (f : ℕ → ℕ) where
@@ -74,23 +74,23 @@ module _ (A B : Automaton) where
   out-right q = rw (le-ltb (A .size + q) (A .size) (omega arith), behind q)
 
   -- triggers and first records of shifted transitions
-  to-shifted : {ds es : List Transition} → Within ds es → Within ds (map shifted es)
+  to-shifted : {ds es : List Transition} → TriggersWithin ds es → TriggersWithin ds (map shifted es)
   to-shifted w d m = let (e, n, s) = w d m in (shifted e, map-in shifted n, record { kind = s .kind; first = s .first; last = s .last })
 
-  from-shifted : {ds es : List Transition} → Within es ds → Within (map shifted es) ds
+  from-shifted : {ds es : List Transition} → TriggersWithin es ds → TriggersWithin (map shifted es) ds
   from-shifted {ds} {es} w d m =
       let (e, n, q) = map-out shifted es d m in
       let (x, k, s) = w e n in
       (x, k, subst (λ (t : Transition). SameTrigger t x) (sym q) (record { kind = s .kind; first = s .first; last = s .last }))
 
-  un-shifted : {ds es : List Transition} → Within ds (map shifted es) → Within ds es
+  un-shifted : {ds es : List Transition} → TriggersWithin ds (map shifted es) → TriggersWithin ds es
   un-shifted {ds} {es} w d m =
       let (x, n, s) = w d m in
       let (e, k, q) = map-out shifted es x n in
       let t : SameTrigger d (shifted e) = rw q at s in
       (e, k, record { kind = t .kind; first = t .first; last = t .last })
 
-  un-shifted-back : {ds es : List Transition} → Within (map shifted es) ds → Within es ds
+  un-shifted-back : {ds es : List Transition} → TriggersWithin (map shifted es) ds → TriggersWithin es ds
   un-shifted-back {ds} {es} w e m = let (x, n, s) = w (shifted e) (map-in shifted m) in (x, n, record { kind = s .kind; first = s .first; last = s .last })
 
   first-shifted : {es : List Transition} {e : Transition} → First es e → First (map shifted es) (shifted e)
@@ -112,8 +112,8 @@ module _ (A B : Automaton) where
   agree : (f : ℕ → ℕ) (p q : ℕ) → p < A .size → Alike A B p q → ((d e : Transition) → First (leaving A p) d → First (leaving B q) e → SameTrigger d e → f (d .to) ≡ f (A .size + e .to)) → Bisimilar acceptIn outOf f p (A .size + q)
   agree f p q h a j = record {
     accepts = accept-left p h ∙ a .accept ∙ sym (accept-right q);
-    there = subst (λ (l : List Transition). Within l (outOf (A .size + q))) (sym (out-left p h)) (subst (Within (leaving A p)) (sym (out-right q)) (to-shifted (a .there)));
-    back = subst (λ (l : List Transition). Within l (outOf p)) (sym (out-right q)) (subst (Within (map shifted (leaving B q))) (sym (out-left p h)) (from-shifted (a .back)));
+    there = subst (λ (l : List Transition). TriggersWithin l (outOf (A .size + q))) (sym (out-left p h)) (subst (TriggersWithin (leaving A p)) (sym (out-right q)) (to-shifted (a .there)));
+    back = subst (λ (l : List Transition). TriggersWithin l (outOf p)) (sym (out-right q)) (subst (TriggersWithin (map shifted (leaving B q))) (sym (out-left p h)) (from-shifted (a .back)));
     joined = λ d e x y s.
         let (c, u, k) = shifted-first e (subst (λ (l : List Transition). First l e) (out-right q) y) in
         let t : SameTrigger d (shifted c) = rw k at s in
@@ -124,8 +124,8 @@ module _ (A B : Automaton) where
   agreed : (f : ℕ → ℕ) (p q : ℕ) → p < A .size → Bisimilar acceptIn outOf f p (A .size + q) → Alike A B p q
   agreed f p q h b = record {
     accept = sym (accept-left p h) ∙ b .accepts ∙ accept-right q;
-    there = un-shifted (subst (Within (leaving A p)) (out-right q) (subst (λ (l : List Transition). Within l (outOf (A .size + q))) (out-left p h) (b .there)));
-    back = un-shifted-back (subst (Within (map shifted (leaving B q))) (out-left p h) (subst (λ (l : List Transition). Within l (outOf p)) (out-right q) (b .back)));
+    there = un-shifted (subst (TriggersWithin (leaving A p)) (out-right q) (subst (λ (l : List Transition). TriggersWithin l (outOf (A .size + q))) (out-left p h) (b .there)));
+    back = un-shifted-back (subst (TriggersWithin (map shifted (leaving B q))) (out-left p h) (subst (λ (l : List Transition). TriggersWithin l (outOf p)) (out-right q) (b .back)));
   }
 
   agreed-joined : (f : ℕ → ℕ) (p q : ℕ) → p < A .size → Bisimilar acceptIn outOf f p (A .size + q) → (d e : Transition) → First (leaving A p) d → First (leaving B q) e → SameTrigger d e → f (d .to) ≡ f (A .size + e .to)
@@ -134,18 +134,18 @@ module _ (A B : Automaton) where
 
   -- a finished walk
   module _ (in-a : InBounds A) (in-b : InBounds B) (w : Pairs) (g : Good (A .size) w) (is-n : w .sets .n ≡ A .size + B .size) (started : classes w (A .start) ≡ classes w (A .size + B .start))
-      (reached : (i : ℕ) → i < w .made → Reached A B (oneAt w i) (twoAt w i))
+      (reached : (i : ℕ) → i < w .made → ReachedByTriggers A B (oneAt w i) (twoAt w i))
       (alike : (i : ℕ) → i < w .made → Alike A B (oneAt w i) (twoAt w i))
       (follows : (i : ℕ) → i < w .made → (d e : Transition) → First (leaving A (oneAt w i)) d → First (leaving B (twoAt w i)) e → SameTrigger d e → classes w (d .to) ≡ classes w (A .size + e .to)) where
     joined-agree : (p q : ℕ) → p < A .size → q < B .size → classes w p ≡ classes w (A .size + q) → Bisimilar acceptIn outOf (classes w) p (A .size + q)
     joined-agree p q h k e = generated-into (Bisimilar acceptIn outOf (classes w)) (λ x l. bisimilar-self acceptIn outOf (classes w) x) (λ x y b. bisimilar-turn acceptIn outOf (classes w) b) (λ x y z b c. bisimilar-chain acceptIn outOf (classes w) b c)
         (λ i l. agree (classes w) (oneAt w i) (twoAt w i) (reached-in A B in-a in-b (reached i l) .0) (alike i l) (follows i l)) (g .spanned .only p (A .size + q) (omega (arith, is-n)) (omega (arith, is-n)) e)
 
-    reached-joined : {p q : ℕ} → Reached A B p q → classes w p ≡ classes w (A .size + q)
+    reached-joined : {p q : ℕ} → ReachedByTriggers A B p q → classes w p ≡ classes w (A .size + q)
     reached-joined start = started
     reached-joined (step {p} {q} {d} {e} r f k s) =
         let (h, l) = reached-in A B in-a in-b r in
         agreed-joined (classes w) p q h (joined-agree p q h l (reached-joined r)) d e f k s
 
-    pub walked-alike : (p q : ℕ) → Reached A B p q → Alike A B p q
+    pub walked-alike : (p q : ℕ) → ReachedByTriggers A B p q → Alike A B p q
     walked-alike p q r = let (h, l) = reached-in A B in-a in-b r in agreed (classes w) p q h (joined-agree p q h l (reached-joined r))

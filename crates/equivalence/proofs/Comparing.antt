@@ -16,7 +16,7 @@ use Rattle.automata.specs.Records.{readRecords}
 use Rattle.automata.specs.inner.Records.{recordAt}
 use Rattle.automata.proofs.Records.{records-at, records-end}
 use Rattle.dsu.proofs.Generated.{spanned-room}
-use Rattle.equivalence.specs.Triggers.{SameTrigger, Within, sameTrigger}
+use Rattle.equivalence.specs.Triggers.{SameTrigger, TriggersWithin, sameTrigger}
 use Rattle.equivalence.specs.inner.Rows.{leadersBehind, leaders, RowEnd}
 use Rattle.equivalence.specs.inner.Walking.{Pairs, Good, Grown, CanOffer, Offered, Runs, CanTurn, Comes, Saw, Turned}
 use Rattle.equivalence.proofs.Triggers.{trigger-test, trigger-apart, trigger-chain}
@@ -53,10 +53,10 @@ row-rest : (s : List ℕ) (at r : ℕ) → RowEnd s at r → leaders (readRecord
 row-rest s at r e = ap leaders (e .rest) ∙ leaders-rest (recordAt s at) (readRecords (drop (at + 5) s))
 
 -- triggers of all, and of the first of each row
-within-leaders : {ds es : List Transition} → Within ds es → Within (leaders ds) (leaders es)
+within-leaders : {ds es : List Transition} → TriggersWithin ds es → TriggersWithin (leaders ds) (leaders es)
 within-leaders {ds} {es} w d m = let (e, n, s) = w d (leaders-out ds d m) in let (l, k, t) = leaders-led es e n in (l, k, trigger-chain s t)
 
-leaders-within : {ds es : List Transition} → Within (leaders ds) (leaders es) → Within ds es
+leaders-within : {ds es : List Transition} → TriggersWithin (leaders ds) (leaders es) → TriggersWithin ds es
 leaders-within {ds} {es} w d m = let (l, n, s) = leaders-led ds d m in let (e, k, t) = w l n in (e, leaders-out es e k, trigger-chain s t)
 
 -- the rows before j and k are done

@@ -11,7 +11,7 @@ use lib.Dec.{ltb}
 use lib.ListN.{length, getD}
 use lib.Seq.{sets}
 use mathlib.Core.Logic.{⊎-elim}
-use Rattle.lists.proofs.Members.{ascending-keep}
+use Rattle.lists.proofs.Members.{ascending-filter}
 use Rattle.lists.proofs.Tests.{test}
 use Rattle.automata.specs.Automaton.{Transition, Automaton, leaving}
 use Rattle.automata.specs.Records.{readRecords, writeRecords}
@@ -23,7 +23,7 @@ use Rattle.sheets.specs.Sheet.{stateCount, read}
 use Rattle.sheets.proofs.Meaning.{read-well}
 use Rattle.sheets.proofs.Runs.{run-at, starts-indexed}
 use Rattle.automata.proofs.Leaving.{leaves}
-use Rattle.equivalence.specs.Equivalent.{Reached, start, step, Alike, equivalent}
+use Rattle.equivalence.specs.Equivalent.{ReachedByTriggers, start, step, Alike, equivalent}
 use Rattle.equivalence.specs.inner.Walking.{Pairs, classes, oneAt, twoAt, Good, Fresh, CanOffer, Offered, Runs, CanTurn, Saw, Turned, Follows, Going}
 use Rattle.equivalence.proofs.Triggers.{trigger-turn, trigger-chain, first-target}
 use Rattle.equivalence.proofs.Exact.{reached-in, exact, exact-false}
@@ -33,7 +33,7 @@ use Rattle.equivalence.proofs.Bisimulation.{walked-alike}
 -- the transitions of a state are in order
 leaving-sorted : (A : Automaton) → WellFormed A → (p : ℕ) → Sorted p (leaving A p)
 unfolding leaving
-leaving-sorted A v p = record { ascends = ascending-keep _ (v .ascends); from = λ e m. leaves A p e m .1 }
+leaving-sorted A v p = record { ascends = ascending-filter _ (v .ascends); from = λ e m. leaves A p e m .1 }
 
 -- the walk begins with the starts
 module _ (a b : List ℕ) (first : Accepted a) (second : Accepted b) where
@@ -170,7 +170,7 @@ module _ (a b starts-a starts-b : List ℕ) (n1 head : ℕ) (w : Pairs) (g : Goi
               (omega (arith, g .is-n, well-a .states .tos d (leaves (read a) (oneAt w i) d (p .one) .0)))
               (omega (arith, g .is-n, well-b .states .tos e (leaves (read b) (twoAt w i) e (q .one) .0))) (g .follows i l d e p q s)
 
-          came : (i : ℕ) → i < r .made → Reached (read a) (read b) (oneAt r i) (twoAt r i)
+          came : (i : ℕ) → i < r .made → ReachedByTriggers (read a) (read b) (oneAt r i) (twoAt r i)
           came i l =
               ⊎-elim (λ (u : ltb i (w .made) ≡ true). let m = ltb-true i (w .made) u in rw (same-one i m, same-two i m) (g .reached i m))
               (λ (u : ltb i (w .made) ≡ false).

@@ -29,17 +29,17 @@ use Rattle.sheets.proofs.Meaning.{read-well}
 use Rattle.sheets.proofs.Numbers.{sheet-given, sheet-fault}
 use Rattle.ranges.proofs.Functional.{overlap-functional}
 use Rattle.ranges.specs.Span.{OverlapFree}
-use Rattle.equivalence.specs.Equivalent.{Reached, Alike, equivalent, equivalentAnswer}
+use Rattle.equivalence.specs.Equivalent.{ReachedByTriggers, Alike, equivalent, equivalentAnswer}
 use Rattle.equivalence.proofs.Exact.{exact, exact-false}
 use Rattle.equivalence.proofs.Words.{words-beside, all-turn}
 
 module _ (A B : Automaton) (v : WellFormed A) (u : WellFormed B) where
   -- true exactly when no pair that equal triggers reach differs in acceptance or in its triggers, false exactly when one does: in whatever
   -- order triggers and pairs are taken, this is the answer
-  pub equivalent-exact : (equivalent A B ≡ true) ↔ ((p q : ℕ) → Reached A B p q → Alike A B p q)
+  pub equivalent-exact : (equivalent A B ≡ true) ↔ ((p q : ℕ) → ReachedByTriggers A B p q → Alike A B p q)
   equivalent-exact = exact A B (v .states) (u .states)
 
-  pub different-exact : (equivalent A B ≡ false) ↔ ((p q : ℕ) × Reached A B p q × (Alike A B p q → ⊥))
+  pub different-exact : (equivalent A B ≡ false) ↔ ((p q : ℕ) × ReachedByTriggers A B p q × (Alike A B p q → ⊥))
   different-exact = exact-false A B (v .states) (u .states)
 
   -- without epsilons or overlaps, true implies equal words
@@ -59,7 +59,7 @@ module _ (a b : List ℕ) (first : fault a ≡ 0) (second : fault b ≡ 0) where
   is-given : (t : Bool) → equivalentAnswer a b ≡ given t → equivalent (read a) (read b) ≡ t
   is-given t e = let c : given (equivalent (read a) (read b)) ≡ given t = sym answered ∙ e in cc
 
-  pub sheets-exact : (equivalentAnswer a b ≡ given true) ↔ ((p q : ℕ) → Reached (read a) (read b) p q → Alike (read a) (read b) p q)
+  pub sheets-exact : (equivalentAnswer a b ≡ given true) ↔ ((p q : ℕ) → ReachedByTriggers (read a) (read b) p q → Alike (read a) (read b) p q)
   sheets-exact = let x = equivalent-exact (read a) (read b) (read-well a (accepted a first)) (read-well b (accepted b second)) in (λ e. x .0 (is-given true e), λ h. answered ∙ ap given (x .1 h))
 
   pub sheets-words : EpsilonFree (read a) → EpsilonFree (read b) → OverlapFree (read a) → OverlapFree (read b) → equivalentAnswer a b ≡ given true → (w : List ℕ) → Accepts (read a) w ↔ Accepts (read b) w
@@ -95,18 +95,18 @@ module _ (a b : List ℕ) (r : Decision) (call : decisionOf r ≡ equivalentAnsw
       )
 
   -- true exactly when the sheets have no fault and no pair of states that equal triggers reach differs in acceptance or in its triggers
-  pub equivalent-call : (r ≡ Is true) ↔ ((fault a ≡ 0) × (fault b ≡ 0) × ((p q : ℕ) → Reached (read a) (read b) p q → Alike (read a) (read b) p q))
+  pub equivalent-call : (r ≡ Is true) ↔ ((fault a ≡ 0) × (fault b ≡ 0) × ((p q : ℕ) → ReachedByTriggers (read a) (read b) p q → Alike (read a) (read b) p q))
   equivalent-call =
       let k = call-is r (equivalentAnswer a b) call true in
       (λ e. let (f, g, h) = answer-is true .0 e in (f, g, sheets-exact a b f g .0 (k .0 e)), λ (f, g, h). k .1 (sheets-exact a b f g .1 h))
 
   -- false exactly when they have no fault and one does
-  pub different-call : (r ≡ Is false) ↔ ((fault a ≡ 0) × (fault b ≡ 0) × ((p q : ℕ) × Reached (read a) (read b) p q × (Alike (read a) (read b) p q → ⊥)))
+  pub different-call : (r ≡ Is false) ↔ ((fault a ≡ 0) × (fault b ≡ 0) × ((p q : ℕ) × ReachedByTriggers (read a) (read b) p q × (Alike (read a) (read b) p q → ⊥)))
   different-call =
       let is = answer-is false in
       (λ e. let (f, g, h) = is .0 e in (f, g, one f g .0 h), λ (f, g, h). is .1 (f, g, one f g .1 h))
     where
-      one : fault a ≡ 0 → fault b ≡ 0 → (equivalent (read a) (read b) ≡ false) ↔ ((p q : ℕ) × Reached (read a) (read b) p q × (Alike (read a) (read b) p q → ⊥))
+      one : fault a ≡ 0 → fault b ≡ 0 → (equivalent (read a) (read b) ≡ false) ↔ ((p q : ℕ) × ReachedByTriggers (read a) (read b) p q × (Alike (read a) (read b) p q → ⊥))
       one f g = different-exact (read a) (read b) (read-well a (accepted a f)) (read-well b (accepted b g))
 
   -- without epsilons or overlaps, true implies equal words

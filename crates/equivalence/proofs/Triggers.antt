@@ -7,10 +7,10 @@ use native.Mathlib.Omega.{arith}
 use borrow.Author.Tests.{eq-eqb, eqb-true, ltb-true, ltb-false, not-true}
 use lib.Dec.{eqb, ltb}
 use Rattle.lists.specs.Lists.{_∈_, any}
-use Rattle.lists.proofs.Lists.{any-in, any-out, keep-in, keep-out}
+use Rattle.lists.proofs.Lists.{any-in, any-out, filter-in, filter-out}
 use Rattle.lists.proofs.Tests.{test, and-both, and-parts}
 use Rattle.automata.specs.Automaton.{Transition}
-use Rattle.equivalence.specs.Triggers.{SameTrigger, First, Within, sameTrigger, isLower, isFirst, firsts, isLacking, within}
+use Rattle.equivalence.specs.Triggers.{SameTrigger, First, TriggersWithin, sameTrigger, isLower, isFirst, firsts, isLacking, triggersWithin}
 
 pub trigger-self : (d : Transition) → SameTrigger d d
 trigger-self d = record { kind = refl; first = refl; last = refl }
@@ -47,7 +47,7 @@ none-in f l h = ⊎-elim (λ t. let r = any-out f l t in absurd (h (r .0) (r .1)
 pub firsts-out : (es : List Transition) (e : Transition) → e ∈ firsts es → First es e
 unfolding firsts isFirst isLower
 firsts-out es e m =
-    let k = keep-out (isFirst es) e es m in
+    let k = filter-out (isFirst es) e es m in
     record {
       one = k .0;
       lowest = λ d n s.
@@ -58,7 +58,7 @@ firsts-out es e m =
 pub firsts-in : {es : List Transition} {e : Transition} → First es e → e ∈ firsts es
 unfolding firsts isFirst isLower
 firsts-in {es} {e} f =
-    keep-in (isFirst es) (f .one)
+    filter-in (isFirst es) (f .one)
     (none-in (isLower e) es (λ d m t. let p = and-parts (sameTrigger d e) _ t in let l = ltb-true (d .to) (e .to) (p .1) in omega (arith, f .lowest d m (trigger-test d e (p .0)))))
 
 -- those of one trigger have one target
@@ -95,18 +95,18 @@ pub first-exists : (es : List Transition) (d : Transition) → d ∈ es → (e :
 first-exists es d m = ⊎-elim (λ f. f) (λ n. absurd (n d m (trigger-self d))) (first-or d es)
 
 -- triggers of ds among those of es
-pub within-test : (ds es : List Transition) → within ds es ≡ true → Within ds es
-unfolding within isLacking
+pub within-test : (ds es : List Transition) → triggersWithin ds es ≡ true → TriggersWithin ds es
+unfolding triggersWithin isLacking
 within-test ds es h d m =
     ⊎-elim (λ (t : any (sameTrigger d) es ≡ true). let r = any-out (sameTrigger d) es t in (r .0, r .1, trigger-test d (r .0) (r .2)))
     (λ (t : any (sameTrigger d) es ≡ false). absurd (none-out (isLacking es) ds h d m (ap not t))) (test (any (sameTrigger d) es))
 
-pub within-passes : {ds es : List Transition} → Within ds es → within ds es ≡ true
-unfolding within isLacking
+pub within-passes : {ds es : List Transition} → TriggersWithin ds es → triggersWithin ds es ≡ true
+unfolding triggersWithin isLacking
 within-passes {ds} {es} w = none-in (isLacking es) ds (λ d m t. let r = w d m in false≢true (sym (not-true (any (sameTrigger d) es) t) ∙ any-in (sameTrigger d) (r .1) (trigger-passes (r .2))))
 
-pub within-self : (es : List Transition) → Within es es
+pub within-self : (es : List Transition) → TriggersWithin es es
 within-self es d m = (d, m, trigger-self d)
 
-pub within-chain : {cs ds es : List Transition} → Within cs ds → Within ds es → Within cs es
+pub within-chain : {cs ds es : List Transition} → TriggersWithin cs ds → TriggersWithin ds es → TriggersWithin cs es
 within-chain v w c m = let r = v c m in let s = w (r .0) (r .1) in (s .0, s .1, trigger-chain (r .2) (s .2))

@@ -7,7 +7,7 @@ use Rattle.lists.specs.Lists.{_∈_, Ascending}
 use Rattle.lists.proofs.Members.{ascending-first, ascending-rest}
 use Rattle.automata.specs.Automaton.{Transition}
 use Rattle.automata.proofs.Ordered.{lex-trans, lex-irreflexive}
-use Rattle.equivalence.specs.Triggers.{SameTrigger, Within}
+use Rattle.equivalence.specs.Triggers.{SameTrigger, TriggersWithin}
 use Rattle.equivalence.specs.inner.Rows.{Lower}
 use Rattle.equivalence.specs.inner.Walking.{Pairs, classes, Grown}
 use Rattle.equivalence.proofs.Triggers.{trigger-turn, trigger-chain}
@@ -44,15 +44,15 @@ zipped-grown {n1} k a b (next {d} {e} s j z) =
 
 -- equal triggers, which are joined
 pub record Matched (n1 : ℕ) (w : Pairs) (ds es : List Transition) : Type 0 where
-  pub there : Within ds es
-  pub back : Within es ds
+  pub there : TriggersWithin ds es
+  pub back : TriggersWithin es ds
   pub joined : (d e : Transition) → d ∈ ds → e ∈ es → SameTrigger d e → classes w (d .to) ≡ classes w (n1 + e .to)
 
 -- one more in front of ascending triggers
-within-more : {d e : Transition} {ds es : List Transition} → SameTrigger d e → Within ds es → Within (d ∷ ds) (e ∷ es)
+within-more : {d e : Transition} {ds es : List Transition} → SameTrigger d e → TriggersWithin ds es → TriggersWithin (d ∷ ds) (e ∷ es)
 within-more {d} {e} s w x m = ⊎-elim (λ (q : x ≡ d). (e, List·Memᴰ·head refl, rw q s)) (λ k. let r = w x k in (r .0, List·Memᴰ·tail (r .1), r .2)) (List·Memᴰ·cases-cons m)
 
-within-less : {d e : Transition} {ds es : List Transition} → SameTrigger d e → Ascending Lower (d ∷ ds) → Within (d ∷ ds) (e ∷ es) → Within ds es
+within-less : {d e : Transition} {ds es : List Transition} → SameTrigger d e → Ascending Lower (d ∷ ds) → TriggersWithin (d ∷ ds) (e ∷ es) → TriggersWithin ds es
 within-less {d} {e} {ds} {es} s a w x m =
     let (y, n, t) = w x (List·Memᴰ·tail m) in
     ⊎-elim (λ (q : y ≡ e). absurd (lower-apart (ascending-first a x m) (trigger-chain s (trigger-turn (rw q at t))))) (λ k. (y, k, t)) (List·Memᴰ·cases-cons n)
@@ -76,16 +76,16 @@ module _ {n1 : ℕ} {w : Pairs} {F G : List Transition} (f : Ascending Lower F) 
   zipped-matched (next s j z) m = zipped-matched z (matched-more s j (left-sorted f g z) (right-sorted f g z) m)
 
   -- if F and G have the same triggers, so have ds and es
-  zipped-there : {ds es : List Transition} → Zipped n1 w F G ds es → Within F G → Within ds es
+  zipped-there : {ds es : List Transition} → Zipped n1 w F G ds es → TriggersWithin F G → TriggersWithin ds es
   zipped-there whole h = h
   zipped-there (next s j z) h = within-less s (left-sorted f g z) (zipped-there z h)
 
-  zipped-back : {ds es : List Transition} → Zipped n1 w F G ds es → Within G F → Within es ds
+  zipped-back : {ds es : List Transition} → Zipped n1 w F G ds es → TriggersWithin G F → TriggersWithin es ds
   zipped-back whole h = h
   zipped-back (next s j z) h = within-less (trigger-turn s) (right-sorted f g z) (zipped-back z h)
 
   -- so the next two have equal triggers, or there are none
-  pub zipped-heads : {d e : Transition} {ds es : List Transition} → Zipped n1 w F G (d ∷ ds) (e ∷ es) → (SameTrigger d e → ⊥) → Within F G → Within G F → ⊥
+  pub zipped-heads : {d e : Transition} {ds es : List Transition} → Zipped n1 w F G (d ∷ ds) (e ∷ es) → (SameTrigger d e → ⊥) → TriggersWithin F G → TriggersWithin G F → ⊥
   zipped-heads {d} {e} {ds} {es} z n h k =
       let (y, p, s) = zipped-there z h d (List·Memᴰ·head refl) in
       let (x, q, t) = zipped-back z k e (List·Memᴰ·head refl) in
@@ -93,8 +93,8 @@ module _ {n1 : ℕ} {w : Pairs} {F G : List Transition} (f : Ascending Lower F) 
       let down : Lower d e = ⊎-elim (λ (i : x ≡ d). absurd (n (trigger-turn (rw i at t)))) (λ i. lower-right d (ascending-first (left-sorted f g z) x i) (trigger-turn t)) (List·Memᴰ·cases-cons q) in
       lex-irreflexive (lex-trans up down)
 
-  pub zipped-left-over : {d : Transition} {ds : List Transition} → Zipped n1 w F G (d ∷ ds) [] → Within F G → ⊥
+  pub zipped-left-over : {d : Transition} {ds : List Transition} → Zipped n1 w F G (d ∷ ds) [] → TriggersWithin F G → ⊥
   zipped-left-over {d} z h = let r = zipped-there z h d (List·Memᴰ·head refl) in elim (r .1) [ ]
 
-  pub zipped-right-over : {e : Transition} {es : List Transition} → Zipped n1 w F G [] (e ∷ es) → Within G F → ⊥
+  pub zipped-right-over : {e : Transition} {es : List Transition} → Zipped n1 w F G [] (e ∷ es) → TriggersWithin G F → ⊥
   zipped-right-over {e} z h = let r = zipped-back z h e (List·Memᴰ·head refl) in elim (r .1) [ ]

@@ -11,7 +11,7 @@ use Rattle.ranges.proofs.Held.{held}
 use Rattle.automata.proofs.Leaving.{leaves, leaving-in}
 use Rattle.ranges.proofs.Functional.{Functional}
 use Rattle.equivalence.specs.Triggers.{First}
-use Rattle.equivalence.specs.Equivalent.{Reached, start, step, Alike}
+use Rattle.equivalence.specs.Equivalent.{ReachedByTriggers, start, step, Alike}
 use Rattle.equivalence.proofs.Triggers.{trigger-turn}
 
 -- every transition is the first of its trigger
@@ -27,10 +27,10 @@ own-first A v f p d m =
     }
 
 abbrev pub AllAlike : Automaton → Automaton → Type 0
-AllAlike A B = (p q : ℕ) → Reached A B p q → Alike A B p q
+AllAlike A B = (p q : ℕ) → ReachedByTriggers A B p q → Alike A B p q
 
 module _ (A B : Automaton) (v : WellFormed A) (u : WellFormed B) (f : Functional A) (g : Functional B) (all : AllAlike A B) where
-  run-beside : {p p′ q : ℕ} {w : List ℕ} → Run A p w p′ → Reached A B p q → (q′ : ℕ) × Run B q w q′ × Reached A B p′ q′
+  run-beside : {p p′ q : ℕ} {w : List ℕ} → Run A p w p′ → ReachedByTriggers A B p q → (q′ : ℕ) × Run B q w q′ × ReachedByTriggers A B p′ q′
   run-beside {q = q} stay r = (q, stay, r)
   run-beside (skip e m c k s) r = absurd (omega (arith, f .ranges e m))
   run-beside {q = q} (read {p = p} {a = a} e m c k l h s) r =
@@ -46,7 +46,7 @@ module _ (A B : Automaton) (v : WellFormed A) (u : WellFormed B) (f : Functional
       (q, s, subst (λ (x : ℕ). 0 < x) (all p q t .accept) a)
 
 -- the two turned round
-reached-turn : {A B : Automaton} {p q : ℕ} → Reached A B p q → Reached B A q p
+reached-turn : {A B : Automaton} {p q : ℕ} → ReachedByTriggers A B p q → ReachedByTriggers B A q p
 reached-turn start = start
 reached-turn (step r f g s) = step (reached-turn r) g f (trigger-turn s)
 

@@ -5,56 +5,55 @@ use mathlib.Core.Bool.{Bool, false, not, _&&_}
 use mathlib.Core.List.{List, map, flatMap}
 use mathlib.Core.Path.{_≡_}
 use lib.Dec.{eqb}
-use lib.ListN.{getD}
-use Rattle.lists.specs.Lists.{any, keep}
-use Rattle.automata.specs.Automaton.{Transition, Automaton, leaving}
+use Rattle.lists.specs.Lists.{any, filter}
+use Rattle.automata.specs.Automaton.{Transition, Automaton, leaving, acceptOf}
 use Rattle.refusal.specs.Answer.{Answer, given}
-use Rattle.search.specs.Search.{Graph, Found, over, found, table}
+use Rattle.search.specs.Search.{Graph, SearchResult, over, found, table}
 use Rattle.sheets.specs.Checked.{sheetFirst}
 use Rattle.sheets.specs.Sheet.{read}
 use Rattle.automata.specs.Pairs.{Pair, samePair}
-use Rattle.equivalence.specs.Triggers.{SameTrigger, First, Within, sameTrigger, firsts, within}
+use Rattle.equivalence.specs.Triggers.{SameTrigger, First, TriggersWithin, sameTrigger, firsts, triggersWithin}
 
 -- the pair of the starts is reached, and the first records of equal triggers lead from a reached pair to another
-pub data Reached (A B : Automaton) : ℕ → ℕ → Type 0 where
-  start : Reached A B (A .start) (B .start)
-  step : {p q : ℕ} {d e : Transition} → Reached A B p q → First (leaving A p) d → First (leaving B q) e → SameTrigger d e → Reached A B (d .to) (e .to)
+pub data ReachedByTriggers (A B : Automaton) : ℕ → ℕ → Type 0 where
+  start : ReachedByTriggers A B (A .start) (B .start)
+  step : {p q : ℕ} {d e : Transition} → ReachedByTriggers A B p q → First (leaving A p) d → First (leaving B q) e → SameTrigger d e → ReachedByTriggers A B (d .to) (e .to)
 
 -- a state of A and one of B differ neither in acceptance nor in their triggers
 pub record Alike (A B : Automaton) (p q : ℕ) : Type 0 where
-  pub accept : getD (A .accept) p 0 ≡ getD (B .accept) q 0
-  pub there : Within (leaving A p) (leaving B q)
-  pub back : Within (leaving B q) (leaving A p)
+  pub accept : acceptOf A p ≡ acceptOf B q
+  pub there : TriggersWithin (leaving A p) (leaving B q)
+  pub back : TriggersWithin (leaving B q) (leaving A p)
 
 -- the same as a test
 unfoldable pub alike : Automaton → Automaton → Pair → Bool
 alike A B p =
-    eqb (getD (A .accept) (p .left) 0) (getD (B .accept) (p .right) 0)
-    && (within (leaving A (p .left)) (leaving B (p .right)) && within (leaving B (p .right)) (leaving A (p .left)))
+    eqb (acceptOf A (p .left)) (acceptOf B (p .right))
+    && (triggersWithin (leaving A (p .left)) (leaving B (p .right)) && triggersWithin (leaving B (p .right)) (leaving A (p .left)))
 
 -- the pairs to which equal triggers of ds and es lead
 unfoldable pub targetsWith : List Transition → Transition → List Pair
-targetsWith es d = map (λ e. record { left = d .to; right = e .to }) (keep (sameTrigger d) es)
+targetsWith es d = map (λ e. record { left = d .to; right = e .to }) (filter (sameTrigger d) es)
 
 unfoldable pub targets : List Transition → List Transition → List Pair
 targets ds es = flatMap (targetsWith es) ds
 
 -- pairs lead to pairs by the first records of equal triggers
-unfoldable pub pairs : Automaton → Automaton → Graph Pair
-pairs A B = record {
+unfoldable pub triggerPairs : Automaton → Automaton → Graph Pair
+triggerPairs A B = record {
   same = samePair;
   next = λ p. targets (firsts (leaving A (p .left))) (firsts (leaving B (p .right)));
   start = record { left = A .start; right = B .start };
 }
 
 -- no pair of the table differs
-unfoldable pub allAlike : Automaton → Automaton → Found Pair → Bool
+unfoldable pub allAlike : Automaton → Automaton → SearchResult Pair → Bool
 allAlike A B over = false
 allAlike A B (found T) = not (any (λ p. not (alike A B p)) T)
 
 -- there are no more pairs than states of the one times states of the other
 unfoldable pub equivalent : Automaton → Automaton → Bool
-equivalent A B = allAlike A B (table (pairs A B) (A .size * B .size))
+equivalent A B = allAlike A B (table (triggerPairs A B) (A .size * B .size))
 
 -- the answer for two sheets: the first's fault, the second's, or the truth
 unfoldable pub equivalentAnswer : List ℕ → List ℕ → Answer Bool

@@ -4,7 +4,7 @@ use mathlib.Core.Bool.{Bool, not, _&&_}
 use mathlib.Core.List.{List}
 use mathlib.Core.Path.{_≡_}
 use lib.Dec.{eqb, ltb}
-use Rattle.lists.specs.Lists.{_∈_, any, keep}
+use Rattle.lists.specs.Lists.{_∈_, any, filter}
 use Rattle.automata.specs.Automaton.{Transition}
 
 pub record SameTrigger (d e : Transition) : Type 0 where
@@ -18,8 +18,8 @@ pub record First (es : List Transition) (e : Transition) : Type 0 where
   pub lowest : (d : Transition) → d ∈ es → SameTrigger d e → e .to ≤ d .to
 
 -- each trigger of ds is one of es
-abbrev pub Within : List Transition → List Transition → Type 0
-Within ds es = (d : Transition) → d ∈ ds → (e : Transition) × e ∈ es × SameTrigger d e
+abbrev pub TriggersWithin : List Transition → List Transition → Type 0
+TriggersWithin ds es = (d : Transition) → d ∈ ds → (e : Transition) × e ∈ es × SameTrigger d e
 
 -- the same as tests
 unfoldable pub sameTrigger : Transition → Transition → Bool
@@ -32,10 +32,10 @@ unfoldable pub isFirst : List Transition → Transition → Bool
 isFirst es e = not (any (isLower e) es)
 
 unfoldable pub firsts : List Transition → List Transition
-firsts es = keep (isFirst es) es
+firsts es = filter (isFirst es) es
 
 unfoldable pub isLacking : List Transition → Transition → Bool
 isLacking es d = not (any (sameTrigger d) es)
 
-unfoldable pub within : List Transition → List Transition → Bool
-within ds es = not (any (isLacking es) ds)
+unfoldable pub triggersWithin : List Transition → List Transition → Bool
+triggersWithin ds es = not (any (isLacking es) ds)

@@ -13,7 +13,7 @@ use Rattle.decimal.specs.Decimal.{valueAfter, value}
 use Rattle.lists.proofs.Parts.{drop-at}
 use Rattle.lists.proofs.Tests.{test}
 use Rattle.grammar.specs.Bytes.{isDigit}
-use Rattle.grammar.specs.Grammar.{Found, nothing, found, run, number}
+use Rattle.grammar.specs.Grammar.{ReadResult, nothing, found, run, number}
 use Rattle.grammar.proofs.Runs.{run-end, run-more, run-stop}
 
 -- the number that the digits from at on write behind those of v
@@ -38,7 +38,7 @@ module _ (t : List ℕ) (at v : ℕ) where
 module _ (t : List ℕ) (start at v : ℕ) (g : start ≤ at) (m : v < 2 ^ 32) (n : start + run isDigit (drop start t) ≡ at + run isDigit (drop at t))
     (e : written t start 0 ≡ written t at v) where
   -- no digit is left
-  done : run isDigit (drop at t) ≡ 0 → (x : Found ℕ) → x ≡ cond (eqb at start) nothing (found v at) → x ≡ number t start
+  done : run isDigit (drop at t) ≡ 0 → (x : ReadResult ℕ) → x ≡ cond (eqb at start) nothing (found v at) → x ≡ number t start
   unfolding number written
   done z x q =
       let w : value (take (run isDigit (drop start t)) (drop start t)) ≡ v = e ∙ written-stop t at v z in
@@ -53,10 +53,10 @@ module _ (t : List ℕ) (start at v : ℕ) (g : start ≤ at) (m : v < 2 ^ 32) (
       some : (at ≡ start → ⊥) → 0 < run isDigit (drop start t)
       some y = omega arith
 
-  pub number-ended : length t ≤ at → (x : Found ℕ) → x ≡ cond (eqb at start) nothing (found v at) → x ≡ number t start
+  pub number-ended : length t ≤ at → (x : ReadResult ℕ) → x ≡ cond (eqb at start) nothing (found v at) → x ≡ number t start
   number-ended h = done (run-end isDigit t at h)
 
-  pub number-stopped : at < length t → (r : Bool) → r ≡ isDigit (getD t at 0) → not r ≡ true → (x : Found ℕ) → x ≡ cond (eqb at start) nothing (found v at) → x ≡ number t start
+  pub number-stopped : at < length t → (r : Bool) → r ≡ isDigit (getD t at 0) → not r ≡ true → (x : ReadResult ℕ) → x ≡ cond (eqb at start) nothing (found v at) → x ≡ number t start
   number-stopped h r f k = done (run-stop isDigit t at h (sym f ∙ not-true r k))
 
   module _ (h : at < length t) (r : Bool) (f : r ≡ isDigit (getD t at 0)) (k : not r ≡ false) where
@@ -77,7 +77,7 @@ module _ (t : List ℕ) (start at v : ℕ) (g : start ≤ at) (m : v < 2 ^ 32) (
           let x : 4294967295 < value (take l (drop start t)) = unfold written in omega (arith, number-next, value-grows w (take (run isDigit (drop (at + 1) t)) (drop (at + 1) t))) in
           sym (rw (lt-leb _ _ x) (none _ (ltb 0 l)))
         where
-          none : (y : Found ℕ) (b : Bool) → cond (b && false) y nothing ≡ nothing
+          none : (y : ReadResult ℕ) (b : Bool) → cond (b && false) y nothing ≡ nothing
           none y true = refl
           none y false = refl
 

@@ -5,7 +5,7 @@ use mathlib.Core.Path.{_≡_, refl}
 use lib.ListN.{replicate}
 use Rattle.decimal.specs.Decimal.{valueAfter}
 use Rattle.grammar.specs.Bytes.{isSpace, isLetter, isDigit, isNameByte}
-use Rattle.grammar.specs.Grammar.{Found, nothing, found, follow, run, space, neededSpace, begins, token, name, number, ends, range, target, transition, initial, nextName, many, transitions, nextNames, accepting, heading, ending, Told, wholeText}
+use Rattle.grammar.specs.Grammar.{ReadResult, nothing, found, follow, run, space, neededSpace, begins, token, name, number, ends, range, target, transition, initial, nextName, many, transitions, nextNames, accepting, heading, ending, TextParts, wholeText}
 
 -- the parts of the text A of document 01, one behind the other
 -- `automaton A {`
@@ -67,7 +67,7 @@ abbrev pub accepting-long : ℕ → List ℕ
 accepting-long n = 32 ∷ 97 ∷ 99 ∷ 99 ∷ 101 ∷ 112 ∷ 116 ∷ 105 ∷ 110 ∷ 103 ∷ 32 ∷ (replicate n 113 ++ 59 ∷ [])
 
 -- the place behind a text, or 0 where it is outside the grammar
-abbrev behind : Found Told → ℕ
+abbrev behind : ReadResult TextParts → ℕ
 behind nothing = 0
 behind (found g n) = n
 

@@ -5,7 +5,7 @@ use mathlib.Core.Path.{_≡_, refl, sym, _∙_, ap}
 use native.Mathlib.Omega.{arith}
 use borrow.Author.Needs.{needs}
 use lib.ListN.{length}
-use Rattle.grammar.specs.Grammar.{Found, nothing, found, space, transition, nextName, Items, oneMore, many, transitions, nextNames}
+use Rattle.grammar.specs.Grammar.{ReadResult, nothing, found, space, transition, nextName, Items, oneMore, many, transitions, nextNames}
 use Rattle.grammar.specs.inner.Pieces.{nameOf, arrowOf}
 use Rattle.grammar.specs.inner.Places.{Spelt, Drawn}
 use Rattle.grammar.specs.declared.tokens.Cursor.{Cursor}
@@ -18,15 +18,15 @@ use Rattle.grammar.specs.declared.pieces.ArrowPiece.the-variants.{Read a
 use Rattle.grammar.proofs.Progress.{holds-found, Past, next-holds, spaced-holds}
 
 -- each piece ends behind its start, and at n at the latest
-abbrev Advances : {X : Type 0} → (ℕ → Found X) → ℕ → Type 0
+abbrev Advances : {X : Type 0} → (ℕ → ReadResult X) → ℕ → Type 0
 Advances {X = X} p n = (at : ℕ) (x : X) (b : ℕ) → p at ≡ found x b → (at < b) × (b ≤ n)
 
-more-than : {X : Type 0} (at : ℕ) (r : Found X) (f g : ℕ → Items X) → ((x : X) (b : ℕ) → r ≡ found x b → f b ≡ g b) → oneMore at r f ≡ oneMore at r g
+more-than : {X : Type 0} (at : ℕ) (r : ReadResult X) (f g : ℕ → Items X) → ((x : X) (b : ℕ) → r ≡ found x b → f b ≡ g b) → oneMore at r f ≡ oneMore at r g
 more-than at nothing f g h = refl
 more-than at (found x b) f g h = rw (h x b refl)
 
-module _ {X : Type 0} (p : ℕ → Found X) (n : ℕ) (a : Advances p n) where
-  past-all : (at : ℕ) (r : Found X) → p at ≡ r → n ≤ at → (f : ℕ → Items X) → oneMore at r f ≡ record { items = []; behind = at }
+module _ {X : Type 0} (p : ℕ → ReadResult X) (n : ℕ) (a : Advances p n) where
+  past-all : (at : ℕ) (r : ReadResult X) → p at ≡ r → n ≤ at → (f : ℕ → Items X) → oneMore at r f ≡ record { items = []; behind = at }
   past-all at nothing e h f = refl
   past-all at (found x b) e h f = let g = a at x b e in absurd (omega (arith, g .0, g .1))
 

@@ -3,7 +3,7 @@ use Prim.Native.Nat.{ℕ}
 use mathlib.Core.List.{List, _∷_}
 use mathlib.Core.Path.{_≡_, refl, sym, _∙_, ap}
 use borrow.Author.Needs.{needs}
-use Rattle.grammar.specs.Grammar.{Found, nothing, found, follow, space, heading, initial, transitions, nextNames, accepting, ending, Told, wholeText}
+use Rattle.grammar.specs.Grammar.{ReadResult, nothing, found, follow, space, heading, initial, transitions, nextNames, accepting, ending, TextParts, wholeText}
 use Rattle.grammar.specs.inner.Parts.{opening, closing, toldFrom}
 use Rattle.grammar.specs.inner.Pieces.{nameOf, acceptingOf}
 use Rattle.grammar.specs.inner.Places.{Spelt}
@@ -17,18 +17,18 @@ use Rattle.grammar.specs.declared.pieces.AcceptingPiece.the-variants.{Re
 use Rattle.grammar.proofs.Progress.{Holds, some, holds-found, holds-follow, always, initial-holds, accepting-holds, FirstSpelt, leads}
 
 -- pieces that follow may be taken together
-follow-follow : {X Y Z : Type 0} (r : Found X) (f : X → ℕ → Found Y) (g : Y → ℕ → Found Z) → follow (follow r f) g ≡ follow r (λ x at. follow (f x at) g)
+follow-follow : {X Y Z : Type 0} (r : ReadResult X) (f : X → ℕ → ReadResult Y) (g : Y → ℕ → ReadResult Z) → follow (follow r f) g ≡ follow r (λ x at. follow (f x at) g)
 unfolding follow
 follow-follow nothing f g = refl
 follow-follow (found x at) f g = refl
 
-follow-ext : {X Y : Type 0} (r : Found X) (f g : X → ℕ → Found Y) → ((x : X) (at : ℕ) → f x at ≡ g x at) → follow r f ≡ follow r g
+follow-ext : {X Y : Type 0} (r : ReadResult X) (f g : X → ℕ → ReadResult Y) → ((x : X) (at : ℕ) → f x at ≡ g x at) → follow r f ≡ follow r g
 unfolding follow
 follow-ext nothing f g h = refl
 follow-ext (found x at) f g h = h x at
 
 module _ (t : List ℕ) where
-  tells : Span → ℕ → List Span → ℕ → Found Told
+  tells : Span → ℕ → List Span → ℕ → ReadResult TextParts
   tells s b names d = found (record { start = s; arrows = transitions t b .items; accepts = names }) d
 
   told-parts : (s : Span) (b : ℕ) → toldFrom t s b ≡ follow (accepting t (space t (transitions t b .behind))) (λ names c. follow (ending t c) (λ _ d. tells s b names d))
@@ -53,21 +53,21 @@ module _ (t : List ℕ) where
   module _ (p : NamePiece) (told : nameOf p ≡ opening t) where
     pub opens-nothing : p ≡ NoName → wholeText t ≡ nothing
     unfolding follow
-    opens-nothing e = whole-parts ∙ ap (λ (r : Found Span). follow r (toldFrom t)) (sym told ∙ ap nameOf e)
+    opens-nothing e = whole-parts ∙ ap (λ (r : ReadResult Span). follow r (toldFrom t)) (sym told ∙ ap nameOf e)
 
     module _ (s : Span) (b : Cursor) (e : p ≡ NameRead s b) where
       pub opens-found : wholeText t ≡ toldFrom t s (b .at)
       unfolding follow
-      opens-found = whole-parts ∙ ap (λ (r : Found Span). follow r (toldFrom t)) (sym told ∙ ap nameOf e)
+      opens-found = whole-parts ∙ ap (λ (r : ReadResult Span). follow r (toldFrom t)) (sym told ∙ ap nameOf e)
 
       pub start-spelt : Spelt t s
       start-spelt = holds-found _ opening-holds (sym told ∙ ap nameOf e)
 
   -- and the closing, which is read behind the transitions: q is its answer
   module _ (s : Span) (b : Cursor) (at : ℕ) (behind : at ≡ transitions t (b .at) .behind) (q : AcceptingPiece) (told : acceptingOf t q ≡ closing t at) where
-    closes : (r : Found (List Span)) → acceptingOf t q ≡ r → toldFrom t s (b .at) ≡ follow r (tells s (b .at))
+    closes : (r : ReadResult (List Span)) → acceptingOf t q ≡ r → toldFrom t s (b .at) ≡ follow r (tells s (b .at))
     unfolding toldFrom tells
-    closes r e = ap (λ (k : ℕ). follow (closing t k) (tells s (b .at))) (sym behind) ∙ ap (λ (k : Found (List Span)). follow k (tells s (b .at))) (sym told ∙ e)
+    closes r e = ap (λ (k : ℕ). follow (closing t k) (tells s (b .at))) (sym behind) ∙ ap (λ (k : ReadResult (List Span)). follow k (tells s (b .at))) (sym told ∙ e)
 
     pub closes-nothing : q ≡ NoAccepting → toldFrom t s (b .at) ≡ nothing
     unfolding follow

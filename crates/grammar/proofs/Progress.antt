@@ -10,18 +10,18 @@ use lib.ListN.{length, getD, take, drop, length-drop, List·getD-eq-default}
 use Rattle.decimal.specs.Decimal.{value}
 use Rattle.lists.proofs.Tests.{and-parts}
 use Rattle.grammar.specs.Bytes.{isLetter, isDigit, isNameByte}
-use Rattle.grammar.specs.Grammar.{Found, nothing, found, follow, mark, run, space, neededSpace, begins, token, name, number, ends, range, target, transition, initial, nextName, transitions, nextNames, accepting, heading, ending, wholeText}
+use Rattle.grammar.specs.Grammar.{ReadResult, nothing, found, follow, mark, run, space, neededSpace, begins, token, name, number, ends, range, target, transition, initial, nextName, transitions, nextNames, accepting, heading, ending, wholeText}
 use Rattle.grammar.specs.inner.Places.{Spelt, Drawn}
 use Rattle.grammar.specs.declared.tokens.Span.{Span}
 use Rattle.grammar.proofs.Letters.{letter-named}
 use Rattle.grammar.proofs.Runs.{run-short, run-more, run-within}
 
 -- P holds of what was found
-pub data Holds {X : Type 0} (P : X → ℕ → Type 0) : Found X → Type 0 where
+pub data Holds {X : Type 0} (P : X → ℕ → Type 0) : ReadResult X → Type 0 where
   none : Holds P nothing
   some : {x : X} {at : ℕ} → P x at → Holds P (found x at)
 
-pub holds-found : {X : Type 0} (P : X → ℕ → Type 0) {r : Found X} {x : X} {at : ℕ} → Holds P r → r ≡ found x at → P x at
+pub holds-found : {X : Type 0} (P : X → ℕ → Type 0) {r : ReadResult X} {x : X} {at : ℕ} → Holds P r → r ≡ found x at → P x at
 holds-found P none e = let y : _≡_ {A = ℕ} 0 1 = cc in absurd (omega arith)
 holds-found {X = X} P {x = x} {at = at} (some {x = y} {at = b} h) e =
     let p : y ≡ x = cc in
@@ -29,7 +29,7 @@ holds-found {X = X} P {x = x} {at = at} (some {x = y} {at = b} h) e =
     subst (P x) q (subst (λ (z : X). P z b) p h)
 
 -- what follows a piece of which Q holds
-pub holds-follow : {X Y : Type 0} (Q : X → ℕ → Type 0) {P : Y → ℕ → Type 0} {r : Found X} {f : X → ℕ → Found Y} → Holds Q r → ((x : X) (at : ℕ) → Q x at → Holds P (f x at)) → Holds P (follow r f)
+pub holds-follow : {X Y : Type 0} (Q : X → ℕ → Type 0) {P : Y → ℕ → Type 0} {r : ReadResult X} {f : X → ℕ → ReadResult Y} → Holds Q r → ((x : X) (at : ℕ) → Q x at → Holds P (f x at)) → Holds P (follow r f)
 unfolding follow
 holds-follow Q none g = none
 holds-follow Q (some {x} {at} h) g = g x at h
@@ -38,7 +38,7 @@ holds-cond : {X : Type 0} (P : X → ℕ → Type 0) (b : Bool) (x : X) (at : �
 holds-cond P true x at h = some (h refl)
 holds-cond P false x at h = none
 
-pub holds-weaker : {X : Type 0} {Q P : X → ℕ → Type 0} {r : Found X} → Holds Q r → ((x : X) (at : ℕ) → Q x at → P x at) → Holds P r
+pub holds-weaker : {X : Type 0} {Q P : X → ℕ → Type 0} {r : ReadResult X} → Holds Q r → ((x : X) (at : ℕ) → Q x at → P x at) → Holds P r
 holds-weaker none g = none
 holds-weaker (some {x} {at} h) g = some (g x at h)
 
@@ -179,7 +179,7 @@ module _ (t : List ℕ) where
       holds-follow _ (token-holds t (nextNames t c .behind) _ _) λ _ d v.
       some (leads (u .0))
 
-  pub always : {X : Type 0} (r : Found X) → Holds (λ _ _. ℕ) r
+  pub always : {X : Type 0} (r : ReadResult X) → Holds (λ _ _. ℕ) r
   always nothing = none
   always (found x at) = some 0
 

@@ -11,12 +11,12 @@ use Rattle.grammar.specs.Words.{automatonWord, initWord, acceptingWord, 
 use Rattle.grammar.specs.declared.tokens.Span.{Span}
 use Rattle.grammar.specs.declared.pieces.Arrow.{Arrow}
 
-pub data Found (X : Type 0) : Type 0 where
-  nothing : Found X
-  found : X → ℕ → Found X
+pub data ReadResult (X : Type 0) : Type 0 where
+  nothing : ReadResult X
+  found : X → ℕ → ReadResult X
 
 -- the piece that follows a piece
-unfoldable pub follow : {X Y : Type 0} → Found X → (X → ℕ → Found Y) → Found Y
+unfoldable pub follow : {X Y : Type 0} → ReadResult X → (X → ℕ → ReadResult Y) → ReadResult Y
 follow nothing f = nothing
 follow (found x at) f = f x at
 
@@ -34,7 +34,7 @@ unfoldable pub space : List ℕ → ℕ → ℕ
 space t at = at + run isSpace (drop at t)
 
 -- space, one or more
-unfoldable pub neededSpace : List ℕ → ℕ → Found Mark
+unfoldable pub neededSpace : List ℕ → ℕ → ReadResult Mark
 neededSpace t at = cond (ltb at (space t at)) (found mark (space t at)) nothing
 
 -- l begins with the bytes w
@@ -44,17 +44,17 @@ begins (x ∷ w) [] = false
 begins (x ∷ w) (b ∷ l) = eqb b x && begins w l
 
 -- the bytes w
-unfoldable pub token : List ℕ → List ℕ → ℕ → Found Mark
+unfoldable pub token : List ℕ → List ℕ → ℕ → ReadResult Mark
 token w t at = cond (begins w (drop at t)) (found mark (at + length w)) nothing
 
 -- an ASCII letter, then letters, digits, _; at most 64 bytes
-unfoldable pub name : List ℕ → ℕ → Found Span
+unfoldable pub name : List ℕ → ℕ → ReadResult Span
 name t at =
     let n = run isNameByte (drop at t) in
     cond (isLetter (getD t at 0) && leb n 64) (found (record { start = at; end = at + n }) (at + n)) nothing
 
 -- digits, leading zeros allowed, that fit u32
-unfoldable pub number : List ℕ → ℕ → Found ℕ
+unfoldable pub number : List ℕ → ℕ → ReadResult ℕ
 number t at =
     let n = run isDigit (drop at t) in
     let v = value (take n (drop at t)) in
@@ -66,7 +66,7 @@ pub record Ends : Type 0 where
   pub last : ℕ
 
 -- first, last; first is at most last
-unfoldable pub ends : List ℕ → ℕ → Found Ends
+unfoldable pub ends : List ℕ → ℕ → ReadResult Ends
 ends t at =
     follow (number t (space t at)) λ first a.
     follow (token comma t (space t a)) λ _ b.
@@ -74,7 +74,7 @@ ends t at =
     cond (leb first last) (found (record { first = first; last = last }) c) nothing
 
 -- [first, last];
-unfoldable pub range : List ℕ → ℕ → Found Ends
+unfoldable pub range : List ℕ → ℕ → ReadResult Ends
 range t at =
     follow (token leftBracket t (space t at)) λ _ a.
     follow (ends t a) λ r b.
@@ -83,11 +83,11 @@ range t at =
     found r d
 
 -- -> b
-unfoldable pub target : List ℕ → ℕ → Found Span
+unfoldable pub target : List ℕ → ℕ → ReadResult Span
 target t at = follow (token arrowSign t (space t at)) λ _ a. name t (space t a)
 
 -- a -> b [first, last];
-unfoldable pub transition : List ℕ → ℕ → Found Arrow
+unfoldable pub transition : List ℕ → ℕ → ReadResult Arrow
 transition t at =
     follow (name t at) λ from a.
     follow (target t a) λ to b.
@@ -95,7 +95,7 @@ transition t at =
     found (record { from = from; to = to; first = r .first; last = r .last }) c
 
 -- init a;
-unfoldable pub initial : List ℕ → ℕ → Found Span
+unfoldable pub initial : List ℕ → ℕ → ReadResult Span
 initial t at =
     follow (token initWord t at) λ _ a.
     follow (neededSpace t a) λ _ b.
@@ -104,7 +104,7 @@ initial t at =
     found s d
 
 -- a comma and a name
-unfoldable pub nextName : List ℕ → ℕ → Found Span
+unfoldable pub nextName : List ℕ → ℕ → ReadResult Span
 nextName t at = follow (token comma t (space t at)) λ _ a. name t (space t a)
 
 -- values, one behind the other, and the place behind the last
@@ -112,12 +112,12 @@ pub record Items (X : Type 0) : Type 0 where
   pub items : List X
   pub behind : ℕ
 
-abbrev pub oneMore : {X : Type 0} → ℕ → Found X → (ℕ → Items X) → Items X
+abbrev pub oneMore : {X : Type 0} → ℕ → ReadResult X → (ℕ → Items X) → Items X
 oneMore at nothing more = record { items = []; behind = at }
 oneMore at (found x next) more = record { items = x ∷ more next .items; behind = more next .behind }
 
 -- the pieces p from a place on, as long as a whole one can be read, at most k of them
-unfoldable pub many : {X : Type 0} → (ℕ → Found X) → ℕ → ℕ → Items X
+unfoldable pub many : {X : Type 0} → (ℕ → ReadResult X) → ℕ → ℕ → Items X
 many p zero at = record { items = []; behind = at }
 many p (suc k) at = oneMore at (p at) (many p k)
 
@@ -130,7 +130,7 @@ unfoldable pub nextNames : List ℕ → ℕ → Items Span
 nextNames t = many (nextName t) (length t)
 
 -- accepting a, b;
-unfoldable pub accepting : List ℕ → ℕ → Found (List Span)
+unfoldable pub accepting : List ℕ → ℕ → ReadResult (List Span)
 accepting t at =
     follow (token acceptingWord t at) λ _ a.
     follow (neededSpace t a) λ _ b.
@@ -139,7 +139,7 @@ accepting t at =
     found (s ∷ nextNames t c .items) d
 
 -- automaton A {
-unfoldable pub heading : List ℕ → ℕ → Found Mark
+unfoldable pub heading : List ℕ → ℕ → ReadResult Mark
 heading t at =
     follow (token automatonWord t at) λ _ a.
     follow (neededSpace t a) λ _ b.
@@ -147,17 +147,17 @@ heading t at =
     token leftBrace t (space t c)
 
 -- };
-unfoldable pub ending : List ℕ → ℕ → Found Mark
+unfoldable pub ending : List ℕ → ℕ → ReadResult Mark
 ending t at = follow (token rightBrace t (space t at)) λ _ a. token semicolon t a
 
 -- what a text tells
-pub record Told : Type 0 where
+pub record TextParts : Type 0 where
   pub start : Span
   pub arrows : List Arrow
   pub accepts : List Span
 
 -- a whole text
-unfoldable pub wholeText : List ℕ → Found Told
+unfoldable pub wholeText : List ℕ → ReadResult TextParts
 wholeText t =
     follow (heading t 0) λ _ a.
     follow (initial t (space t a)) λ s b.

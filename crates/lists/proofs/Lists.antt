@@ -1,4 +1,4 @@
--- Laws of `any`, `keep`, `tabulate` and `map`: what membership says.
+-- Laws of `any`, `filter`, `tabulate` and `map`: what membership says.
 use Prim.Native.Nat.{ℕ, zero, suc, _+_, _≤_, _<_}
 use mathlib.Core.Bool.{Bool, true, false, cond, not, _&&_, false≢true}
 use mathlib.Core.List.{List, [], _∷_, _++_, map, List·Memᴰ·head, List·Memᴰ·tail, nil≢cons}
@@ -6,7 +6,7 @@ use mathlib.Core.Logic.{⊎-elim}
 use mathlib.Core.Path.{_≡_, refl, sym, _∙_, ap, ap₂}
 use native.Mathlib.Omega.{arith}
 use lib.ListN.{getD, length, drop}
-use Rattle.lists.specs.Lists.{_∈_, any, keep, tabulate}
+use Rattle.lists.specs.Lists.{_∈_, any, filter, tabulate}
 use Rattle.lists.proofs.Tests.{or-cases, or-left, or-right}
 
 pub any-out : {A : Type 0} (f : A → Bool) (l : List A) → any f l ≡ true → (x : A) × x ∈ l × (f x ≡ true)
@@ -32,71 +32,71 @@ map-at f [] k d e h = absurd (omega arith)
 map-at f (x ∷ l) zero d e h = refl
 map-at f (x ∷ l) (suc k) d e h = map-at f l k d e (omega arith)
 
-pub keep-in : {A : Type 0} (f : A → Bool) {x : A} {l : List A} → x ∈ l → f x ≡ true → x ∈ keep f l
-unfolding keep
-keep-in f {l = y ∷ l} (List·Memᴰ·head e) h = rw (ap f (sym e) ∙ h) (List·Memᴰ·head e)
-keep-in f {x} {l = y ∷ l} (List·Memᴰ·tail m) h = skip (f y) (keep-in f m h)
+pub filter-in : {A : Type 0} (f : A → Bool) {x : A} {l : List A} → x ∈ l → f x ≡ true → x ∈ filter f l
+unfolding filter
+filter-in f {l = y ∷ l} (List·Memᴰ·head e) h = rw (ap f (sym e) ∙ h) (List·Memᴰ·head e)
+filter-in f {x} {l = y ∷ l} (List·Memᴰ·tail m) h = skip (f y) (filter-in f m h)
   where
-    skip : (b : Bool) → x ∈ keep f l → x ∈ cond b (y ∷ keep f l) (keep f l)
+    skip : (b : Bool) → x ∈ filter f l → x ∈ cond b (y ∷ filter f l) (filter f l)
     skip true m = List·Memᴰ·tail m
     skip false m = m
 
-pub keep-out : {A : Type 0} (f : A → Bool) (x : A) (l : List A) → x ∈ keep f l → x ∈ l × (f x ≡ true)
-unfolding keep
-keep-out f x [] m = elim m [ ]
-keep-out f x (y ∷ l) m = go (f y) refl m (keep-out f x l)
+pub filter-out : {A : Type 0} (f : A → Bool) (x : A) (l : List A) → x ∈ filter f l → x ∈ l × (f x ≡ true)
+unfolding filter
+filter-out f x [] m = elim m [ ]
+filter-out f x (y ∷ l) m = go (f y) refl m (filter-out f x l)
   where
     far : x ∈ l × (f x ≡ true) → x ∈ (y ∷ l) × (f x ≡ true)
     far r = (List·Memᴰ·tail (r .0), r .1)
 
-    near : f y ≡ true → x ∈ (y ∷ keep f l) → (x ∈ keep f l → x ∈ l × (f x ≡ true)) → x ∈ (y ∷ l) × (f x ≡ true)
+    near : f y ≡ true → x ∈ (y ∷ filter f l) → (x ∈ filter f l → x ∈ l × (f x ≡ true)) → x ∈ (y ∷ l) × (f x ≡ true)
     near e (List·Memᴰ·head q) ih = (List·Memᴰ·head q, ap f q ∙ e)
     near e (List·Memᴰ·tail m) ih = far (ih m)
 
-    go : (b : Bool) → f y ≡ b → x ∈ cond b (y ∷ keep f l) (keep f l) → (x ∈ keep f l → x ∈ l × (f x ≡ true)) → x ∈ (y ∷ l) × (f x ≡ true)
+    go : (b : Bool) → f y ≡ b → x ∈ cond b (y ∷ filter f l) (filter f l) → (x ∈ filter f l → x ∈ l × (f x ≡ true)) → x ∈ (y ∷ l) × (f x ≡ true)
     go true e m ih = near e m ih
     go false e m ih = far (ih m)
 
-pub keep-append : {A : Type 0} (f : A → Bool) (l m : List A) → keep f (l ++ m) ≡ keep f l ++ keep f m
-unfolding keep
-keep-append f [] m = refl
-keep-append f (x ∷ l) m = go (f x) (keep-append f l m)
+pub filter-append : {A : Type 0} (f : A → Bool) (l m : List A) → filter f (l ++ m) ≡ filter f l ++ filter f m
+unfolding filter
+filter-append f [] m = refl
+filter-append f (x ∷ l) m = go (f x) (filter-append f l m)
   where
-    go : (b : Bool) → keep f (l ++ m) ≡ keep f l ++ keep f m → cond b (x ∷ keep f (l ++ m)) (keep f (l ++ m)) ≡ cond b (x ∷ keep f l) (keep f l) ++ keep f m
+    go : (b : Bool) → filter f (l ++ m) ≡ filter f l ++ filter f m → cond b (x ∷ filter f (l ++ m)) (filter f (l ++ m)) ≡ cond b (x ∷ filter f l) (filter f l) ++ filter f m
     go true e = rw e
     go false e = e
 
-pub keep-none : {A : Type 0} (f : A → Bool) (l : List A) → ((x : A) → x ∈ l → f x ≡ false) → keep f l ≡ []
-unfolding keep
-keep-none f [] h = refl
-keep-none f (x ∷ l) h = rw (h x (List·Memᴰ·head refl)) (keep-none f l (λ y m. h y (List·Memᴰ·tail m)))
+pub filter-none : {A : Type 0} (f : A → Bool) (l : List A) → ((x : A) → x ∈ l → f x ≡ false) → filter f l ≡ []
+unfolding filter
+filter-none f [] h = refl
+filter-none f (x ∷ l) h = rw (h x (List·Memᴰ·head refl)) (filter-none f l (λ y m. h y (List·Memᴰ·tail m)))
 
-pub keep-all : {A : Type 0} (f : A → Bool) (l : List A) → ((x : A) → x ∈ l → f x ≡ true) → keep f l ≡ l
-unfolding keep
-keep-all f [] h = refl
-keep-all f (x ∷ l) h = rw (h x (List·Memᴰ·head refl), keep-all f l (λ y m. h y (List·Memᴰ·tail m)))
+pub filter-all : {A : Type 0} (f : A → Bool) (l : List A) → ((x : A) → x ∈ l → f x ≡ true) → filter f l ≡ l
+unfolding filter
+filter-all f [] h = refl
+filter-all f (x ∷ l) h = rw (h x (List·Memᴰ·head refl), filter-all f l (λ y m. h y (List·Memᴰ·tail m)))
 
-pub keep-ext : {X : Type 0} (f g : X → Bool) (l : List X) → ((x : X) → x ∈ l → f x ≡ g x) → keep f l ≡ keep g l
-unfolding keep
-keep-ext f g [] h = refl
-keep-ext f g (x ∷ l) h = rw (h x (List·Memᴰ·head refl), keep-ext f g l (λ y m. h y (List·Memᴰ·tail m)))
+pub filter-ext : {X : Type 0} (f g : X → Bool) (l : List X) → ((x : X) → x ∈ l → f x ≡ g x) → filter f l ≡ filter g l
+unfolding filter
+filter-ext f g [] h = refl
+filter-ext f g (x ∷ l) h = rw (h x (List·Memᴰ·head refl), filter-ext f g l (λ y m. h y (List·Memᴰ·tail m)))
 
-pub keep-and : {X : Type 0} (f g : X → Bool) (l : List X) → keep (λ x. f x && g x) l ≡ keep g (keep f l)
-unfolding keep
-keep-and f g [] = refl
-keep-and f g (x ∷ l) = go (f x) (keep-and f g l)
+pub filter-and : {X : Type 0} (f g : X → Bool) (l : List X) → filter (λ x. f x && g x) l ≡ filter g (filter f l)
+unfolding filter
+filter-and f g [] = refl
+filter-and f g (x ∷ l) = go (f x) (filter-and f g l)
   where
-    go : (b : Bool) → keep (λ x. f x && g x) l ≡ keep g (keep f l)
-        → cond (b && g x) (x ∷ keep (λ x. f x && g x) l) (keep (λ x. f x && g x) l) ≡ keep g (cond b (x ∷ keep f l) (keep f l))
+    go : (b : Bool) → filter (λ x. f x && g x) l ≡ filter g (filter f l)
+        → cond (b && g x) (x ∷ filter (λ x. f x && g x) l) (filter (λ x. f x && g x) l) ≡ filter g (cond b (x ∷ filter f l) (filter f l))
     go true e = rw e
     go false e = e
 
-pub keep-map : {A B : Type 0} (f : B → Bool) (g : A → B) (h : A → Bool) (l : List A) → ((x : A) → f (g x) ≡ h x) → keep f (map g l) ≡ map g (keep h l)
-unfolding keep
-keep-map f g h [] e = refl
-keep-map f g h (x ∷ l) e = rw (e x) (go (h x) (keep-map f g h l e))
+pub filter-map : {A B : Type 0} (f : B → Bool) (g : A → B) (h : A → Bool) (l : List A) → ((x : A) → f (g x) ≡ h x) → filter f (map g l) ≡ map g (filter h l)
+unfolding filter
+filter-map f g h [] e = refl
+filter-map f g h (x ∷ l) e = rw (e x) (go (h x) (filter-map f g h l e))
   where
-    go : (b : Bool) → keep f (map g l) ≡ map g (keep h l) → cond b (g x ∷ keep f (map g l)) (keep f (map g l)) ≡ map g (cond b (x ∷ keep h l) (keep h l))
+    go : (b : Bool) → filter f (map g l) ≡ map g (filter h l) → cond b (g x ∷ filter f (map g l)) (filter f (map g l)) ≡ map g (cond b (x ∷ filter h l) (filter h l))
     go true e = rw e
     go false e = e
 
@@ -134,23 +134,23 @@ pub map-append : {X Y : Type 0} (f : X → Y) (l m : List X) → map f (l ++ m) 
 map-append f [] m = refl
 map-append f (x ∷ l) m = ap (λ k. f x ∷ k) (map-append f l m)
 
-pub length-keep : {A : Type 0} (f : A → Bool) (l : List A) → length (keep f l) ≤ length l
-unfolding keep
-length-keep f [] = omega arith
-length-keep f (x ∷ l) = go (f x) (length-keep f l)
+pub length-filter : {A : Type 0} (f : A → Bool) (l : List A) → length (filter f l) ≤ length l
+unfolding filter
+length-filter f [] = omega arith
+length-filter f (x ∷ l) = go (f x) (length-filter f l)
   where
-    go : (b : Bool) → length (keep f l) ≤ length l → length (cond b (x ∷ keep f l) (keep f l)) ≤ suc (length l)
+    go : (b : Bool) → length (filter f l) ≤ length l → length (cond b (x ∷ filter f l) (filter f l)) ≤ suc (length l)
     go true h = omega arith
     go false h = omega arith
 
 -- those that pass and those that don't
-pub count-keep : {X : Type 0} (f : X → Bool) (l : List X) → length (keep f l) + length (keep (λ x. not (f x)) l) ≡ length l
-unfolding keep
-count-keep f [] = refl
-count-keep f (x ∷ l) = go (f x) (count-keep f l)
+pub count-filter : {X : Type 0} (f : X → Bool) (l : List X) → length (filter f l) + length (filter (λ x. not (f x)) l) ≡ length l
+unfolding filter
+count-filter f [] = refl
+count-filter f (x ∷ l) = go (f x) (count-filter f l)
   where
-    go : (b : Bool) → length (keep f l) + length (keep (λ x. not (f x)) l) ≡ length l
-        → length (cond b (x ∷ keep f l) (keep f l)) + length (cond (not b) (x ∷ keep (λ x. not (f x)) l) (keep (λ x. not (f x)) l)) ≡ suc (length l)
+    go : (b : Bool) → length (filter f l) + length (filter (λ x. not (f x)) l) ≡ length l
+        → length (cond b (x ∷ filter f l) (filter f l)) + length (cond (not b) (x ∷ filter (λ x. not (f x)) l) (filter (λ x. not (f x)) l)) ≡ suc (length l)
     go true h = omega arith
     go false h = omega arith
 

@@ -1,13 +1,13 @@
 -- Laws on members: of a list of images, at a place, and of lists that ascend or have no element twice.
 use Prim.Native.Nat.{ℕ, zero, suc, _≤_, _<_}
 use mathlib.Core.Bool.{Bool, true, false, cond, _||_}
-use mathlib.Core.List.{List, [], _∷_, _++_, map, List·Memᴰ·head, List·Memᴰ·tail, List·Memᴰ·not-nil, List·Memᴰ·cases-cons, List·Memᴰ·append-cases, List·Memᴰ·eq-of-singleton, Memᴰ·cast}
+use mathlib.Core.List.{List, [], _∷_, _++_, map, List·Memᴰ·head, List·Memᴰ·tail, List·Memᴰ·not-nil, List·Memᴰ·cases-cons, List·Memᴰ·append-cases, List·Memᴰ·eq-of-singleton, Memᴰ·cast, nil≢cons}
 use mathlib.Core.Logic.{⊎-elim}
 use mathlib.Core.Path.{_≡_, refl, sym, _∙_, ap, subst}
 use native.Mathlib.Omega.{arith}
-use lib.ListN.{getD, length}
-use Rattle.lists.specs.Lists.{_∈_, keep, Ascending, Distinct}
-use Rattle.lists.proofs.Lists.{keep-none, keep-out}
+use lib.ListN.{getD, length, drop}
+use Rattle.lists.specs.Lists.{_∈_, filter, Ascending, Distinct}
+use Rattle.lists.proofs.Lists.{filter-none, filter-out, drop-mem}
 use Rattle.lists.proofs.Tests.{test}
 
 pub map-out : {X Y : Type 0} (f : X → Y) (l : List X) (y : Y) → y ∈ map f l → (x : X) × x ∈ l × (y ≡ f x)
@@ -82,13 +82,13 @@ module _ {X : Type 0} {R : X → X → Type 0} where
   ascending-by h (Ascending.more g a) =
       Ascending.more (λ y m. h _ y (List·Memᴰ·head refl) (List·Memᴰ·tail m) (g y m)) (ascending-by (λ x y m n. h x y (List·Memᴰ·tail m) (List·Memᴰ·tail n)) a)
 
-  pub ascending-keep : (f : X → Bool) {l : List X} → Ascending R l → Ascending R (keep f l)
-  unfolding keep
-  ascending-keep f Ascending.none = Ascending.none
-  ascending-keep f {l = x ∷ l} (Ascending.more g a) = go (f x) (ascending-keep f a)
+  pub ascending-filter : (f : X → Bool) {l : List X} → Ascending R l → Ascending R (filter f l)
+  unfolding filter
+  ascending-filter f Ascending.none = Ascending.none
+  ascending-filter f {l = x ∷ l} (Ascending.more g a) = go (f x) (ascending-filter f a)
     where
-      go : (b : Bool) → Ascending R (keep f l) → Ascending R (cond b (x ∷ keep f l) (keep f l))
-      go true k = Ascending.more (λ y m. g y (keep-out f y l m .0)) k
+      go : (b : Bool) → Ascending R (filter f l) → Ascending R (cond b (x ∷ filter f l) (filter f l))
+      go true k = Ascending.more (λ y m. g y (filter-out f y l m .0)) k
       go false k = k
 
   -- where nothing is related to itself no element stands twice
@@ -108,18 +108,33 @@ module _ {X : Type 0} {R : X → X → Type 0} where
       (ascending-append a b (λ x y k. h x y (List·Memᴰ·tail k)))
 
   -- two tests, where no element that passes g stands before one that passes f
-  pub keep-either : (f g : X → Bool) → ((x : X) → f x ≡ true → g x ≡ false) → ((x y : X) → R x y → g x ≡ true → f y ≡ false)
-      → {l : List X} → Ascending R l → keep (λ x. f x || g x) l ≡ keep f l ++ keep g l
-  unfolding keep
-  keep-either f g d o Ascending.none = refl
-  keep-either f g d o {l = x ∷ l} (Ascending.more h a) =
-      let ih = keep-either f g d o a in
+  pub filter-either : (f g : X → Bool) → ((x : X) → f x ≡ true → g x ≡ false) → ((x y : X) → R x y → g x ≡ true → f y ≡ false)
+      → {l : List X} → Ascending R l → filter (λ x. f x || g x) l ≡ filter f l ++ filter g l
+  unfolding filter
+  filter-either f g d o Ascending.none = refl
+  filter-either f g d o {l = x ∷ l} (Ascending.more h a) =
+      let ih = filter-either f g d o a in
       ⊎-elim (λ (p : f x ≡ true). rw (p, d x p) (ap (λ k. x ∷ k) ih))
       (λ (p : f x ≡ false).
-      ⊎-elim (λ (q : g x ≡ true). rw (p, q) (ap (λ k. x ∷ k) (ih ∙ ap (λ k. k ++ keep g l) (none q)) ∙ sym (ap (λ k. k ++ (x ∷ keep g l)) (none q))))
+      ⊎-elim (λ (q : g x ≡ true). rw (p, q) (ap (λ k. x ∷ k) (ih ∙ ap (λ k. k ++ filter g l) (none q)) ∙ sym (ap (λ k. k ++ (x ∷ filter g l)) (none q))))
       (λ (q : g x ≡ false). rw (p, q) ih)
       (test (g x)))
       (test (f x))
     where
-      none : g x ≡ true → keep f l ≡ []
-      none q = keep-none f l (λ y m. o x y (h y m) q)
+      none : g x ≡ true → filter f l ≡ []
+      none q = filter-none f l (λ y m. o x y (h y m) q)
+
+-- the place of an element
+abbrev pub Place : {X : Type 0} → X → List X → Type 0
+Place {X} x l = (j : ℕ) × (j < length l) × (r : List X) × (drop j l ≡ x ∷ r)
+
+pub place : {X : Type 0} {x : X} {l : List X} → x ∈ l → Place x l
+place {l = y ∷ l} (List·Memᴰ·head e) = (0, omega arith, l, ap (λ z. z ∷ l) (sym e))
+place {l = y ∷ l} (List·Memᴰ·tail m) = let p = place m in (suc (p .0), omega (arith, p .1), p .2, p .3)
+
+-- of two elements of an ascending list the earlier is related to the later
+pub ascending-places : {X : Type 0} {R : X → X → Type 0} (i j : ℕ) (l : List X) → Ascending R l → i < j → (x y : X) (r s : List X) → drop i l ≡ x ∷ r → drop j l ≡ y ∷ s → R x y
+ascending-places i zero l a h x y r s d e = absurd (omega arith)
+ascending-places zero (suc j) l a h x y r s d e = ascending-first (rw d at a) y (drop-mem j r y s (rw d at e))
+ascending-places (suc i) (suc j) [] a h x y r s d e = absurd (nil≢cons d)
+ascending-places (suc i) (suc j) (z ∷ l) a h x y r s d e = ascending-places i j l (ascending-rest a) (omega arith) x y r s d e

@@ -18,9 +18,9 @@ all f [] = true
 all f (x ∷ l) = f x && all f l
 
 -- the elements that pass, in order
-unfoldable pub keep : {A : Type 0} → (A → Bool) → List A → List A
-keep f [] = []
-keep f (x ∷ l) = cond (f x) (x ∷ keep f l) (keep f l)
+unfoldable pub filter : {A : Type 0} → (A → Bool) → List A → List A
+filter f [] = []
+filter f (x ∷ l) = cond (f x) (x ∷ filter f l) (filter f l)
 
 -- g 0, g 1, .. , g (n - 1)
 unfoldable pub tabulate : {A : Type 0} → ℕ → (ℕ → A) → List A

@@ -4,7 +4,7 @@ pub mod Finding
 pub mod Tables
 pub mod Labelling
 pub mod Entering
-pub mod Going
+pub mod ReadInvariant
 pub mod Marking
 pub mod Reading
 pub mod Said

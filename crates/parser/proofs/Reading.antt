@@ -10,7 +10,7 @@ use borrow.Author.Tests.{le-ltb, lt-ltb}
 use lib.Dec.{ltb}
 use lib.ListN.{length, take, drop, length-map, length-take, length-drop}
 use lib.Seq.{length-take-le}
-use Rattle.grammar.specs.Grammar.{Found, Told, nextNames}
+use Rattle.grammar.specs.Grammar.{ReadResult, TextParts, nextNames}
 use Rattle.grammar.specs.Places.{spelled}
 use Rattle.grammar.specs.inner.Parts.{opening, closing, toldFrom}
 use Rattle.grammar.specs.inner.Pieces.{nameOf, acceptingOf}
@@ -48,13 +48,13 @@ use Rattle.parser.specs.inner.Memory.{Zeros}
 use Rattle.parser.specs.inner.Names.{Table, namesIn}
 use Rattle.parser.specs.Parsed.{Output, parsed, parsedOf}
 use Rattle.parser.specs.inner.Records.{Recorded}
-use Rattle.parser.specs.Pattern.{namesOf, statesOf, transitionOf, acceptWord, automatonOf, patternOf, fewTransitions, meant, meaning, parse}
+use Rattle.parser.specs.Pattern.{namesOf, statesOf, transitionOf, acceptWord, automatonOf, patternOf, fewTransitions, meant, meaning, parseAnswer}
 use Rattle.parser.specs.inner.Places.{saidAt, movesAt, transitionsAt, patternAt}
 use Rattle.parser.specs.declared.Parsed.the-variants.{Read, Refused}
 use Rattle.parser.specs.declared.arrows.Arrows.{Arrows}
 use Rattle.parser.specs.declared.names.Added.the-variants.{Kept, Full}
 use Rattle.parser.proofs.Finding.{names-count}
-use Rattle.parser.proofs.Going.{below-or, records-count}
+use Rattle.parser.proofs.ReadInvariant.{below-or, records-count}
 use Rattle.parser.proofs.Marking.{marks-words}
 use Rattle.parser.proofs.Tables.{added-table, added-names, added-full}
 
@@ -133,7 +133,7 @@ module _ (t : List ℕ) (x : Span) (arrows : Cursor) (b buf : List ℕ) (r : Arr
     (q : AcceptingPiece) (told : acceptingOf t q ≡ closing t (r .behind .at)) where
   pub open-8 : q ≡ NoAccepting → (o n : List ℕ) → parsedOf (Refused (Input Grammar)) o n ≡ parsed o n (meaning t (toldFrom t x (arrows .at)))
   unfolding parsed
-  open-8 e o n = sym (ap (λ (f : Found Told). parsed o n (meaning t f)) (closes-nothing t x arrows (r .behind .at) (a .behind) q told e))
+  open-8 e o n = sym (ap (λ (f : ReadResult TextParts). parsed o n (meaning t f)) (closes-nothing t x arrows (r .behind .at) (a .behind) q told e))
 
   module _ (first : Span) (more c : Cursor) (e : q ≡ AcceptingRead first more c) where
     abbrev l : Layout
@@ -176,18 +176,18 @@ module _ (t : List ℕ) (x : Span) (arrows : Cursor) (b buf : List ℕ) (r : Arr
 
 -- 20, 8, or what follows
 module _ (t o n : List ℕ) (f : Bool) (room : f ≡ (ltb (length o) 10500 || ltb (length n) 16642)) where
-  pub over-20 : f ≡ true → parsedOf (Refused (State OutputLength)) o n ≡ parsed o n (roomFirst o n (parse t))
+  pub over-20 : f ≡ true → parsedOf (Refused (State OutputLength)) o n ≡ parsed o n (roomFirst o n (parseAnswer t))
   unfolding parsed
-  over-20 h = sym (ap (parsed o n) (room-lacking o n (parse t) f room h))
+  over-20 h = sym (ap (parsed o n) (room-lacking o n (parseAnswer t) f room h))
 
   module _ (h : f ≡ false) (p : NamePiece) (told : nameOf p ≡ opening t) where
-    pub outside-8 : p ≡ NoName → parsedOf (Refused (Input Grammar)) o n ≡ parsed o n (roomFirst o n (parse t))
-    unfolding parsed parse
-    outside-8 e = sym (ap (parsed o n) (room-enough o n (parse t) f room h ∙ ap (meaning t) (opens-nothing t p told e)))
+    pub outside-8 : p ≡ NoName → parsedOf (Refused (Input Grammar)) o n ≡ parsed o n (roomFirst o n (parseAnswer t))
+    unfolding parsed parseAnswer
+    outside-8 e = sym (ap (parsed o n) (room-enough o n (parseAnswer t) f room h ∙ ap (meaning t) (opens-nothing t p told e)))
 
-    pub text-read : (x : Span) (c : Cursor) → p ≡ NameRead x c → (y : Output) → y ≡ parsed o n (meaning t (toldFrom t x (c .at))) → y ≡ parsed o n (roomFirst o n (parse t))
-    unfolding parse
-    text-read x c e y q = q ∙ sym (ap (parsed o n) (room-enough o n (parse t) f room h ∙ ap (meaning t) (opens-found t p told x c e)))
+    pub text-read : (x : Span) (c : Cursor) → p ≡ NameRead x c → (y : Output) → y ≡ parsed o n (meaning t (toldFrom t x (c .at))) → y ≡ parsed o n (roomFirst o n (parseAnswer t))
+    unfolding parseAnswer
+    text-read x c e y q = q ∙ sym (ap (parsed o n) (room-enough o n (parseAnswer t) f room h ∙ ap (meaning t) (opens-found t p told x c e)))
 
 pub ruleset recordedLaws = (over-22, few-22, within-22, gathered-held, needs)
 

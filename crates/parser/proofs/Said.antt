@@ -83,7 +83,7 @@ module _ (s : Said) where
       G : Graph (List ℕ)
       G = record { same = sameLabel; next = λ _. namesOf (s .moves); start = s .start }
 
-      good : search.Good G (s .start ∷ [])
+      good : search.ReachedElements G (s .start ∷ [])
       good = record {
         distinct = lists.Distinct.more {x = s .start} {l = []} (λ i. elim i [ ]) lists.Distinct.none;
         reached = λ x i. subst (search.Reached G) (sym (List·Memᴰ·eq-of-singleton i)) search.start;

@@ -6,7 +6,7 @@ use mathlib.Core.List.{List, [], _∷_, map, flatMap}
 use lib.ListN.{length}
 use Rattle.automata.specs.Automaton.{Transition, Automaton}
 use Rattle.automata.specs.Ordered.{inOrder}
-use Rattle.grammar.specs.Grammar.{Found, nothing, found, Told, wholeText}
+use Rattle.grammar.specs.Grammar.{ReadResult, nothing, found, TextParts, wholeText}
 use Rattle.labels.specs.Labels.{sameLabel}
 use Rattle.lists.specs.Lists.{any}
 use Rattle.output.specs.Output.{Pattern, statesFirst, transitionsFirst}
@@ -62,10 +62,10 @@ unfoldable pub meant : Said → ℕ → Answer Reading
 meant s n = statesFirst (patternOf s .automaton) (fewTransitions (patternOf s) n)
 
 -- 8 where no text is found in t
-abbrev pub meaning : List ℕ → Found Told → Answer Reading
+abbrev pub meaning : List ℕ → ReadResult TextParts → Answer Reading
 meaning t nothing = refused 8
 meaning t (found g n) = meant (spell t g) n
 
 -- the pattern at the front of a text
-unfoldable pub parse : List ℕ → Answer Reading
-parse t = meaning t (wholeText t)
+unfoldable pub parseAnswer : List ℕ → Answer Reading
+parseAnswer t = meaning t (wholeText t)

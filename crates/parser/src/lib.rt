@@ -16,7 +16,7 @@ ghost use Rattle.parser.specs.inner.Memory.{Zeros};
 ghost use Rattle.parser.specs.inner.Names.{spanAt, namesIn, Table};
 ghost use Rattle.parser.specs.inner.Records.{Recorded};
 ghost use Rattle.parser.specs.Parsed.{parsedOf, parsed};
-ghost use Rattle.parser.specs.Pattern.{transitionOf, fewTransitions, meaning, parse};
+ghost use Rattle.parser.specs.Pattern.{transitionOf, fewTransitions, meaning, parseAnswer};
 ghost use Rattle.parser.specs.inner.Places.{movesAt, transitionsAt, patternAt};
 use arrows::Arrows;
 use arrows::Begun;
@@ -225,7 +225,7 @@ fn from_start(text: &[u8], x: Span, arrows: Cursor, out: &mut [u32], names: &mut
 
 // The pattern at the front of a text: its sheet and its labels into the lent outputs, and how many bytes were read.
 pub fn parse_automaton(text: &[u8], out: &mut [u32], names: &mut [u8]) -> Parsed
-    ensures { λ r. ⌜ parsedOf r (now (out .exit)) (now (names .exit)) ≡ parsed (now (out .entry)) (now (names .entry)) (roomFirst (now (out .entry)) (now (names .entry)) (parse (now (text .entry)))) ⌝ }
+    ensures { λ r. ⌜ parsedOf r (now (out .exit)) (now (names .exit)) ≡ parsed (now (out .entry)) (now (names .entry)) (roomFirst (now (out .entry)) (now (names .entry)) (parseAnswer (now (text .entry)))) ⌝ }
 {
     if output::lacks_room(out, names) {
         return Parsed::Refused(Refusal::State(StateRefusal::OutputLength));

@@ -13,45 +13,45 @@ use Rattle.automata.specs.Automaton.{Automaton}
 use Rattle.automata.specs.WellFormed.{mostStates, mostTransitions}
 use Rattle.output.specs.Output.{transitionsFirst}
 use Rattle.refusal.specs.Answer.{refused, given}
-use Rattle.search.specs.Search.{Found, over, found, table}
+use Rattle.search.specs.Search.{SearchResult, over, found, table}
 use Rattle.automata.specs.Pairs.{Pair}
-use Rattle.product.specs.Product.{pairs, built, blockedAt, labelOf, labelled, answerOf, product}
+use Rattle.product.specs.Product.{meetingPairs, productAutomaton, blockedAt, pairLabelOf, labelled, pairsAnswer, product}
 
 module _ (A B : Automaton) where
   -- the four answers
-  pub answer-over : table (pairs A B) mostStates ≡ over → product A B ≡ refused 21
-  unfolding product answerOf
-  answer-over e = ap (answerOf A B) e
+  pub answer-over : table (meetingPairs A B) mostStates ≡ over → product A B ≡ refused 21
+  unfolding product pairsAnswer
+  answer-over e = ap (pairsAnswer A B) e
 
-  module _ (T : List Pair) (e : table (pairs A B) mostStates ≡ found T) where
+  module _ (T : List Pair) (e : table (meetingPairs A B) mostStates ≡ found T) where
     pub answer-blocked : any (blockedAt A B) T ≡ true → product A B ≡ refused 7
-    unfolding product answerOf
-    answer-blocked h = ap (answerOf A B) e ∙ rw h
+    unfolding product pairsAnswer
+    answer-blocked h = ap (pairsAnswer A B) e ∙ rw h
 
-    pub answer-many : any (blockedAt A B) T ≡ false → mostTransitions < length (built A B T .transitions) → product A B ≡ refused 22
-    unfolding product answerOf labelled transitionsFirst
-    answer-many h l = ap (answerOf A B) e ∙ rw (h, lt-ltb mostTransitions (length (built A B T .transitions)) l)
+    pub answer-many : any (blockedAt A B) T ≡ false → mostTransitions < length (productAutomaton A B T .transitions) → product A B ≡ refused 22
+    unfolding product pairsAnswer labelled transitionsFirst
+    answer-many h l = ap (pairsAnswer A B) e ∙ rw (h, lt-ltb mostTransitions (length (productAutomaton A B T .transitions)) l)
 
-    pub answer-given : any (blockedAt A B) T ≡ false → length (built A B T .transitions) ≤ mostTransitions → product A B ≡ given (record { automaton = built A B T; labels = map labelOf T })
-    unfolding product answerOf labelled transitionsFirst
-    answer-given h l = ap (answerOf A B) e ∙ rw (h, le-ltb mostTransitions (length (built A B T .transitions)) l)
+    pub answer-given : any (blockedAt A B) T ≡ false → length (productAutomaton A B T .transitions) ≤ mostTransitions → product A B ≡ given (record { automaton = productAutomaton A B T; labels = map pairLabelOf T })
+    unfolding product pairsAnswer labelled transitionsFirst
+    answer-given h l = ap (pairsAnswer A B) e ∙ rw (h, le-ltb mostTransitions (length (productAutomaton A B T .transitions)) l)
 
   -- which of them it is
   pub data Outcome : Type 0 where
-    many-pairs : table (pairs A B) mostStates ≡ over → product A B ≡ refused 21 → Outcome
-    stopped : (T : List Pair) → table (pairs A B) mostStates ≡ found T → any (blockedAt A B) T ≡ true → product A B ≡ refused 7 → Outcome
-    many-transitions : (T : List Pair) → table (pairs A B) mostStates ≡ found T → any (blockedAt A B) T ≡ false → mostTransitions < length (built A B T .transitions)
+    many-pairs : table (meetingPairs A B) mostStates ≡ over → product A B ≡ refused 21 → Outcome
+    stopped : (T : List Pair) → table (meetingPairs A B) mostStates ≡ found T → any (blockedAt A B) T ≡ true → product A B ≡ refused 7 → Outcome
+    many-transitions : (T : List Pair) → table (meetingPairs A B) mostStates ≡ found T → any (blockedAt A B) T ≡ false → mostTransitions < length (productAutomaton A B T .transitions)
         → product A B ≡ refused 22 → Outcome
-    made : (T : List Pair) → table (pairs A B) mostStates ≡ found T → any (blockedAt A B) T ≡ false → length (built A B T .transitions) ≤ mostTransitions
-        → product A B ≡ given (record { automaton = built A B T; labels = map labelOf T }) → Outcome
+    made : (T : List Pair) → table (meetingPairs A B) mostStates ≡ found T → any (blockedAt A B) T ≡ false → length (productAutomaton A B T .transitions) ≤ mostTransitions
+        → product A B ≡ given (record { automaton = productAutomaton A B T; labels = map pairLabelOf T }) → Outcome
 
   pub outcome : Outcome
-  outcome = go (table (pairs A B) mostStates) refl
+  outcome = go (table (meetingPairs A B) mostStates) refl
     where
-      go : (f : Found Pair) → table (pairs A B) mostStates ≡ f → Outcome
+      go : (f : SearchResult Pair) → table (meetingPairs A B) mostStates ≡ f → Outcome
       go over e = many-pairs e (answer-over e)
       go (found T) e =
-          let n = length (built A B T .transitions) in
+          let n = length (productAutomaton A B T .transitions) in
           ⊎-elim (λ b. stopped T e b (answer-blocked T e b))
           (λ b.
           ⊎-elim (λ t. let h = ltb-true mostTransitions n t in many-transitions T e b h (answer-many T e b h)) (λ t. let h = ltb-false mostTransitions n t in made T e b h (answer-given T e b h))

@@ -12,21 +12,21 @@ use lib.Dec.{eqb}
 use lib.ListN.{getD, length, take, drop, drop-of-length-le}
 use lib.Seq.{drop-cons}
 use Rattle.lists.specs.Lists.{_∈_, any, Ascending}
-use Rattle.lists.proofs.Lists.{any-out, keep-out}
-use Rattle.lists.proofs.Members.{ascending-keep}
+use Rattle.lists.proofs.Lists.{any-out, filter-out}
+use Rattle.lists.proofs.Members.{ascending-filter}
 use Rattle.lists.proofs.Tests.{test, or-left}
 use Rattle.automata.specs.Automaton.{Transition, leaving, hasEpsilon}
 use Rattle.automata.specs.Records.{readRecords, writeRecords}
 use Rattle.automata.specs.inner.Records.{recordAt}
 use Rattle.automata.specs.WellFormed.{here, later, Before}
 use Rattle.automata.proofs.Records.{read-write, read-front, read-short}
-use Rattle.sheets.specs.inner.Runs.{Ready}
+use Rattle.sheets.specs.inner.Runs.{IndexedSheet}
 use Rattle.sheets.specs.Sheet.{stateCount, read}
 use Rattle.sheets.proofs.Meaning.{read-well}
 use Rattle.sheets.proofs.Named.{ready-run}
 use Rattle.automata.specs.Pairs.{Pair}
 use Rattle.product.specs.Product.{isNone, blocked, blockedAt}
-use Rattle.product.specs.inner.Tables.{pairOf, tableOf, Within, EpsilonFirst}
+use Rattle.product.specs.inner.Tables.{pairOf, tableOf, PairsBelow, EpsilonFirst}
 use Rattle.product.proofs.Queueing.{length-table, entry-at, entry-in}
 
 -- in a run an epsilon comes before the ranges
@@ -45,12 +45,12 @@ epsilon-front q {es = d ∷ es} f (Ascending.more g a) h =
     (λ n. eq-eqb _ _ (before-epsilon q d e (f d (List·Memᴰ·head refl)) (f e (List·Memᴰ·tail n)) (g e n) (eqb-true _ _ k)))
     (List·Memᴰ·cases-cons m))
 
-pub run-first : (s runs : List ℕ) (q : ℕ) (run : List ℕ) → Ready s runs → run ≡ writeRecords (leaving (read s) q) → EpsilonFirst (readRecords run)
+pub run-first : (s runs : List ℕ) (q : ℕ) (run : List ℕ) → IndexedSheet s runs → run ≡ writeRecords (leaving (read s) q) → EpsilonFirst (readRecords run)
 unfolding leaving
 run-first s runs q run r e =
     rw (e, read-write)
     (record {
-      first = epsilon-front q (λ d m. eqb-true _ _ (keep-out (λ e. eqb (e .from) q) d (read s .transitions) m .1)) (ascending-keep (λ e. eqb (e .from) q) (read-well s (r .accepted) .ascends));
+      first = epsilon-front q (λ d m. eqb-true _ _ (filter-out (λ e. eqb (e .from) q) d (read s .transitions) m .1)) (ascending-filter (λ e. eqb (e .from) q) (read-well s (r .accepted) .ascends));
     })
 
 no-epsilon : (s : List ℕ) → 5 ≤ length s → EpsilonFirst (readRecords s) → (getD s 1 0 ≡ 0 → ⊥) → hasEpsilon (readRecords s) ≡ false
@@ -121,7 +121,7 @@ module _ (a b words : List ℕ) (n i : ℕ) (l : n ≤ length words) (e : any (b
 pub search-begins : (a b words : List ℕ) (n : ℕ) → any (blockedAt (read a) (read b)) (drop 0 (tableOf words n)) ≡ any (blockedAt (read a) (read b)) (tableOf words n)
 search-begins a b words n = refl
 
-module _ (a b words : List ℕ) (n i : ℕ) (w : Within (stateCount a) (stateCount b) (tableOf words n)) (l : n ≤ length words) (h : i < n) where
+module _ (a b words : List ℕ) (n i : ℕ) (w : PairsBelow (stateCount a) (stateCount b) (tableOf words n)) (l : n ≤ length words) (h : i < n) where
   pub within-left : pairOf (getD words i 0) .left < stateCount a
   within-left = w .states (pairOf (getD words i 0)) (entry-in words n i l h) .0
 

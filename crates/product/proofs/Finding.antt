@@ -17,21 +17,21 @@ use Rattle.automata.proofs.Records.{read-write}
 use Rattle.search.specs.Search.{Graph, meet, add, index, table}
 use Rattle.search.proofs.Tables.{meet-out}
 use Rattle.search.proofs.Queue.{queue, queue-begin, queue-step, queue-end, queue-over, queue-capped}
-use Rattle.sheets.specs.inner.Runs.{RunAt, Ready}
+use Rattle.sheets.specs.inner.Runs.{RunAt, IndexedSheet}
 use Rattle.sheets.specs.Sheet.{stateCount, read}
 use Rattle.sheets.proofs.Meaning.{read-well}
 use Rattle.sheets.proofs.Named.{ready-run}
 use Rattle.product.proofs.Records.{ready-left, ready-right}
 use Rattle.automata.specs.Pairs.{Pair, samePair}
-use Rattle.product.specs.Product.{Joint, jointsFrom, pairs}
-use Rattle.product.specs.inner.Tables.{pairOf, tableOf, capped, Queued, Met, targets, Within, foundIn}
+use Rattle.product.specs.Product.{Joint, jointsFrom, meetingPairs}
+use Rattle.product.specs.inner.Tables.{pairOf, tableOf, capped, Queued, PairsMet, targets, PairsBelow, foundIn}
 use Rattle.product.proofs.Joints.{from-out}
 use Rattle.product.proofs.Queueing.{length-table, entry-at, entry-in, queued-room}
 use Rattle.product.proofs.Result.{startPair}
 
 -- the pair at i
-module _ (a aruns b bruns : List ℕ) (ra : Ready a aruns) (rb : Ready b bruns) (words t : List ℕ) (n i : ℕ) (k : Queued words t n) (h : i < n)
-    (w : Within (stateCount a) (stateCount b) (tableOf words n)) where
+module _ (a aruns b bruns : List ℕ) (ra : IndexedSheet a aruns) (rb : IndexedSheet b bruns) (words t : List ℕ) (n i : ℕ) (k : Queued words t n) (h : i < n)
+    (w : PairsBelow (stateCount a) (stateCount b) (tableOf words n)) where
   inside : (pairOf (getD words i 0) .left < stateCount a) × (pairOf (getD words i 0) .right < stateCount b)
   inside = w .states (pairOf (getD words i 0)) (entry-in words n i (queued-room words t n k) h)
 
@@ -42,11 +42,11 @@ module _ (a aruns b bruns : List ℕ) (ra : Ready a aruns) (rb : Ready b bruns) 
   visit-right = ready-run b bruns rb (getD words i 0 % 256) (inside .1)
 
 pub visit-met : (a b : List ℕ) (c : ℕ) (first second : List ℕ) → first ≡ writeRecords (leaving (read a) (c / 256)) → second ≡ writeRecords (leaving (read b) (c % 256))
-    → (T : List Pair) (words t : List ℕ) (m : ℕ) → Met T (targets (readRecords first) (readRecords second)) words t m
-    → Met T (pairs (read a) (read b) .next (pairOf c)) words t m
-unfolding pairs targets jointsFrom
+    → (T : List Pair) (words t : List ℕ) (m : ℕ) → PairsMet T (targets (readRecords first) (readRecords second)) words t m
+    → PairsMet T (meetingPairs (read a) (read b) .next (pairOf c)) words t m
+unfolding meetingPairs targets jointsFrom
 visit-met a b c first second e f T words t m r =
-    subst (λ (ps : List Pair). Met T ps words t m)
+    subst (λ (ps : List Pair). PairsMet T ps words t m)
     (ap₂ (λ x y. targets x y) (ap readRecords e ∙ read-write (leaving (read a) (c / 256))) (ap readRecords f ∙ read-write (leaving (read b) (c % 256)))) r
 
 pub ruleset visitLaws = (visit-left, visit-right, ready-left, ready-right, visit-met, needs)
@@ -57,8 +57,8 @@ take-out (suc k) [] x m = elim m [ ]
 take-out (suc k) (y ∷ l) x m = ⊎-elim (λ e. List·Memᴰ·head e) (λ n. List·Memᴰ·tail (take-out k l x n)) (List·Memᴰ·cases-cons m)
 
 -- joints lead to states
-next-within : (A B : Automaton) → InBounds A → InBounds B → (p q : Pair) → q ∈ pairs A B .next p → (q .left < A .size) × (q .right < B .size)
-unfolding pairs
+next-within : (A B : Automaton) → InBounds A → InBounds B → (p q : Pair) → q ∈ meetingPairs A B .next p → (q .left < A .size) × (q .right < B .size)
+unfolding meetingPairs
 next-within A B f g p q m =
     let r = map-out (λ (j : Joint). j .to) (jointsFrom A B p) q m in
     let o = from-out A B p (r .0) (r .1) in
@@ -69,9 +69,9 @@ next-within A B f g p q m =
     rw to (f .tos (o .left) (k .left), g .tos (o .right) (k .right))
 
 -- the pairs of two sheets: those before i are done
-module _ (a aruns b bruns : List ℕ) (ra : Ready a aruns) (rb : Ready b bruns) where
+module _ (a aruns b bruns : List ℕ) (ra : IndexedSheet a aruns) (rb : IndexedSheet b bruns) where
   abbrev graph : Graph Pair
-  graph = pairs (read a) (read b)
+  graph = meetingPairs (read a) (read b)
 
   pub start-left : (t : List ℕ) → 256 * stateCount a ≤ length t → getD a 1 0 < length t / 256
   start-left t l = omega (arith, ra .accepted .start)
@@ -79,16 +79,16 @@ module _ (a aruns b bruns : List ℕ) (ra : Ready a aruns) (rb : Ready b bruns) 
   pub start-right : getD b 1 0 < 256
   start-right = omega (arith, rb .accepted .start, rb .accepted .few-states)
 
-  module _ (words₀ words t : List ℕ) (n : ℕ) (r : Met (tableOf words₀ 0) (record { left = getD a 1 0; right = getD b 1 0 } ∷ []) words t n) where
+  module _ (words₀ words t : List ℕ) (n : ℕ) (r : PairsMet (tableOf words₀ 0) (record { left = getD a 1 0; right = getD b 1 0 } ∷ []) words t n) where
     first-table : tableOf words n ≡ record { left = getD a 1 0; right = getD b 1 0 } ∷ []
     unfolding tableOf capped meet add index
     first-table = r .table
 
-    pub begin-queue : queue (pairs (read a) (read b)) mostStates 0 (tableOf words n) ≡ table (pairs (read a) (read b)) mostStates
-    unfolding pairs
+    pub begin-queue : queue (meetingPairs (read a) (read b)) mostStates 0 (tableOf words n) ≡ table (meetingPairs (read a) (read b)) mostStates
+    unfolding meetingPairs
     begin-queue = ap (queue graph mostStates 0) first-table ∙ sym (queue-begin graph mostStates)
 
-    pub begin-within : Within (stateCount a) (stateCount b) (tableOf words n)
+    pub begin-within : PairsBelow (stateCount a) (stateCount b) (tableOf words n)
     begin-within =
         record {
           states = λ p m.
@@ -96,22 +96,22 @@ module _ (a aruns b bruns : List ℕ) (ra : Ready a aruns) (rb : Ready b bruns) 
               (List·Memᴰ·cases-cons (rw first-table at m));
         }
 
-  module _ (words t : List ℕ) (n i : ℕ) (k : Queued words t n) (w : Within (stateCount a) (stateCount b) (tableOf words n))
-      (q : queue (pairs (read a) (read b)) mostStates i (tableOf words n) ≡ table (pairs (read a) (read b)) mostStates) where
+  module _ (words t : List ℕ) (n i : ℕ) (k : Queued words t n) (w : PairsBelow (stateCount a) (stateCount b) (tableOf words n))
+      (q : queue (meetingPairs (read a) (read b)) mostStates i (tableOf words n) ≡ table (meetingPairs (read a) (read b)) mostStates) where
     count : length (tableOf words n) ≡ n
     count = length-table words n (queued-room words t n k)
 
-    pub find-full : i ≤ 256 → 256 < n → foundIn words n ≡ table (pairs (read a) (read b)) mostStates
+    pub find-full : i ≤ 256 → 256 < n → foundIn words n ≡ table (meetingPairs (read a) (read b)) mostStates
     unfolding foundIn
     find-full l h = rw (lt-ltb 256 n h) (sym (queue-over graph mostStates i (tableOf words n) (omega arith) (omega (arith, count))) ∙ q)
 
-    pub find-ended : i ≤ 256 → n ≤ i → foundIn words n ≡ table (pairs (read a) (read b)) mostStates
+    pub find-ended : i ≤ 256 → n ≤ i → foundIn words n ≡ table (meetingPairs (read a) (read b)) mostStates
     unfolding foundIn
     find-ended l h = rw (le-ltb 256 n (omega arith)) (sym (queue-end graph mostStates i (tableOf words n) l (omega (arith, count))) ∙ q)
 
-    module _ (h : i < n) (words′ t′ : List ℕ) (m : ℕ) (r : Met (tableOf words n) (pairs (read a) (read b) .next (pairOf (getD words i 0))) words′ t′ m) where
-      pub find-next : n ≤ 256 → queue (pairs (read a) (read b)) mostStates (i + 1) (tableOf words′ m) ≡ table (pairs (read a) (read b)) mostStates
-      unfolding pairs capped
+    module _ (h : i < n) (words′ t′ : List ℕ) (m : ℕ) (r : PairsMet (tableOf words n) (meetingPairs (read a) (read b) .next (pairOf (getD words i 0))) words′ t′ m) where
+      pub find-next : n ≤ 256 → queue (meetingPairs (read a) (read b)) mostStates (i + 1) (tableOf words′ m) ≡ table (meetingPairs (read a) (read b)) mostStates
+      unfolding meetingPairs capped
       find-next l =
           ap (λ j. queue graph mostStates j (tableOf words′ m)) (add-one i)
           ∙ ap (queue graph mostStates (suc i)) (r .table)
@@ -120,7 +120,7 @@ module _ (a aruns b bruns : List ℕ) (ra : Ready a aruns) (rb : Ready b bruns) 
           ∙ sym (queue-step graph mostStates i (tableOf words n) (omega arith) (omega (arith, count)))
           ∙ q
 
-      pub find-within : Within (stateCount a) (stateCount b) (tableOf words′ m)
+      pub find-within : PairsBelow (stateCount a) (stateCount b) (tableOf words′ m)
       unfolding capped
       find-within =
           record {

@@ -20,9 +20,9 @@ use Rattle.sheets.specs.Checked.{sheetFirst}
 use Rattle.sheets.specs.Fault.{fault}
 use Rattle.sheets.proofs.Numbers.{sheet-first, sheet-given, sheet-number, sheet-fault}
 use Rattle.product.specs.Product
-use Rattle.product.specs.Product.{built, labelOf, product}
-use Rattle.product.specs.Reached.{Reached, start, step}
-use Rattle.product.specs.inner.Tables.{Within}
+use Rattle.product.specs.Product.{productAutomaton, pairLabelOf, product}
+use Rattle.product.specs.Reached.{PairReached, start, step}
+use Rattle.product.specs.inner.Tables.{PairsBelow}
 use Rattle.product.proofs.Answers.{Outcome, many-pairs, stopped, many-transitions, made, outcome}
 use Rattle.product.proofs.Pairs.{pairs-decides}
 use Rattle.product.proofs.Refusals.{in-reached}
@@ -30,7 +30,7 @@ use Rattle.product.proofs.Sections.{labels-all}
 use Rattle.product.proofs.Written.{built-well-formed}
 
 -- a reached pair is a pair of states
-reached-states : {A B : Automaton} → InBounds A → InBounds B → {p q : ℕ} → Reached A B p q → (p < A .size) × (q < B .size)
+reached-states : {A B : Automaton} → InBounds A → InBounds B → {p q : ℕ} → PairReached A B p q → (p < A .size) × (q < B .size)
 reached-states v w start = (v .starts, w .starts)
 reached-states v w (step {d} {e} r m) = (v .tos d (m .left), w .tos e (m .right))
 
@@ -38,9 +38,9 @@ module _ (A B : Automaton) where
   -- a product that was given comes from a finished table, with few enough transitions
   pub record Built (P : Pattern) : Type 0 where
     pub pairs : List Pair
-    pub whole : table (Product.pairs A B) mostStates ≡ found pairs
-    pub is : P ≡ record { automaton = built A B pairs; labels = map labelOf pairs }
-    pub few : length (built A B pairs .transitions) ≤ mostTransitions
+    pub whole : table (Product.meetingPairs A B) mostStates ≡ found meetingPairs
+    pub is : P ≡ record { automaton = productAutomaton A B meetingPairs; labels = map pairLabelOf meetingPairs }
+    pub few : length (productAutomaton A B meetingPairs .transitions) ≤ mostTransitions
 
   pub built-by : (P : Pattern) → product A B ≡ given P → Built P
   built-by P p = go (outcome A B)
@@ -69,19 +69,19 @@ module _ (A B : Automaton) where
     pub given-fits : Fits (P .automaton)
     given-fits =
         let r = built-by P e in
-        rw (r .is) (record { few-states = unfold built in table-few (Product.pairs A B) (pairs-decides A B) mostStates (r .pairs) (r .whole); few-transitions = r .few })
+        rw (r .is) (record { few-states = unfold productAutomaton in table-few (Product.meetingPairs A B) (pairs-decides A B) mostStates (r .pairs) (r .whole); few-transitions = r .few })
 
     -- and can be written where both are, of at most 256 states
     pub given-writable : WellFormed A → WellFormed B → A .size ≤ mostStates → B .size ≤ mostStates → Writable P
     given-writable v w i j =
         let r = built-by P e in
-        let within : Within 256 256 (r .pairs) =
+        let within : PairsBelow 256 256 (r .pairs) =
         record { states = λ p m. let (x, y) = reached-states (v .states) (w .states) (in-reached A B (r .pairs) (r .whole) p m) in (omega arith, omega arith) } in
         record {
           well = given-well v;
           fits = given-fits;
           labels = rw (r .is) (labels-all (r .pairs) within);
-          each = rw (r .is) (unfold built in length-map (r .pairs) labelOf);
+          each = rw (r .is) (unfold productAutomaton in length-map (r .pairs) pairLabelOf);
         }
 
 -- an answer behind the faults of two sheets

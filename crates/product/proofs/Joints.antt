@@ -9,8 +9,8 @@ use native.Mathlib.Omega.{arith}
 use borrow.Author.Tests.{le-leb, lt-leb, leb-true, ltb-true, eq-eqb, ne-eqb, eqb-true}
 use lib.Dec.{leb, ltb, eqb}
 use lib.ListN.{length}
-use Rattle.lists.specs.Lists.{_∈_, keep}
-use Rattle.lists.proofs.Lists.{keep-in, keep-out, keep-append, length-keep}
+use Rattle.lists.specs.Lists.{_∈_, filter}
+use Rattle.lists.proofs.Lists.{filter-in, filter-out, filter-append, length-filter}
 use Rattle.automata.specs.Automaton.{Transition, Automaton, leaving, rangesOf}
 use Rattle.ranges.specs.Span.{intersectRanges}
 use Rattle.automata.specs.Pairs.{Pair}
@@ -90,13 +90,13 @@ pub record RangeFrom (A : Automaton) (p : ℕ) (d : Transition) : Type 0 where
 pub range-out : (A : Automaton) (p : ℕ) (d : Transition) → d ∈ rangesOf (leaving A p) → RangeFrom A p d
 unfolding rangesOf leaving
 range-out A p d m =
-    let k = keep-out (λ e. eqb (e .kind) 1) d (leaving A p) m in
-    let l = keep-out (λ e. eqb (e .from) p) d (A .transitions) (k .0) in
+    let k = filter-out (λ e. eqb (e .kind) 1) d (leaving A p) m in
+    let l = filter-out (λ e. eqb (e .from) p) d (A .transitions) (k .0) in
     record { «in» = l .0; from-is = eqb-true _ _ (l .1); is-range = eqb-true _ _ (k .1) }
 
 pub range-in : {A : Automaton} {p : ℕ} {d : Transition} → RangeFrom A p d → d ∈ rangesOf (leaving A p)
 unfolding rangesOf leaving
-range-in r = keep-in _ (keep-in _ (r .in) (eq-eqb _ _ (r .from-is))) (eq-eqb _ _ (r .is-range))
+range-in r = filter-in _ (filter-in _ (r .in) (eq-eqb _ _ (r .from-is))) (eq-eqb _ _ (r .is-range))
 
 module _ (A B : Automaton) (p : Pair) where
   -- a joint that leaves a pair: the two ranges, and each symbol of the joint lies in both
@@ -158,14 +158,14 @@ joints-nothing (d ∷ ds) = joints-nothing ds
 
 ranges-append : (ds es : List Transition) → rangesOf (ds ++ es) ≡ rangesOf ds ++ rangesOf es
 unfolding rangesOf
-ranges-append ds es = keep-append (λ e. eqb (e .kind) 1) ds es
+ranges-append ds es = filter-append (λ e. eqb (e .kind) 1) ds es
 
 pub joints-none-left : (es : List Transition) → jointsOf [] es ≡ []
-unfolding jointsOf rangesOf keep joints
+unfolding jointsOf rangesOf filter joints
 joints-none-left es = refl
 
 pub joints-none-right : (ds : List Transition) → jointsOf ds [] ≡ []
-unfolding jointsOf rangesOf keep
+unfolding jointsOf rangesOf filter
 joints-none-right ds = joints-nothing (rangesOf ds)
 
 pub joints-left : (d : Transition) (ds es : List Transition) → jointsOf (d ∷ ds) es ≡ jointsOf (d ∷ []) es ++ jointsOf ds es
@@ -183,19 +183,19 @@ pub joints-right : (d e : Transition) (es : List Transition) → jointsOf (d ∷
 unfolding jointsOf
 joints-right d e es =
     ap (joints (rangesOf (d ∷ []))) (ranges-append (e ∷ []) es)
-    ∙ joints-few (rangesOf (d ∷ [])) (rangesOf (e ∷ [])) (rangesOf es) (unfold rangesOf in length-keep (λ e. eqb (e .kind) 1) (d ∷ []))
+    ∙ joints-few (rangesOf (d ∷ [])) (rangesOf (e ∷ [])) (rangesOf es) (unfold rangesOf in length-filter (λ e. eqb (e .kind) 1) (d ∷ []))
 
 -- two records: no joint where one is no range, or the joint of two ranges
 pub joints-other-left : (d : Transition) (es : List Transition) → (d .kind ≡ 1 → ⊥) → jointsOf (d ∷ []) es ≡ []
-unfolding jointsOf rangesOf keep joints
+unfolding jointsOf rangesOf filter joints
 joints-other-left d es h = rw (ne-eqb (d .kind) 1 h)
 
 pub joints-other-right : (d e : Transition) → (e .kind ≡ 1 → ⊥) → jointsOf (d ∷ []) (e ∷ []) ≡ []
-unfolding jointsOf rangesOf keep
+unfolding jointsOf rangesOf filter
 joints-other-right d e h = rw (ne-eqb (e .kind) 1 h) (joints-nothing (rangesOf (d ∷ [])))
 
 pub joints-two : (d e : Transition) → d .kind ≡ 1 → e .kind ≡ 1 → jointsOf (d ∷ []) (e ∷ []) ≡ jointOf (intersectRanges (symbolsOf d) (symbolsOf e)) (record { left = d .to; right = e .to })
-unfolding jointsOf rangesOf keep joints jointsWith joint
+unfolding jointsOf rangesOf filter joints jointsWith joint
 joints-two d e h k = rw (eq-eqb (d .kind) 1 h, eq-eqb (e .kind) 1 k) (append-nil _ ∙ append-nil _)
 
 -- two ranges of which one ends before the other starts
@@ -221,8 +221,8 @@ unfolding jointsOf rangesOf
 joints-behind d es f =
     joints-apart _ _
     (λ c e m k.
-    let q : c ≡ d = List·Memᴰ·eq-of-singleton (keep-out (λ e. eqb (e .kind) 1) c (d ∷ []) m .0) in
-    rw q (f e (keep-out (λ e. eqb (e .kind) 1) e es k .0)))
+    let q : c ≡ d = List·Memᴰ·eq-of-singleton (filter-out (λ e. eqb (e .kind) 1) c (d ∷ []) m .0) in
+    rw q (f e (filter-out (λ e. eqb (e .kind) 1) e es k .0)))
 
 -- a range that ends before those of ds start gives nothing with them
 joints-past : (ds : List Transition) (e : Transition) (es : List Transition) → ((d : Transition) → d ∈ ds → e .last < d .first) → joints ds (e ∷ es) ≡ joints ds es
@@ -234,14 +234,14 @@ joints-past (d ∷ ds) e es f =
 
 passed-one : (a : ℕ) (ds : List Transition) (e : Transition) (es : List Transition) → ((d : Transition) → d ∈ ds → a ≤ d .first) → ended a e ≡ true
     → jointsOf ds (e ∷ es) ≡ jointsOf ds es
-unfolding ended jointsOf rangesOf keep
+unfolding ended jointsOf rangesOf filter
 passed-one a ds e es f h = go (eqb (e .kind) 1) refl h
   where
     go : (b : Bool) → eqb (e .kind) 1 ≡ b → (not b || ltb (e .last) a) ≡ true
         → joints (rangesOf ds) (cond b (e ∷ rangesOf es) (rangesOf es)) ≡ joints (rangesOf ds) (rangesOf es)
     go true k l =
         let z : e .last < a = ltb-true _ _ l in
-        joints-past (rangesOf ds) e (rangesOf es) (λ d m. let y = f d (keep-out (λ e. eqb (e .kind) 1) d ds m .0) in omega arith)
+        joints-past (rangesOf ds) e (rangesOf es) (λ d m. let y = f d (filter-out (λ e. eqb (e .kind) 1) d ds m .0) in omega arith)
     go false k l = refl
 
 pub joints-passed : (a : ℕ) (ds es : List Transition) → ((d : Transition) → d ∈ ds → a ≤ d .first) → jointsOf ds es ≡ jointsOf ds (notEnded a es)

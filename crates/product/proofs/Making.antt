@@ -32,13 +32,13 @@ use Rattle.sheets.specs.declared.Checked.{Checked}
 use Rattle.sheets.specs.declared.Checked.the-variants as checked
 use Rattle.sheets.specs.Checked.{checkedNumber, sheetFirst}
 use Rattle.sheets.specs.Fault.{fault}
-use Rattle.sheets.specs.inner.Runs.{startsOf, Ready}
+use Rattle.sheets.specs.inner.Runs.{startsOf, IndexedSheet}
 use Rattle.sheets.specs.Sheet.{stateCount, read, write}
 use Rattle.sheets.proofs.Checking.{sheet-passed, sheet-refused}
 use Rattle.sheets.proofs.Runs.{starts-indexed}
 use Rattle.automata.specs.Pairs.{Pair}
-use Rattle.product.specs.Product.{pairs, transitionsFrom, placeIn, acceptOf, built, blockedAt, labelOf, product, intersection}
-use Rattle.product.specs.inner.Tables.{tableOf, Queued, Within, foundIn, sheetWords, Whole}
+use Rattle.product.specs.Product.{meetingPairs, transitionsFrom, placeIn, pairAccept, productAutomaton, blockedAt, pairLabelOf, product, intersectionAnswer}
+use Rattle.product.specs.inner.Tables.{tableOf, Queued, PairsBelow, foundIn, sheetWords, Whole}
 use Rattle.product.proofs.Answers.{answer-over, answer-blocked, answer-many, answer-given}
 use Rattle.product.proofs.Queueing.{length-table}
 
@@ -46,11 +46,11 @@ use Rattle.product.proofs.Queueing.{length-table}
 module _ (A B : Automaton) (words : List ℕ) (n : ℕ) where
   module _ (buf : List ℕ) (end : ℕ) (s : Collected buf end (transitionsFrom (placeIn (tableOf words n)) A B 0 (tableOf words n))) where
     pub product-many : Whole A B (tableOf words n) → length buf ≡ 11520 → 10240 < end → product A B ≡ refused 22
-    product-many v l h = answer-many A B (tableOf words n) (v .all) (v .free) (unfold built in let o = s .over (omega arith) in omega arith)
+    product-many v l h = answer-many A B (tableOf words n) (v .all) (v .free) (unfold productAutomaton in let o = s .over (omega arith) in omega arith)
 
     module _ (h : end ≤ length buf / 9 * 8) where
-      pub part-words : take end buf ≡ writeRecords (built A B (tableOf words n) .transitions)
-      unfolding built
+      pub part-words : take end buf ≡ writeRecords (productAutomaton A B (tableOf words n) .transitions)
+      unfolding productAutomaton
       part-words = let z : end - 0 ≡ end = omega arith in ap (λ e. take e buf) (sym z) ∙ s .listed h .words
 
       pub part-count : end ≡ length (take end buf)
@@ -60,25 +60,25 @@ module _ (A B : Automaton) (words : List ℕ) (n : ℕ) where
       part-few = omega (arith, part-count, s .memory .most)
 
   -- the records of its transitions are known
-  module _ (v : Whole A B (tableOf words n)) (records : List ℕ) (e : records ≡ writeRecords (built A B (tableOf words n) .transitions)) (f : length records ≤ 10240) where
-    count : length records ≡ 5 * length (built A B (tableOf words n) .transitions)
+  module _ (v : Whole A B (tableOf words n)) (records : List ℕ) (e : records ≡ writeRecords (productAutomaton A B (tableOf words n) .transitions)) (f : length records ≤ 10240) where
+    count : length records ≡ 5 * length (productAutomaton A B (tableOf words n) .transitions)
     count = ap length e ∙ length-write _
 
-    sheet : n ≤ length words → sheetWords (map (acceptOf A B) (tableOf words n)) n records ≡ write (built A B (tableOf words n))
-    unfolding built
+    sheet : n ≤ length words → sheetWords (map (pairAccept A B) (tableOf words n)) n records ≡ write (productAutomaton A B (tableOf words n))
+    unfolding productAutomaton
     sheet l =
-        let c : length records / 5 ≡ length (built A B (tableOf words n) .transitions) = omega (arith, count) in
+        let c : length records / 5 ≡ length (productAutomaton A B (tableOf words n) .transitions) = omega (arith, count) in
         rw (c, e, length-table words n l)
 
-    pub product-made : n ≤ length words → (out names out′ names′ : List ℕ) (x y : ℕ) → Written out 0 (sheetWords (map (acceptOf A B) (tableOf words n)) n records) out′ x
-        → Written names 0 (writeLabels (map labelOf (tableOf words n))) names′ y → outputOf (made.Lengths x y) out′ names′ ≡ outputs out names (product A B)
+    pub product-made : n ≤ length words → (out names out′ names′ : List ℕ) (x y : ℕ) → Written out 0 (sheetWords (map (pairAccept A B) (tableOf words n)) n records) out′ x
+        → Written names 0 (writeLabels (map pairLabelOf (tableOf words n))) names′ y → outputOf (made.Lengths x y) out′ names′ ≡ outputs out names (product A B)
     product-made l out names out′ names′ x y p q =
-        let few : length (built A B (tableOf words n) .transitions) ≤ mostTransitions = omega (arith, count) in
-        made-given out names out′ names′ x y (record { automaton = built A B (tableOf words n); labels = map labelOf (tableOf words n) }) (subst (λ t. Written out 0 t out′ x) (sheet l) p) q
+        let few : length (productAutomaton A B (tableOf words n) .transitions) ≤ mostTransitions = omega (arith, count) in
+        made-given out names out′ names′ x y (record { automaton = productAutomaton A B (tableOf words n); labels = map pairLabelOf (tableOf words n) }) (subst (λ t. Written out 0 t out′ x) (sheet l) p) q
         ∙ ap (outputs out names) (sym (answer-given A B (tableOf words n) (v .all) (v .free) few))
 
 -- what the functions ask of each other
-pub within-256 : (a b : List ℕ) → Accepted a → Accepted b → (T : List Pair) → Within (stateCount a) (stateCount b) T → Within 256 256 T
+pub within-256 : (a b : List ℕ) → Accepted a → Accepted b → (T : List Pair) → PairsBelow (stateCount a) (stateCount b) T → PairsBelow 256 256 T
 within-256 a b ra rb T w = record { states = λ p m. let h = w .states p m in (omega (arith, h .0, ra .few-states), omega (arith, h .1, rb .few-states)) }
 
 pub made-many : (out names : List ℕ) (A B : Automaton) → product A B ≡ refused 22 → outputOf (made.Refused (State Transitions)) out names ≡ outputs out names (product A B)
@@ -101,13 +101,13 @@ pub table-bytes : (m : ℕ) → m ≤ 65536 → length {A = ℕ} (replicate m 0)
 table-bytes m l = omega (arith, length-replicate {A = ℕ} m 0)
 
 -- the answers of the search
-module _ (A B : Automaton) (words : List ℕ) (n : ℕ) (e : foundIn words n ≡ table (pairs A B) mostStates) where
+module _ (A B : Automaton) (words : List ℕ) (n : ℕ) (e : foundIn words n ≡ table (meetingPairs A B) mostStates) where
   pub found-over : (out names : List ℕ) → 256 < n → outputOf (made.Refused (State States)) out names ≡ outputs out names (product A B)
   unfolding foundIn
   found-over out names h = made-refused out names (State States) (product A B) (answer-over A B (sym e ∙ rw (lt-ltb 256 n h)))
 
   module _ (h : n ≤ 256) (r : Bool) (o : r ≡ any (blockedAt A B) (tableOf words n)) where
-    found-all : table (pairs A B) mostStates ≡ found (tableOf words n)
+    found-all : table (meetingPairs A B) mostStates ≡ found (tableOf words n)
     unfolding foundIn
     found-all = sym e ∙ rw (le-ltb 256 n h)
 
@@ -118,7 +118,7 @@ module _ (A B : Automaton) (words : List ℕ) (n : ℕ) (e : foundIn words n ≡
     found-whole t = record { all = found-all; free = sym o ∙ t }
 
 -- a sheet and where its runs begin
-pub runs-ready : (s old runs : List ℕ) → Accepted s → runs ≡ sets old 0 (startsOf s) → length old ≡ 257 → Ready s runs
+pub runs-ready : (s old runs : List ℕ) → Accepted s → runs ≡ sets old 0 (startsOf s) → length old ≡ 257 → IndexedSheet s runs
 runs-ready s old runs a e h = record { accepted = a; indexed = starts-indexed s old runs e (omega (arith, a .few-states)) }
 
 -- the second sheet, the first, and the room for the outputs
@@ -132,15 +132,15 @@ module _ (a b : List ℕ) (out names : List ℕ) where
     second-refused i h = made-refused out names (Input i) _ (sheet-refused b _ r e i h)
 
   pub no-room : (l : Bool) → l ≡ (ltb (length out) 10500 || ltb (length names) 16642) → l ≡ true
-      → outputOf (made.Refused (State OutputLength)) out names ≡ outputs out names (roomFirst out names (intersection a b))
-  no-room l o h = made-refused out names (State OutputLength) _ (room-lacking out names (intersection a b) l o h)
+      → outputOf (made.Refused (State OutputLength)) out names ≡ outputs out names (roomFirst out names (intersectionAnswer a b))
+  no-room l o h = made-refused out names (State OutputLength) _ (room-lacking out names (intersectionAnswer a b) l o h)
 
   module _ (l : Bool) (o : l ≡ (ltb (length out) 10500 || ltb (length names) 16642)) (f : l ≡ false) (r : Checked) (e : checkedNumber r ≡ fault a) where
     pub first-passed : r ≡ checked.Accepted → (x : Made) (out′ names′ : List ℕ) → outputOf x out′ names′ ≡ outputs out names (sheetFirst b (product (read a) (read b)))
-        → outputOf x out′ names′ ≡ outputs out names (roomFirst out names (intersection a b))
-    unfolding intersection
+        → outputOf x out′ names′ ≡ outputs out names (roomFirst out names (intersectionAnswer a b))
+    unfolding intersectionAnswer
     first-passed h x out′ names′ p = p ∙ ap (outputs out names) (sym (room-enough out names _ l o f ∙ sheet-passed a _ r e h))
 
-    pub first-refused : (i : InputRefusal) → r ≡ checked.Refused i → outputOf (made.Refused (Input i)) out names ≡ outputs out names (roomFirst out names (intersection a b))
-    unfolding intersection
+    pub first-refused : (i : InputRefusal) → r ≡ checked.Refused i → outputOf (made.Refused (Input i)) out names ≡ outputs out names (roomFirst out names (intersectionAnswer a b))
+    unfolding intersectionAnswer
     first-refused i h = made-refused out names (Input i) _ (room-enough out names _ l o f ∙ sheet-refused a _ r e i h)

@@ -19,7 +19,7 @@ use Rattle.search.specs.Search.{meet}
 use Rattle.search.proofs.Tables.{add-known, add-new, meet-append, meet-full, meet-capped, index-lt}
 use Rattle.automata.specs.Pairs.{Pair, samePair}
 use Rattle.product.specs.Product.{placeIn}
-use Rattle.product.specs.inner.Tables.{pairOf, tableOf, capped, Queued, Met}
+use Rattle.product.specs.inner.Tables.{pairOf, tableOf, capped, Queued, PairsMet}
 use Rattle.automata.proofs.Pairs.{pair-decides}
 
 pub length-table : (queue : List ℕ) (n : ℕ) → n ≤ length queue → length (tableOf queue n) ≡ n
@@ -57,7 +57,7 @@ module _ (queue t : List ℕ) (n p q : ℕ) (k : Queued queue t n) (hq : q < 256
   count : length (tableOf queue n) ≡ n
   count = length-table queue n (queued-room queue t n k)
 
-  pub pair-full : 256 < n → Met (tableOf queue n) (record { left = p; right = q } ∷ []) queue t n
+  pub pair-full : 256 < n → PairsMet (tableOf queue n) (record { left = p; right = q } ∷ []) queue t n
   unfolding capped
   pair-full h = record { queued = k; table = sym (meet-full samePair 257 (record { left = p; right = q } ∷ []) (tableOf queue n) (omega (arith, count, k .few))) }
 
@@ -65,7 +65,7 @@ module _ (queue t : List ℕ) (n p q : ℕ) (k : Queued queue t n) (hq : q < 256
     place : i ≡ placeIn (tableOf queue n) (record { left = p; right = q })
     place = e ∙ ap (placeIn (tableOf queue n)) (word-pair p q hq)
 
-    pub pair-known : i < n → Met (tableOf queue n) (record { left = p; right = q } ∷ []) queue t n
+    pub pair-known : i < n → PairsMet (tableOf queue n) (record { left = p; right = q } ∷ []) queue t n
     unfolding meet
     pair-known h =
         record {
@@ -85,7 +85,7 @@ module _ (queue t : List ℕ) (n p q : ℕ) (k : Queued queue t n) (hq : q < 256
       grown = ap (map pairOf) taken ∙ map-append pairOf (take n queue) _ ∙ ap (λ x. map pairOf (take n queue) ++ x ∷ []) (word-pair p q hq)
 
       met : (u : List ℕ) → length u ≡ length t → (n + 1 ≤ 256 → (i : ℕ) → i < n + 1 → getD u (getD (set queue n (p * 256 + q)) i 0) 0 ≡ i)
-          → Met (tableOf queue n) (record { left = p; right = q } ∷ []) (set queue n (p * 256 + q)) u (n + 1)
+          → PairsMet (tableOf queue n) (record { left = p; right = q } ∷ []) (set queue n (p * 256 + q)) u (n + 1)
       unfolding meet
       met u w f =
           record {
@@ -100,7 +100,7 @@ module _ (queue t : List ℕ) (n p q : ℕ) (k : Queued queue t n) (hq : q < 256
                 ∙ capped-few _ (omega (arith, length-append (tableOf queue n) (record { left = p; right = q } ∷ []), count)));
           }
 
-      pub pair-last : 256 ≤ n → Met (tableOf queue n) (record { left = p; right = q } ∷ []) (set queue n (p * 256 + q)) t (n + 1)
+      pub pair-last : 256 ≤ n → PairsMet (tableOf queue n) (record { left = p; right = q } ∷ []) (set queue n (p * 256 + q)) t (n + 1)
       pair-last g = met t refl (λ f. absurd (omega arith))
 
       -- no word before the n-th is that of the pair
@@ -125,14 +125,14 @@ module _ (queue t : List ℕ) (n p q : ℕ) (k : Queued queue t n) (hq : q < 256
           ∙ getD-set-same t (p * 256 + q) n 0 (omega arith)))
           (test (ltb i n))
 
-      pub pair-new : p < length t / 256 → Met (tableOf queue n) (record { left = p; right = q } ∷ []) (set queue n (p * 256 + q)) (set t (p * 256 + q) n) (n + 1)
+      pub pair-new : p < length t / 256 → PairsMet (tableOf queue n) (record { left = p; right = q } ∷ []) (set queue n (p * 256 + q)) (set t (p * 256 + q) n) (n + 1)
       pair-new r = met (set t (p * 256 + q) n) (length-set t (p * 256 + q) n) (λ f. numbers r)
 
 pub ruleset pairLaws = (pair-full, pair-known, pair-last, pair-new, needs)
 
 -- no pair, and pairs one after the other
 module _ (queue t : List ℕ) (n : ℕ) (k : Queued queue t n) where
-  pub met-none : Met (tableOf queue n) [] queue t n
+  pub met-none : PairsMet (tableOf queue n) [] queue t n
   unfolding meet
   met-none = record { queued = k; table = sym (table-capped queue t n k) }
 
@@ -145,15 +145,15 @@ unfoldable pub metWith : List ℕ → ℕ → List Pair → List Pair
 metWith queue n ps = capped (meet samePair ps (tableOf queue n))
 
 module _ (queue t : List ℕ) (n : ℕ) (k : Queued queue t n) (old ps : List Pair) where
-  pub met-ended : metWith queue n [] ≡ capped (meet samePair ps old) → Met old ps queue t n
+  pub met-ended : metWith queue n [] ≡ capped (meet samePair ps old) → PairsMet old ps queue t n
   unfolding metWith meet
   met-ended e = record { queued = k; table = sym (table-capped queue t n k) ∙ e }
 
-  pub met-full : 256 < n → (qs : List Pair) → metWith queue n qs ≡ capped (meet samePair ps old) → Met old ps queue t n
+  pub met-full : 256 < n → (qs : List Pair) → metWith queue n qs ≡ capped (meet samePair ps old) → PairsMet old ps queue t n
   unfolding metWith capped
   met-full h qs e =
       record { queued = k; table = sym (meet-full samePair 257 qs (tableOf queue n) (omega (arith, length-table queue n (queued-room queue t n k), k .few))) ∙ e }
 
-pub met-next : (queue queue′ t′ : List ℕ) (n m : ℕ) (ps qs : List Pair) → Met (tableOf queue n) ps queue′ t′ m → metWith queue′ m qs ≡ metWith queue n (ps ++ qs)
+pub met-next : (queue queue′ t′ : List ℕ) (n m : ℕ) (ps qs : List Pair) → PairsMet (tableOf queue n) ps queue′ t′ m → metWith queue′ m qs ≡ metWith queue n (ps ++ qs)
 unfolding metWith
 met-next queue queue′ t′ n m ps qs r = capped-append ps qs (tableOf queue n) (tableOf queue′ m) (r .table)

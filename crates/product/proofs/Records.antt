@@ -12,7 +12,7 @@ use lib.Dec.{eqb}
 use lib.ListN.{length, getD, take, drop}
 use Rattle.lists.specs.Lists.{_∈_}
 use Rattle.lists.proofs.Parts.{part-all}
-use Rattle.lists.proofs.Members.{ascending-keep, ascending-by, ascending-first, ascending-rest}
+use Rattle.lists.proofs.Members.{ascending-filter, ascending-by, ascending-first, ascending-rest}
 use Rattle.automata.specs.Automaton.{Transition, Automaton, leaving}
 use Rattle.automata.specs.Records.{readRecords, writeRecords}
 use Rattle.automata.specs.inner.Records.{recordAt}
@@ -20,7 +20,7 @@ use Rattle.automata.specs.WellFormed.{Lex, Before, Sound, WellFormed}
 use Rattle.automata.proofs.Leaving.{leaves}
 use Rattle.automata.proofs.Records.{read-write, records-at, records-end, part-record}
 use Rattle.sheets.specs.Sheet.{stateCount, read}
-use Rattle.sheets.specs.inner.Runs.{Ready}
+use Rattle.sheets.specs.inner.Runs.{IndexedSheet}
 use Rattle.sheets.proofs.Meaning.{read-well}
 use Rattle.product.specs.Product.{jointsOf}
 use Rattle.product.proofs.Joints.{joints-behind, joints-passed}
@@ -115,11 +115,11 @@ leaving-to A q k w l =
     let out : (e : Transition) → e ∈ leaving A q → e ∈ A .transitions × (e .from ≡ q) = λ e m. leaves A q e m in
     record {
       tos = λ e m. omega (arith, w .states .tos e (out e m .0));
-      rises = ascending-by (λ d e m n. starts-below d e (out d m .1 ∙ sym (out e n .1)) (w .sound d (out d m .0)) (w .sound e (out e n .0))) (ascending-keep (λ e. eqb (e .from) q) (w .ascends));
+      rises = ascending-by (λ d e m n. starts-below d e (out d m .1 ∙ sym (out e n .1)) (w .sound d (out d m .0)) (w .sound e (out e n .0))) (ascending-filter (λ e. eqb (e .from) q) (w .ascends));
     }
 
 -- the run of a state of an accepted sheet
-module _ (s starts : List ℕ) (r : Ready s starts) (q : ℕ) (run : List ℕ) (e : run ≡ writeRecords (leaving (read s) q)) where
+module _ (s starts : List ℕ) (r : IndexedSheet s starts) (q : ℕ) (run : List ℕ) (e : run ≡ writeRecords (leaving (read s) q)) where
   run-below : (k : ℕ) → stateCount s ≤ k → RunTo k (readRecords run)
   run-below k l = subst (RunTo k) (sym (ap readRecords e ∙ read-write _)) (leaving-to (read s) q k (read-well s (r .accepted)) l)
 

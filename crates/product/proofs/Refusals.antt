@@ -20,8 +20,8 @@ use Rattle.search.specs.Search.{index, found, table}
 use Rattle.search.proofs.Tables.{index-lt, index-at, index-place}
 use Rattle.search.proofs.Queue.{table-all}
 use Rattle.automata.specs.Pairs.{Pair, samePair}
-use Rattle.product.specs.Product.{Joint, jointsFrom, pairs, transitionOf, placeIn, built, isNone, blocked, blockedAt}
-use Rattle.product.specs.Reached.{Reached, step, Blocked, PairTransition, Arises, ManyTransitions}
+use Rattle.product.specs.Product.{Joint, jointsFrom, meetingPairs, transitionOf, placeIn, productAutomaton, isNone, blocked, blockedAt}
+use Rattle.product.specs.Reached.{PairReached, step, Blocked, PairTransition, Arises, ManyTransitions}
 use Rattle.product.proofs.Joints.{jointBy}
 use Rattle.product.proofs.Joints
 use Rattle.automata.proofs.Pairs.{pair-eq, pair-decides}
@@ -40,12 +40,12 @@ unfolding isNone
 member-some {es = []} m = elim m [ ]
 member-some {es = d ∷ es} m = refl
 
-module _ (A B : Automaton) (T : List Pair) (e : table (pairs A B) mostStates ≡ found T) where
-  pub reached-in : {p q : ℕ} → Reached A B p q → record { left = p; right = q } ∈ T
-  reached-in r = table-all (pairs A B) (pairs-decides A B) mostStates T e .whole _ (reached-graph A B r)
+module _ (A B : Automaton) (T : List Pair) (e : table (meetingPairs A B) mostStates ≡ found T) where
+  pub reached-in : {p q : ℕ} → PairReached A B p q → record { left = p; right = q } ∈ T
+  reached-in r = table-all (meetingPairs A B) (pairs-decides A B) mostStates T e .whole _ (reached-graph A B r)
 
-  pub in-reached : (p : Pair) → p ∈ T → Reached A B (p .left) (p .right)
-  in-reached p m = graph-reached A B (table-all (pairs A B) (pairs-decides A B) mostStates T e .good .reached p m)
+  pub in-reached : (p : Pair) → p ∈ T → PairReached A B (p .left) (p .right)
+  in-reached p m = graph-reached A B (table-all (meetingPairs A B) (pairs-decides A B) mostStates T e .good .reached p m)
 
   block : (p : Pair) (d c : Transition) → p ∈ T → d ∈ leaving A (p .left) → c ∈ leaving B (p .right) → (d .kind ≡ 0) ⊎ (c .kind ≡ 0) → Blocked A B
   block p d c m i j k =
@@ -97,7 +97,7 @@ module _ (A B : Automaton) (T : List Pair) (e : table (pairs A B) mostStates ≡
   numbered t = record { from = index samePair (t .from) T; kind = 1; first = t .first; last = t .last; to = index samePair (t .to) T }
 
   distinct : Distinct T
-  distinct = table-all (pairs A B) (pairs-decides A B) mostStates T e .good .distinct
+  distinct = table-all (meetingPairs A B) (pairs-decides A B) mostStates T e .good .distinct
 
   place : (i : ℕ) → i < length T → index samePair (pairAt A B T e i) T ≡ i
   place i h = index-place samePair pair-decides (startPair A B) distinct i h
@@ -105,7 +105,7 @@ module _ (A B : Automaton) (T : List Pair) (e : table (pairs A B) mostStates ≡
   at : (p : Pair) → p ∈ T → pairAt A B T e (index samePair p T) ≡ p
   at p m = index-at samePair pair-decides (startPair A B) p T m
 
-  numbered-named : (t : Transition) → t ∈ built A B T .transitions → numbered (named t) ≡ t
+  numbered-named : (t : Transition) → t ∈ productAutomaton A B T .transitions → numbered (named t) ≡ t
   numbered-named t m = let r = leads A B T e t m in same t (place (t .from) (r .from-lt)) (place (t .to) (r .to-lt)) (r .is-range)
     where
       same : (t : Transition) {i j : ℕ} → i ≡ t .from → j ≡ t .to → t .kind ≡ 1 → record { from = i; kind = 1; first = t .first; last = t .last; to = j } ≡ t
@@ -115,7 +115,7 @@ module _ (A B : Automaton) (T : List Pair) (e : table (pairs A B) mostStates ≡
   named-numbered t m n = rw (at (t .from) m, at (t .to) n)
 
   -- what a transition of the result says, and that each that arises is one
-  named-arises : (t : Transition) → t ∈ built A B T .transitions → Arises A B (named t)
+  named-arises : (t : Transition) → t ∈ productAutomaton A B T .transitions → Arises A B (named t)
   named-arises t m =
       let r = leads A B T e t m in
       record {
@@ -139,8 +139,8 @@ module _ (A B : Automaton) (T : List Pair) (e : table (pairs A B) mostStates ≡
   to-entry : (t : PairTransition) → Arises A B t → t .to ∈ T
   to-entry t r = rw (to-is t r) (reached-in (step (r .reached) (r .meet)))
 
-  arises-in : (t : PairTransition) → Arises A B t → numbered t ∈ built A B T .transitions
-  unfolding built transitionOf
+  arises-in : (t : PairTransition) → Arises A B t → numbered t ∈ productAutomaton A B T .transitions
+  unfolding productAutomaton transitionOf
   arises-in t r =
       let i = index samePair (t .from) T in
       let h = index-lt samePair pair-decides (t .from) (from-entry t r) in
@@ -151,15 +151,15 @@ module _ (A B : Automaton) (T : List Pair) (e : table (pairs A B) mostStates ≡
       rw (r .first-is, r .last-is, to-is t r, ← z) (inOrder-in (from-in A B (placeIn T) 0 T i h m))
 
   -- 22
-  pub many-exact : (mostTransitions < length (built A B T .transitions)) ↔ ManyTransitions mostTransitions A B
+  pub many-exact : (mostTransitions < length (productAutomaton A B T .transitions)) ↔ ManyTransitions mostTransitions A B
   many-exact = (out, into)
     where
       P : Automaton
-      P = built A B T
+      P = productAutomaton A B T
 
       out : mostTransitions < length (P .transitions) → ManyTransitions mostTransitions A B
       out h =
-          let a : Ascending Before (P .transitions) = unfold built in inOrder-ascending _ in
+          let a : Ascending Before (P .transitions) = unfold productAutomaton in inOrder-ascending _ in
           let d : Distinct (P .transitions) = ascending-distinct (λ x l. lex-irreflexive {v = wordsOf x} l) a in
           record {
             transitions = map named (P .transitions);

@@ -12,7 +12,7 @@ use Rattle.lists.specs.Lists.{_∈_}
 use Rattle.lists.proofs.Members.{map-in, map-out}
 use Rattle.automata.specs.Automaton.{Transition, Automaton}
 use Rattle.automata.specs.Pairs.{Pair}
-use Rattle.product.specs.Product.{Joint, jointsFrom, transitionOf, transitionsFrom, acceptOf}
+use Rattle.product.specs.Product.{Joint, jointsFrom, transitionOf, transitionsFrom, pairAccept}
 
 -- an image at a place within the list
 module _ (A B : Automaton) where
@@ -20,8 +20,8 @@ module _ (A B : Automaton) where
   abbrev pub startPair : Pair
   startPair = record { left = A .start; right = B .start }
 
-  pub accept-both : (p : Pair) → (0 < acceptOf A B p) ↔ ((0 < getD (A .accept) (p .left) 0) × (0 < getD (B .accept) (p .right) 0))
-  unfolding acceptOf
+  pub accept-both : (p : Pair) → (0 < pairAccept A B p) ↔ ((0 < getD (A .accept) (p .left) 0) × (0 < getD (B .accept) (p .right) 0))
+  unfolding pairAccept
   accept-both p = go (eqb y 0) refl
     where
       x : ℕ

@@ -17,7 +17,7 @@ use Rattle.search.specs.Search.{index, found, table}
 use Rattle.search.proofs.Tables.{index-lt, index-at}
 use Rattle.search.proofs.Queue.{table-some, table-start, table-closed}
 use Rattle.automata.specs.Pairs.{Pair, samePair}
-use Rattle.product.specs.Product.{Joint, jointsFrom, pairs, transitionOf, placeIn, acceptOf, built}
+use Rattle.product.specs.Product.{Joint, jointsFrom, meetingPairs, transitionOf, placeIn, pairAccept, productAutomaton}
 use Rattle.product.specs.Reached.{Meet}
 use Rattle.product.proofs.Joints.{jointBy, from-out}
 use Rattle.product.proofs.Joints
@@ -29,16 +29,16 @@ use Rattle.product.proofs.Result.{startPair, accept-both, origin, from-
 joint-eq : (j : Joint) (l h : ℕ) (p : Pair) → l ≡ j .span .low → h ≡ j .span .high → p ≡ j .to → record { span = record { low = l; high = h }; to = p } ≡ j
 joint-eq j l h p a b c = rw (a, b, c)
 
-module _ (A B : Automaton) (T : List Pair) (e : table (pairs A B) mostStates ≡ found T) where
+module _ (A B : Automaton) (T : List Pair) (e : table (meetingPairs A B) mostStates ≡ found T) where
   abbrev P : Automaton
-  P = built A B T
+  P = productAutomaton A B T
 
   -- the pair with the number i
   abbrev pub pairAt : ℕ → Pair
   pairAt i = getD T i (startPair A B)
 
   -- what a transition of the product says of the two automata
-  pub record Leads (t : Transition) : Type 0 where
+  pub record JointTransition (t : Transition) : Type 0 where
     pub is-range : t .kind ≡ 1
     pub from-lt : t .from < length T
     pub to-lt : t .to < length T
@@ -50,14 +50,14 @@ module _ (A B : Automaton) (T : List Pair) (e : table (pairs A B) mostStates ≡
 
   -- a joint of an entry leads to an entry
   pub joint-entry : (i : ℕ) → i < length T → (j : Joint) → j ∈ jointsFrom A B (pairAt i) → j .to ∈ T
-  unfolding pairs
-  joint-entry i h j m = table-closed (pairs A B) (pairs-decides A B) mostStates T e (pairAt i) (j .to) (at-in T i (startPair A B) h) (map-in (λ (j : Joint). j .to) m)
+  unfolding meetingPairs
+  joint-entry i h j m = table-closed (meetingPairs A B) (pairs-decides A B) mostStates T e (pairAt i) (j .to) (at-in T i (startPair A B) h) (map-in (λ (j : Joint). j .to) m)
 
   pub joint-at : (i : ℕ) → i < length T → (j : Joint) → j ∈ jointsFrom A B (pairAt i) → pairAt (index samePair (j .to) T) ≡ j .to
   joint-at i h j m = index-at samePair pair-decides (startPair A B) (j .to) T (joint-entry i h j m)
 
-  pub leads : (t : Transition) → t ∈ P .transitions → Leads t
-  unfolding built transitionOf
+  pub leads : (t : Transition) → t ∈ P .transitions → JointTransition t
+  unfolding productAutomaton transitionOf
   leads t m =
       let r = origin A B (placeIn T) 0 T t (inOrder-out t _ m) in
       let i = r .place in
@@ -99,7 +99,7 @@ module _ (A B : Automaton) (T : List Pair) (e : table (pairs A B) mostStates ≡
   -- two ranges that hold the symbol x lead from entry i to another
   read-both : {d c : Transition} {x : ℕ} (i : ℕ) → i < length T → Meet A B (pairAt i .left) (pairAt i .right) d c x → {w : List ℕ} {k : ℕ}
       → Run P (index samePair (record { left = d .to; right = c .to }) T) w k → Run P i (x ∷ w) k
-  unfolding built transitionOf
+  unfolding productAutomaton transitionOf
   read-both {d} {c} {x} i h m r =
       let z : 0 + i ≡ i = omega arith in
       read {a = x} (transitionOf (placeIn T) (0 + i) (jointBy d c)) (inOrder-in (from-in A B (placeIn T) 0 T i h (Joints.from-in A B (pairAt i) m))) z refl
@@ -139,23 +139,23 @@ module _ (A B : Automaton) (T : List Pair) (e : table (pairs A B) mostStates ≡
       record { number = ih .number; near = ih .near; at = ih .at; run = read-both i h meet (ih .run) }
 
   -- a pair's accept word
-  pub accept-at : (k : ℕ) → k < length T → getD (P .accept) k 0 ≡ acceptOf A B (pairAt k)
-  unfolding built
-  accept-at k h = map-at (acceptOf A B) T k (startPair A B) 0 h
+  pub accept-at : (k : ℕ) → k < length T → getD (P .accept) k 0 ≡ pairAccept A B (pairAt k)
+  unfolding productAutomaton
+  accept-at k h = map-at (pairAccept A B) T k (startPair A B) 0 h
 
   accept-near : (k : ℕ) → 0 < getD (P .accept) k 0 → k < length T
-  unfolding built
+  unfolding productAutomaton
   accept-near k h =
       ⊎-elim (λ t. ltb-true k (length T) t)
       (λ t.
-      let l : length (map (acceptOf A B) T) ≤ k = omega (arith, ltb-false k (length T) t, length-map T (acceptOf A B)) in
-      let z : getD (map (acceptOf A B) T) k 0 ≡ 0 = List·getD-eq-default (map (acceptOf A B) T) 0 l in
+      let l : length (map (pairAccept A B) T) ≤ k = omega (arith, ltb-false k (length T) t, length-map T (pairAccept A B)) in
+      let z : getD (map (pairAccept A B) T) k 0 ≡ 0 = List·getD-eq-default (map (pairAccept A B) T) 0 l in
       absurd (omega arith))
       (test (ltb k (length T)))
 
   start-at : pairAt 0 ≡ startPair A B
-  unfolding pairs
-  start-at = table-start (pairs A B) (pairs-decides A B) mostStates T e
+  unfolding meetingPairs
+  start-at = table-start (meetingPairs A B) (pairs-decides A B) mostStates T e
 
   -- the product accepts just the words that both accept
   pub words-both : EpsilonFree A → EpsilonFree B → (w : List ℕ) → Accepts P w ↔ (Accepts A w × Accepts B w)
@@ -165,12 +165,12 @@ module _ (A B : Automaton) (T : List Pair) (e : table (pairs A B) mostStates ≡
       out (k, r, h) =
           let n = accept-near k h in
           let b = accept-both A B (pairAt k) .0 (rw (accept-at k n) at h) in
-          let r₀ : Run P 0 w k = unfold built in r in
+          let r₀ : Run P 0 w k = unfold productAutomaton in r in
           let s = run-both r₀ in
           ((pairAt k .left, rw start-at at (s .0), b .0), (pairAt k .right, rw start-at at (s .1), b .1))
 
       into : Accepts A w × Accepts B w → Accepts P w
       into ((p, r, h), (q, s, k)) =
-          let x = both-run f g r s 0 (table-some (pairs A B) (pairs-decides A B) mostStates T e) start-at in
-          let n : getD (P .accept) (x .number) 0 ≡ acceptOf A B (record { left = p; right = q }) = accept-at (x .number) (x .near) ∙ ap (acceptOf A B) (x .at) in
-          (x .number, unfold built in x .run, rw n (accept-both A B (record { left = p; right = q }) .1 (h, k)))
+          let x = both-run f g r s 0 (table-some (meetingPairs A B) (pairs-decides A B) mostStates T e) start-at in
+          let n : getD (P .accept) (x .number) 0 ≡ pairAccept A B (record { left = p; right = q }) = accept-at (x .number) (x .near) ∙ ap (pairAccept A B) (x .at) in
+          (x .number, unfold productAutomaton in x .run, rw n (accept-both A B (record { left = p; right = q }) .1 (h, k)))

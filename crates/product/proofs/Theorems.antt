@@ -43,9 +43,9 @@ use Rattle.sheets.specs.Sheet.{read, write}
 use Rattle.sheets.proofs.Decisions.{given-not}
 use Rattle.sheets.proofs.Accepted.{accepted}
 use Rattle.sheets.proofs.Meaning.{read-well, read-write-sheet, write-accepted}
-use Rattle.product.specs.Product.{built, blockedAt, labelOf, product, intersection}
+use Rattle.product.specs.Product.{productAutomaton, blockedAt, pairLabelOf, product, intersectionAnswer}
 use Rattle.product.specs.Product
-use Rattle.product.specs.Reached.{Reached, ManyPairs, Blocked, ManyTransitions}
+use Rattle.product.specs.Reached.{PairReached, ManyPairs, Blocked, ManyTransitions}
 use Rattle.product.proofs.Answers.{Outcome, many-pairs, stopped, many-transitions, made, outcome, answer-over}
 use Rattle.product.proofs.Given.{built-by, product-other, given-well, given-fits, given-writable, sheets-given, sheets-number, sheets-fault}
 use Rattle.product.proofs.Pairs.{pairs-decides, over-pairs}
@@ -54,12 +54,12 @@ use Rattle.product.proofs.Runs.{words-both}
 
 module _ (A B : Automaton) where
   -- the table holds exactly the reached pairs, each once
-  pub product-pairs : (T : List Pair) → table (Product.pairs A B) mostStates ≡ found T → Distinct T × ((p : Pair) → (p ∈ T) ↔ Reached A B (p .left) (p .right))
-  product-pairs T e = (table-all (Product.pairs A B) (pairs-decides A B) mostStates T e .good .distinct, λ p. (in-reached A B T e p, reached-in A B T e))
+  pub product-pairs : (T : List Pair) → table (Product.meetingPairs A B) mostStates ≡ found T → Distinct T × ((p : Pair) → (p ∈ T) ↔ PairReached A B (p .left) (p .right))
+  product-pairs T e = (table-all (Product.meetingPairs A B) (pairs-decides A B) mostStates T e .good .distinct, λ p. (in-reached A B T e p, reached-in A B T e))
 
   module _ (P : Pattern) (e : product A B ≡ given P) where
     -- state q stands for pair q of the table, in the order in which the queue meets them, and its label is `(i, j)` for the states i and j of that pair
-    pub product-labels : (T : List Pair) × (table (Product.pairs A B) mostStates ≡ found T) × (P .automaton ≡ built A B T) × (P .labels ≡ map labelOf T)
+    pub product-labels : (T : List Pair) × (table (Product.meetingPairs A B) mostStates ≡ found T) × (P .automaton ≡ productAutomaton A B T) × (P .labels ≡ map pairLabelOf T)
     product-labels = let r = built-by A B P e in (r .pairs, r .whole, ap (λ (Q : Pattern). Q .automaton) (r .is), ap (λ (Q : Pattern). Q .labels) (r .is))
 
     -- where neither automaton holds an epsilon the product accepts just the words that both accept
@@ -77,10 +77,10 @@ module _ (A B : Automaton) where
     pub product-read : WellFormed A → read (write (P .automaton)) ≡ P .automaton
     product-read w = read-write-sheet (P .automaton) (product-wellformed w .accepts)
 
-  few-found : {T : List Pair} → table (Product.pairs A B) mostStates ≡ found T → ManyPairs mostStates A B → ⊥
+  few-found : {T : List Pair} → table (Product.meetingPairs A B) mostStates ≡ found T → ManyPairs mostStates A B → ⊥
   few-found {T} e m = let c : found T ≡ over = sym e ∙ over-pairs A B .1 m in let z : _≡_ {A = ℕ} 0 1 = cc in absurd (omega arith)
 
-  free : (T : List Pair) → table (Product.pairs A B) mostStates ≡ found T → any (blockedAt A B) T ≡ false → Blocked A B → ⊥
+  free : (T : List Pair) → table (Product.meetingPairs A B) mostStates ≡ found T → any (blockedAt A B) T ≡ false → Blocked A B → ⊥
   free T e h b = false≢true (sym h ∙ blocked-exact A B T e .1 b)
 
   -- 21 exactly where over 256 pairs are reached
@@ -133,31 +133,31 @@ module _ (A B : Automaton) where
       go (many-pairs e q) = absurd (n (over-pairs A B .0 e))
       go (stopped T e b q) = absurd (m (blocked-exact A B T e .0 b))
       go (many-transitions T e b h q) = absurd (k (many-exact A B T e .0 h))
-      go (made T e b h q) = (record { automaton = built A B T; labels = map labelOf T }, q)
+      go (made T e b h q) = (record { automaton = productAutomaton A B T; labels = map pairLabelOf T }, q)
 
 -- the call on the sheets a and b: r is its answer, o and l are the outputs before it, o′ and l′ after it
-module _ (a b o l o′ l′ : List ℕ) (r : Made) (call : outputOf r o′ l′ ≡ outputs o l (roomFirst o l (intersection a b))) where
+module _ (a b o l o′ l′ : List ℕ) (r : Made) (call : outputOf r o′ l′ ≡ outputs o l (roomFirst o l (intersectionAnswer a b))) where
   module _ (w n : ℕ) (lengths : r ≡ Lengths w n) where
     answered : (P : Pattern) × (fault a ≡ 0) × (fault b ≡ 0) × (product (read a) (read b) ≡ given P)
-    unfolding intersection
+    unfolding intersectionAnswer
     answered =
-        let (k, x) = call-given o l o′ l′ r (intersection a b) call .0 (ap madeNumber lengths) in
+        let (k, x) = call-given o l o′ l′ r (intersectionAnswer a b) call .0 (ap madeNumber lengths) in
         let (f, g, e) = sheets-given a b (product (read a) (read b)) (x .0) .0 (x .1) in
         (x .0, f, g, e)
 
     -- the product stands in the one output, and its labels in the other
     pub intersection-left : (P : Pattern) × (product (read a) (read b) ≡ given P) × Leaves o l o′ l′ w n (P .automaton) (P .labels)
-    unfolding intersection
+    unfolding intersectionAnswer
     intersection-left =
         let (P, f, g, e) = answered in
         let i = accepted a f in
         let j = accepted b g in
         let h = sheets-given a b (product (read a) (read b)) P .1 (f, g, e) in
         let ok = given-writable (read a) (read b) P e (read-well a i) (read-well b j) (i .few-states) (j .few-states) in
-        (P, e, call-leaves o l o′ l′ r (intersection a b) call w n lengths P h ok)
+        (P, e, call-leaves o l o′ l′ r (intersectionAnswer a b) call w n lengths P h ok)
 
     -- state q of the sheet left stands for pair q of the table, and its label is `(i, j)` for the states i and j of that pair
-    pub intersection-left-labels : (T : List Pair) × (table (Product.pairs (read a) (read b)) mostStates ≡ found T) × (read (take w o′) ≡ built (read a) (read b) T) × (readLabels (take n l′) ≡ map labelOf T)
+    pub intersection-left-labels : (T : List Pair) × (table (Product.meetingPairs (read a) (read b)) mostStates ≡ found T) × (read (take w o′) ≡ productAutomaton (read a) (read b) T) × (readLabels (take n l′) ≡ map pairLabelOf T)
     intersection-left-labels =
         let (P, e, left) = intersection-left in
         let (T, whole, is, names) = product-labels (read a) (read b) P e in
@@ -172,39 +172,39 @@ module _ (a b o l o′ l′ : List ℕ) (r : Made) (call : outputOf r o′ l′ 
   -- nothing is refused exactly where there is room, neither sheet has a fault and none of the conditions of 21, 7 and 22 holds
   pub intersection-lengths : (madeNumber r ≡ 0)
       ↔ (Room o l × (fault a ≡ 0) × (fault b ≡ 0) × (ManyPairs mostStates (read a) (read b) → ⊥) × (Blocked (read a) (read b) → ⊥) × (ManyTransitions mostTransitions (read a) (read b) → ⊥))
-  unfolding intersection
+  unfolding intersectionAnswer
   intersection-lengths =
       let A = read a in
       let B = read b in
-      let c = call-given o l o′ l′ r (intersection a b) call in (
+      let c = call-given o l o′ l′ r (intersectionAnswer a b) call in (
         λ h.
             let (k, x) = c .0 h in
             let (f, g, e) = sheets-given a b (product A B) (x .0) .0 (x .1) in
-            let pairs : ManyPairs mostStates A B → ⊥ = λ m. given-not _ _ (sym e ∙ refused-21 A B .1 m) in
-            let free : Blocked A B → ⊥ = λ m. given-not _ _ (sym e ∙ refused-7 A B .1 (pairs, m)) in
-            (k, f, g, pairs, free, λ m. given-not _ _ (sym e ∙ refused-22 A B .1 (pairs, free, m))),
+            let meetingPairs : ManyPairs mostStates A B → ⊥ = λ m. given-not _ _ (sym e ∙ refused-21 A B .1 m) in
+            let free : Blocked A B → ⊥ = λ m. given-not _ _ (sym e ∙ refused-7 A B .1 (meetingPairs, m)) in
+            (k, f, g, meetingPairs, free, λ m. given-not _ _ (sym e ∙ refused-22 A B .1 (meetingPairs, free, m))),
         λ (k, f, g, i, j, m). let (P, e) = product-given A B i j m in c .1 (k, (P, sheets-given a b (product A B) P .1 (f, g, e))),
       )
 
   -- 20 exactly where an output is too short
   pub intersection-20 : (madeNumber r ≡ 20) ↔ (Room o l → ⊥)
-  unfolding intersection
+  unfolding intersectionAnswer
   intersection-20 =
-      call-20 o l o′ l′ r (intersection a b) call
+      call-20 o l o′ l′ r (intersectionAnswer a b) call
       (λ e. product-other (read a) (read b) 20 (λ z. omega arith) (λ z. omega arith) (λ z. omega arith) (sheets-number a b (product (read a) (read b)) 20 (omega arith) .0 e .2))
 
   -- 1 to 6 exactly where there is room and the first sheet has that fault, or the second where the first has none
   pub intersection-fault : (m : ℕ) → 1 ≤ m → m ≤ 6 → (madeNumber r ≡ m) ↔ (Room o l × ((fault a ≡ m) ⊎ ((fault a ≡ 0) × (fault b ≡ m))))
-  unfolding intersection
+  unfolding intersectionAnswer
   intersection-fault m i j =
-      let c = call-number o l o′ l′ r (intersection a b) call m (λ z. omega arith) (λ z. omega arith) in
+      let c = call-number o l o′ l′ r (intersectionAnswer a b) call m (λ z. omega arith) (λ z. omega arith) in
       let p = sheets-fault a b (product (read a) (read b)) m (omega arith) (product-other (read a) (read b) m (λ z. omega arith) (λ z. omega arith) (λ z. omega arith)) in
       (λ h. let (k, e) = c .0 h in (k, p .0 e), λ (k, f). c .1 (k, p .1 f))
 
   number : (m : ℕ) → 6 < m → (m ≡ 20 → ⊥) → (madeNumber r ≡ m) ↔ (Room o l × (fault a ≡ 0) × (fault b ≡ 0) × (product (read a) (read b) ≡ refused m))
-  unfolding intersection
+  unfolding intersectionAnswer
   number m i j =
-      let c = call-number o l o′ l′ r (intersection a b) call m (λ z. omega arith) j in
+      let c = call-number o l o′ l′ r (intersectionAnswer a b) call m (λ z. omega arith) j in
       let p = sheets-number a b (product (read a) (read b)) m i in
       (λ h. let (k, e) = c .0 h in let (f, g, q) = p .0 e in (k, f, g, q), λ (k, f, g, q). c .1 (k, p .1 (f, g, q)))
 
@@ -232,4 +232,4 @@ module _ (a b o l o′ l′ : List ℕ) (r : Made) (call : outputOf r o′ l′ 
 
   -- a refusal leaves both outputs as they were
   pub intersection-unchanged : (madeNumber r ≡ 0 → ⊥) → Unchanged o l o′ l′
-  intersection-unchanged = call-refused o l o′ l′ r (intersection a b) call
+  intersection-unchanged = call-refused o l o′ l′ r (intersectionAnswer a b) call

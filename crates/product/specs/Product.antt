@@ -5,9 +5,9 @@ use mathlib.Core.Bool.{Bool, true, false, cond, _&&_, _||_, not}
 use mathlib.Core.List.{List, [], _∷_, _++_, map}
 use mathlib.Core.Option.{Option, none, some}
 use lib.Dec.{eqb}
-use lib.ListN.{getD, length}
+use lib.ListN.{length}
 use Rattle.lists.specs.Lists.{any}
-use Rattle.automata.specs.Automaton.{Transition, Automaton, leaving, rangesOf, hasEpsilon}
+use Rattle.automata.specs.Automaton.{Transition, Automaton, leaving, rangesOf, hasEpsilon, acceptOf}
 use Rattle.automata.specs.Ordered.{inOrder}
 use Rattle.automata.specs.Pairs.{Pair, samePair}
 use Rattle.automata.specs.WellFormed.{mostStates}
@@ -15,7 +15,7 @@ use Rattle.labels.specs.Forms.{pairLabel}
 use Rattle.output.specs.Output.{Pattern, transitionsFirst}
 use Rattle.ranges.specs.Span.{Span, intersectRanges}
 use Rattle.refusal.specs.Answer.{Answer, refused, given}
-use Rattle.search.specs.Search.{Graph, index, Found, over, found, table}
+use Rattle.search.specs.Search.{Graph, index, SearchResult, over, found, table}
 use Rattle.sheets.specs.Checked.{sheetFirst}
 use Rattle.sheets.specs.Sheet.{read}
 
@@ -53,8 +53,8 @@ unfoldable pub jointsFrom : Automaton → Automaton → Pair → List Joint
 jointsFrom A B p = jointsOf (leaving A (p .left)) (leaving B (p .right))
 
 -- pairs lead to pairs by ranges that meet
-unfoldable pub pairs : Automaton → Automaton → Graph Pair
-pairs A B = record {
+unfoldable pub meetingPairs : Automaton → Automaton → Graph Pair
+meetingPairs A B = record {
   same = samePair;
   next = λ p. map (λ j. j .to) (jointsFrom A B p);
   start = record { left = A .start; right = B .start };
@@ -70,19 +70,19 @@ transitionsFrom f A B i [] = []
 transitionsFrom f A B i (p ∷ ps) = map (transitionOf f i) (jointsFrom A B p) ++ transitionsFrom f A B (suc i) ps
 
 -- a pair accepts if both do: its accept word is then the first's
-unfoldable pub acceptOf : Automaton → Automaton → Pair → ℕ
-acceptOf A B p = cond (eqb (getD (B .accept) (p .right) 0) 0) 0 (getD (A .accept) (p .left) 0)
+unfoldable pub pairAccept : Automaton → Automaton → Pair → ℕ
+pairAccept A B p = cond (eqb (acceptOf B (p .right)) 0) 0 (acceptOf A (p .left))
 
 -- the place of a pair in the table
 abbrev pub placeIn : List Pair → Pair → ℕ
 placeIn T p = index samePair p T
 
 -- the automaton of a finished table: its transitions are in order, equal ones once
-unfoldable pub built : Automaton → Automaton → List Pair → Automaton
-built A B T = record {
+unfoldable pub productAutomaton : Automaton → Automaton → List Pair → Automaton
+productAutomaton A B T = record {
   size = length T;
   start = 0;
-  accept = map (acceptOf A B) T;
+  accept = map (pairAccept A B) T;
   transitions = inOrder (transitionsFrom (placeIn T) A B 0 T);
 }
 
@@ -98,21 +98,21 @@ unfoldable pub blockedAt : Automaton → Automaton → Pair → Bool
 blockedAt A B p = blocked (leaving A (p .left)) (leaving B (p .right))
 
 -- the label of a pair, as `(0, 1)`
-abbrev pub labelOf : Pair → List ℕ
-labelOf p = pairLabel (p .left) (p .right)
+abbrev pub pairLabelOf : Pair → List ℕ
+pairLabelOf p = pairLabel (p .left) (p .right)
 
 -- the product of a finished table with its labels
 unfoldable pub labelled : Automaton → Automaton → List Pair → Pattern
-labelled A B T = record { automaton = built A B T; labels = map labelOf T }
+labelled A B T = record { automaton = productAutomaton A B T; labels = map pairLabelOf T }
 
 -- 21 where there are too many pairs, then 7, then 22
-unfoldable pub answerOf : Automaton → Automaton → Found Pair → Answer Pattern
-answerOf A B over = refused 21
-answerOf A B (found T) = cond (any (blockedAt A B) T) (refused 7) (transitionsFirst (built A B T) (given (labelled A B T)))
+unfoldable pub pairsAnswer : Automaton → Automaton → SearchResult Pair → Answer Pattern
+pairsAnswer A B over = refused 21
+pairsAnswer A B (found T) = cond (any (blockedAt A B) T) (refused 7) (transitionsFirst (productAutomaton A B T) (given (labelled A B T)))
 
 unfoldable pub product : Automaton → Automaton → Answer Pattern
-product A B = answerOf A B (table (pairs A B) mostStates)
+product A B = pairsAnswer A B (table (meetingPairs A B) mostStates)
 
 -- of two sheets, the first's faults before the second's
-unfoldable pub intersection : List ℕ → List ℕ → Answer Pattern
-intersection s t = sheetFirst s (sheetFirst t (product (read s) (read t)))
+unfoldable pub intersectionAnswer : List ℕ → List ℕ → Answer Pattern
+intersectionAnswer s t = sheetFirst s (sheetFirst t (product (read s) (read t)))

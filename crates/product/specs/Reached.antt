@@ -22,16 +22,16 @@ pub record Meet (A B : Automaton) (p q : ℕ) (d e : Transition) (a : ℕ) : Typ
   pub below-right : a ≤ e .last
 
 -- the start pair is reached, and ranges that meet lead from a reached pair to another
-pub data Reached (A B : Automaton) : ℕ → ℕ → Type 0 where
-  start : Reached A B (A .start) (B .start)
-  step : {p q a : ℕ} {d e : Transition} → Reached A B p q → Meet A B p q d e a → Reached A B (d .to) (e .to)
+pub data PairReached (A B : Automaton) : ℕ → ℕ → Type 0 where
+  start : PairReached A B (A .start) (B .start)
+  step : {p q a : ℕ} {d e : Transition} → PairReached A B p q → Meet A B p q d e a → PairReached A B (d .to) (e .to)
 
 -- 21: more than k pairs
 pub record ManyPairs (k : ℕ) (A B : Automaton) : Type 0 where
   pub pairs : List Pair
-  pub distinct : Distinct pairs
-  pub reached : (p : Pair) → p ∈ pairs → Reached A B (p .left) (p .right)
-  pub many : k < length pairs
+  pub distinct : Distinct meetingPairs
+  pub reached : (p : Pair) → p ∈ meetingPairs → PairReached A B (p .left) (p .right)
+  pub many : k < length meetingPairs
 
 -- 7: a reached pair with records on both sides, and an epsilon on at least one of them
 pub record Blocked (A B : Automaton) : Type 0 where
@@ -39,7 +39,7 @@ pub record Blocked (A B : Automaton) : Type 0 where
   pub right : Transition
   pub in-left : left ∈ A .transitions
   pub in-right : right ∈ B .transitions
-  pub reached : Reached A B (left .from) (right .from)
+  pub reached : PairReached A B (left .from) (right .from)
   pub epsilon : (left .kind ≡ 0) ⊎ (right .kind ≡ 0)
 
 -- a transition of the product: from a reached pair, under the symbols that two ranges share, to the pair to which they lead
@@ -53,7 +53,7 @@ pub record Arises (A B : Automaton) (t : PairTransition) : Type 0 where
   pub symbol : ℕ
   pub by-left : Transition
   pub by-right : Transition
-  pub reached : Reached A B (t .from .left) (t .from .right)
+  pub reached : PairReached A B (t .from .left) (t .from .right)
   pub meet : Meet A B (t .from .left) (t .from .right) by-left by-right symbol
   pub first-is : t .first ≡ max (by-left .first) (by-right .first)
   pub last-is : t .last ≡ min (by-left .last) (by-right .last)

@@ -9,8 +9,8 @@ ghost use Rattle.sheets.specs.Sheet.{stateCount, read};
 ghost use Rattle.output.specs.inner.Gathering.{Memory, Open, Gathered, Collected};
 ghost use Rattle.output.specs.inner.Ordered.{recordsIn};
 ghost use Rattle.product.specs.Product.{jointsFrom, transitionOf, transitionsFrom, placeIn};
-ghost use Rattle.sheets.specs.inner.Runs.{Ready};
-ghost use Rattle.product.specs.inner.Tables.{pairOf, tableOf, Queued, RunTo, Within, links};
+ghost use Rattle.sheets.specs.inner.Runs.{IndexedSheet};
+ghost use Rattle.product.specs.inner.Tables.{pairOf, tableOf, Queued, RunTo, PairsBelow, links};
 use output::Filled;
 use ranges::Common;
 
@@ -124,7 +124,7 @@ fn add_pair(
     buf: &mut [u32],
     f: Filled,
 ) -> Filled
-    requires { ⌜ Ready (now a) (now aruns) × Ready (now b) (now bruns) × (256 * stateCount (now a) ≤ length (now t)) × Queued (now queue) (now t) n × (n ≤ 256) × (i < n) × (pairOf (getD (now queue) i 0) .left < stateCount (now a)) × (pairOf (getD (now queue) i 0) .right < stateCount (now b)) × Open (now buf) (f .sorted) (f .end) ⌝ }
+    requires { ⌜ IndexedSheet (now a) (now aruns) × IndexedSheet (now b) (now bruns) × (256 * stateCount (now a) ≤ length (now t)) × Queued (now queue) (now t) n × (n ≤ 256) × (i < n) × (pairOf (getD (now queue) i 0) .left < stateCount (now a)) × (pairOf (getD (now queue) i 0) .right < stateCount (now b)) × Open (now buf) (f .sorted) (f .end) ⌝ }
     ensures { λ r. ⌜ Gathered (now (buf .exit)) (r .sorted) (r .end) (recordsIn (now (buf .entry)) 0 (f .end) ++ map (transitionOf (placeIn (tableOf (now (queue .entry)) n)) i) (jointsFrom (read (now (a .entry))) (read (now (b .entry))) (pairOf (getD (now (queue .entry)) i 0)))) ⌝ }
 {
     let c = queue[i];
@@ -151,7 +151,7 @@ fn add_pairs(
     n: usize,
     buf: &mut [u32],
 ) -> Filled
-    requires { ⌜ Ready (now a) (now aruns) × Ready (now b) (now bruns) × (256 * stateCount (now a) ≤ length (now t)) × Queued (now queue) (now t) n × (n ≤ 256) × Within (stateCount (now a)) (stateCount (now b)) (tableOf (now queue) n) × Memory (now buf) ⌝ }
+    requires { ⌜ IndexedSheet (now a) (now aruns) × IndexedSheet (now b) (now bruns) × (256 * stateCount (now a) ≤ length (now t)) × Queued (now queue) (now t) n × (n ≤ 256) × PairsBelow (stateCount (now a)) (stateCount (now b)) (tableOf (now queue) n) × Memory (now buf) ⌝ }
     ensures { λ r. ⌜ Gathered (now (buf .exit)) (r .sorted) (r .end) (transitionsFrom (placeIn (tableOf (now (queue .entry)) n)) (read (now (a .entry))) (read (now (b .entry))) 0 (tableOf (now (queue .entry)) n)) ⌝ }
 {
     let mut f = Filled { sorted: 0, end: 0 };
@@ -177,7 +177,7 @@ pub fn collect_pairs(
     n: usize,
     buf: &mut [u32],
 ) -> usize
-    requires { ⌜ Ready (now a) (now aruns) × Ready (now b) (now bruns) × (256 * stateCount (now a) ≤ length (now t)) × Queued (now queue) (now t) n × (n ≤ 256) × Within (stateCount (now a)) (stateCount (now b)) (tableOf (now queue) n) × Memory (now buf) ⌝ }
+    requires { ⌜ IndexedSheet (now a) (now aruns) × IndexedSheet (now b) (now bruns) × (256 * stateCount (now a) ≤ length (now t)) × Queued (now queue) (now t) n × (n ≤ 256) × PairsBelow (stateCount (now a)) (stateCount (now b)) (tableOf (now queue) n) × Memory (now buf) ⌝ }
     ensures { λ r. ⌜ Collected (now (buf .exit)) r (transitionsFrom (placeIn (tableOf (now (queue .entry)) n)) (read (now (a .entry))) (read (now (b .entry))) 0 (tableOf (now (queue .entry)) n)) ⌝ }
 {
     let f = add_pairs(a, aruns, b, bruns, queue, t, n, buf);

@@ -6,8 +6,8 @@ ghost use Rattle.automata.specs.Records.{readRecords};
 ghost use Rattle.sheets.specs.Sheet.{stateCount, read};
 ghost use Rattle.lists.specs.Lists.{any};
 ghost use Rattle.product.specs.Product.{blocked, blockedAt};
-ghost use Rattle.sheets.specs.inner.Runs.{Ready};
-ghost use Rattle.product.specs.inner.Tables.{pairOf, tableOf, Within, EpsilonFirst};
+ghost use Rattle.sheets.specs.inner.Runs.{IndexedSheet};
+ghost use Rattle.product.specs.inner.Tables.{pairOf, tableOf, PairsBelow, EpsilonFirst};
 
 // Whether there are records in both runs and an epsilon in at least one of them, in which it is then the first.
 fn is_blocked(first: &[u32], second: &[u32]) -> bool
@@ -31,7 +31,7 @@ fn is_blocked(first: &[u32], second: &[u32]) -> bool
 
 // Whether the pair of the word c has records on both sides and an epsilon on at least one of them.
 fn is_pair_blocked(a: &[u32], aruns: &[u32], b: &[u32], bruns: &[u32], c: u32) -> bool
-    requires { ⌜ Ready (now a) (now aruns) × Ready (now b) (now bruns) × (pairOf c .left < stateCount (now a)) × (pairOf c .right < stateCount (now b)) ⌝ }
+    requires { ⌜ IndexedSheet (now a) (now aruns) × IndexedSheet (now b) (now bruns) × (pairOf c .left < stateCount (now a)) × (pairOf c .right < stateCount (now b)) ⌝ }
     ensures { λ r. ⌜ r ≡ blockedAt (read (now (a .entry))) (read (now (b .entry))) (pairOf c) ⌝ }
 {
     is_blocked(
@@ -49,7 +49,7 @@ pub fn has_blocked_pair(
     queue: &[u32],
     n: usize,
 ) -> bool
-    requires { ⌜ Ready (now a) (now aruns) × Ready (now b) (now bruns) × (n ≤ length (now queue)) × Within (stateCount (now a)) (stateCount (now b)) (tableOf (now queue) n) ⌝ }
+    requires { ⌜ IndexedSheet (now a) (now aruns) × IndexedSheet (now b) (now bruns) × (n ≤ length (now queue)) × PairsBelow (stateCount (now a)) (stateCount (now b)) (tableOf (now queue) n) ⌝ }
     ensures { λ r. ⌜ r ≡ any (blockedAt (read (now (a .entry))) (read (now (b .entry)))) (tableOf (now (queue .entry)) n) ⌝ }
 {
     let mut i: usize = 0;

@@ -8,15 +8,15 @@ ghost use Rattle.automata.specs.inner.Records.{recordAt};
 ghost use Rattle.automata.specs.WellFormed.{mostStates};
 ghost use Rattle.search.specs.Search.{table};
 ghost use Rattle.sheets.specs.Sheet.{stateCount, read};
-ghost use Rattle.product.specs.Product.{pairs};
-ghost use Rattle.sheets.specs.inner.Runs.{Ready};
-ghost use Rattle.product.specs.inner.Tables.{pairOf, tableOf, Queued, Met, RunTo, targets, Within, foundIn};
+ghost use Rattle.product.specs.Product.{meetingPairs};
+ghost use Rattle.sheets.specs.inner.Runs.{IndexedSheet};
+ghost use Rattle.product.specs.inner.Tables.{pairOf, tableOf, Queued, PairsMet, RunTo, targets, PairsBelow, foundIn};
 use ranges::Common;
 
 // The pair of p and q gets the next number, if it has none and there is room. The number of pairs afterwards.
 fn meet_pair(queue: &mut [u32], t: &mut [u8], n: usize, p: u32, q: u32) -> usize
     requires { ⌜ Queued (now queue) (now t) n × (p < length (now t) / 256) × (q < 256) ⌝ }
-    ensures { λ r. ⌜ Met (tableOf (now (queue .entry)) n) (record { left = p; right = q } ∷ []) (now (queue .exit)) (now (t .exit)) r ⌝ }
+    ensures { λ r. ⌜ PairsMet (tableOf (now (queue .entry)) n) (record { left = p; right = q } ∷ []) (now (queue .exit)) (now (t .exit)) r ⌝ }
 {
     if 256 < n {
         return n;
@@ -37,7 +37,7 @@ fn meet_pair(queue: &mut [u32], t: &mut [u8], n: usize, p: u32, q: u32) -> usize
 // The pair to which the records d and e lead is met, if they are ranges that meet.
 fn meet_record(d: &[u32], e: &[u32], queue: &mut [u32], t: &mut [u8], n: usize) -> usize
     requires { ⌜ Queued (now queue) (now t) n × (length (now d) ≡ 5) × (length (now e) ≡ 5) × (recordAt (now d) 0 .to < length (now t) / 256) × (recordAt (now e) 0 .to < 256) ⌝ }
-    ensures { λ r. ⌜ Met (tableOf (now (queue .entry)) n) (targets (recordAt (now (d .entry)) 0 ∷ []) (recordAt (now (e .entry)) 0 ∷ [])) (now (queue .exit)) (now (t .exit)) r ⌝ }
+    ensures { λ r. ⌜ PairsMet (tableOf (now (queue .entry)) n) (targets (recordAt (now (d .entry)) 0 ∷ []) (recordAt (now (e .entry)) 0 ∷ [])) (now (queue .exit)) (now (t .exit)) r ⌝ }
 {
     if d[1] != 1 {
         return n;
@@ -54,7 +54,7 @@ fn meet_record(d: &[u32], e: &[u32], queue: &mut [u32], t: &mut [u8], n: usize) 
 // The pairs to which the record d and those of the run lead are met. No record of the run meets d from the first on that starts behind it.
 fn meet_run(d: &[u32], run: &[u32], queue: &mut [u32], t: &mut [u8], n: usize) -> usize
     requires { ⌜ Queued (now queue) (now t) n × (length (now d) ≡ 5) × (recordAt (now d) 0 .to < length (now t) / 256) × RunTo 256 (readRecords (now run)) ⌝ }
-    ensures { λ r. ⌜ Met (tableOf (now (queue .entry)) n) (targets (recordAt (now (d .entry)) 0 ∷ []) (readRecords (now (run .entry)))) (now (queue .exit)) (now (t .exit)) r ⌝ }
+    ensures { λ r. ⌜ PairsMet (tableOf (now (queue .entry)) n) (targets (recordAt (now (d .entry)) 0 ∷ []) (readRecords (now (run .entry)))) (now (queue .exit)) (now (t .exit)) r ⌝ }
 {
     let mut m = n;
     let mut at: usize = 0;
@@ -72,7 +72,7 @@ fn meet_run(d: &[u32], run: &[u32], queue: &mut [u32], t: &mut [u8], n: usize) -
 // starts are passed over for good, since later ones start no earlier.
 fn meet_runs(first: &[u32], second: &[u32], queue: &mut [u32], t: &mut [u8], n: usize) -> usize
     requires { ⌜ Queued (now queue) (now t) n × RunTo (length (now t) / 256) (readRecords (now first)) × RunTo 256 (readRecords (now second)) ⌝ }
-    ensures { λ r. ⌜ Met (tableOf (now (queue .entry)) n) (targets (readRecords (now (first .entry))) (readRecords (now (second .entry)))) (now (queue .exit)) (now (t .exit)) r ⌝ }
+    ensures { λ r. ⌜ PairsMet (tableOf (now (queue .entry)) n) (targets (readRecords (now (first .entry))) (readRecords (now (second .entry)))) (now (queue .exit)) (now (t .exit)) r ⌝ }
 {
     let mut m = n;
     let mut from: usize = 0;
@@ -99,8 +99,8 @@ fn visit_pair(
     n: usize,
     i: usize,
 ) -> usize
-    requires { ⌜ Ready (now a) (now aruns) × Ready (now b) (now bruns) × (256 * stateCount (now a) ≤ length (now t)) × Queued (now queue) (now t) n × (i < n) × Within (stateCount (now a)) (stateCount (now b)) (tableOf (now queue) n) ⌝ }
-    ensures { λ r. ⌜ Met (tableOf (now (queue .entry)) n) (pairs (read (now (a .entry))) (read (now (b .entry))) .next (pairOf (getD (now (queue .entry)) i 0))) (now (queue .exit)) (now (t .exit)) r ⌝ }
+    requires { ⌜ IndexedSheet (now a) (now aruns) × IndexedSheet (now b) (now bruns) × (256 * stateCount (now a) ≤ length (now t)) × Queued (now queue) (now t) n × (i < n) × PairsBelow (stateCount (now a)) (stateCount (now b)) (tableOf (now queue) n) ⌝ }
+    ensures { λ r. ⌜ PairsMet (tableOf (now (queue .entry)) n) (meetingPairs (read (now (a .entry))) (read (now (b .entry))) .next (pairOf (getD (now (queue .entry)) i 0))) (now (queue .exit)) (now (t .exit)) r ⌝ }
 {
     let c = queue[i];
     meet_runs(
@@ -121,8 +121,8 @@ pub fn find_pairs(
     queue: &mut [u32],
     t: &mut [u8],
 ) -> usize
-    requires { ⌜ Ready (now a) (now aruns) × Ready (now b) (now bruns) × (256 * stateCount (now a) ≤ length (now t)) × Queued (now queue) (now t) 0 ⌝ }
-    ensures { λ r. ⌜ Queued (now (queue .exit)) (now (t .exit)) r × Within (stateCount (now (a .entry))) (stateCount (now (b .entry))) (tableOf (now (queue .exit)) r) × (foundIn (now (queue .exit)) r ≡ table (pairs (read (now (a .entry))) (read (now (b .entry)))) mostStates) ⌝ }
+    requires { ⌜ IndexedSheet (now a) (now aruns) × IndexedSheet (now b) (now bruns) × (256 * stateCount (now a) ≤ length (now t)) × Queued (now queue) (now t) 0 ⌝ }
+    ensures { λ r. ⌜ Queued (now (queue .exit)) (now (t .exit)) r × PairsBelow (stateCount (now (a .entry))) (stateCount (now (b .entry))) (tableOf (now (queue .exit)) r) × (foundIn (now (queue .exit)) r ≡ table (meetingPairs (read (now (a .entry))) (read (now (b .entry)))) mostStates) ⌝ }
 {
     let mut n = meet_pair(queue, t, 0, a[1], b[1]);
     let mut i: usize = 0;

@@ -12,9 +12,9 @@ ghost use Rattle.lists.specs.Written.{Written};
 ghost use Rattle.labels.specs.Labels.{writeLabels};
 ghost use Rattle.output.specs.Made.{outputOf};
 ghost use Rattle.output.specs.Output.{outputs};
-ghost use Rattle.product.specs.Product.{acceptOf, built, labelOf, product};
-ghost use Rattle.sheets.specs.inner.Runs.{Ready};
-ghost use Rattle.product.specs.inner.Tables.{pairOf, tableOf, Queued, Within, sheetWords, Whole};
+ghost use Rattle.product.specs.Product.{pairAccept, productAutomaton, pairLabelOf, product};
+ghost use Rattle.sheets.specs.inner.Runs.{IndexedSheet};
+ghost use Rattle.product.specs.inner.Tables.{pairOf, tableOf, Queued, PairsBelow, sheetWords, Whole};
 use output::Made;
 use refusal::Refusal;
 use refusal::StateRefusal;
@@ -32,7 +32,7 @@ fn both_accept(x: u32, y: u32) -> u32
 // The accept word of the pair of the word c.
 fn accept_word(a: &[u32], b: &[u32], c: u32) -> u32
     requires { ⌜ Accepted (now a) × Accepted (now b) × (pairOf c .left < stateCount (now a)) × (pairOf c .right < stateCount (now b)) ⌝ }
-    ensures { λ r. ⌜ r ≡ acceptOf (read (now (a .entry))) (read (now (b .entry))) (pairOf c) ⌝ }
+    ensures { λ r. ⌜ r ≡ pairAccept (read (now (a .entry))) (read (now (b .entry))) (pairOf c) ⌝ }
 {
     let p = (c / 256) as usize;
     let q = (c % 256) as usize;
@@ -48,8 +48,8 @@ fn put_accept_words(
     out: &mut [u32],
     at: usize,
 ) -> usize
-    requires { ⌜ Accepted (now a) × Accepted (now b) × (n ≤ length (now queue)) × Within (stateCount (now a)) (stateCount (now b)) (tableOf (now queue) n) × (at + n ≤ length (now out)) ⌝ }
-    ensures { λ r. ⌜ Written (now (out .entry)) at (map (acceptOf (read (now (a .entry))) (read (now (b .entry)))) (tableOf (now (queue .entry)) n)) (now (out .exit)) r ⌝ }
+    requires { ⌜ Accepted (now a) × Accepted (now b) × (n ≤ length (now queue)) × PairsBelow (stateCount (now a)) (stateCount (now b)) (tableOf (now queue) n) × (at + n ≤ length (now out)) ⌝ }
+    ensures { λ r. ⌜ Written (now (out .entry)) at (map (pairAccept (read (now (a .entry))) (read (now (b .entry)))) (tableOf (now (queue .entry)) n)) (now (out .exit)) r ⌝ }
 {
     let mut end = at;
     let mut i: usize = 0;
@@ -70,8 +70,8 @@ fn write_sheet(
     records: &[u32],
     out: &mut [u32],
 ) -> usize
-    requires { ⌜ Accepted (now a) × Accepted (now b) × (n ≤ length (now queue)) × (n ≤ 256) × Within (stateCount (now a)) (stateCount (now b)) (tableOf (now queue) n) × (length (now records) ≤ 10240) × (10500 ≤ length (now out)) ⌝ }
-    ensures { λ r. ⌜ Written (now (out .entry)) 0 (sheetWords (map (acceptOf (read (now (a .entry))) (read (now (b .entry)))) (tableOf (now (queue .entry)) n)) n (now (records .entry))) (now (out .exit)) r ⌝ }
+    requires { ⌜ Accepted (now a) × Accepted (now b) × (n ≤ length (now queue)) × (n ≤ 256) × PairsBelow (stateCount (now a)) (stateCount (now b)) (tableOf (now queue) n) × (length (now records) ≤ 10240) × (10500 ≤ length (now out)) ⌝ }
+    ensures { λ r. ⌜ Written (now (out .entry)) 0 (sheetWords (map (pairAccept (read (now (a .entry))) (read (now (b .entry)))) (tableOf (now (queue .entry)) n)) n (now (records .entry))) (now (out .exit)) r ⌝ }
 {
     let states = output::put_start(out, 0, n as u32);
     let counts = put_accept_words(a, b, queue, n, out, states);
@@ -81,8 +81,8 @@ fn write_sheet(
 
 // The labels of the first n pairs of the queue; how many bytes they take.
 fn write_labels(queue: &[u32], n: usize, names: &mut [u8]) -> usize
-    requires { ⌜ (n ≤ length (now queue)) × (n ≤ 256) × Within 256 256 (tableOf (now queue) n) × (16642 ≤ length (now names)) ⌝ }
-    ensures { λ r. ⌜ Written (now (names .entry)) 0 (writeLabels (map labelOf (tableOf (now (queue .entry)) n))) (now (names .exit)) r ⌝ }
+    requires { ⌜ (n ≤ length (now queue)) × (n ≤ 256) × PairsBelow 256 256 (tableOf (now queue) n) × (16642 ≤ length (now names)) ⌝ }
+    ensures { λ r. ⌜ Written (now (names .entry)) 0 (writeLabels (map pairLabelOf (tableOf (now (queue .entry)) n))) (now (names .exit)) r ⌝ }
 {
     let mut at = labels::put_count(names, n);
     let mut i: usize = 0;
@@ -104,7 +104,7 @@ fn write_outputs(
     out: &mut [u32],
     names: &mut [u8],
 ) -> Made
-    requires { ⌜ Accepted (now a) × Accepted (now b) × (n ≤ length (now queue)) × (n ≤ 256) × Within (stateCount (now a)) (stateCount (now b)) (tableOf (now queue) n) × Whole (read (now a)) (read (now b)) (tableOf (now queue) n) × (now records ≡ writeRecords (built (read (now a)) (read (now b)) (tableOf (now queue) n) .transitions)) × (length (now records) ≤ 10240) × (10500 ≤ length (now out)) × (16642 ≤ length (now names)) ⌝ }
+    requires { ⌜ Accepted (now a) × Accepted (now b) × (n ≤ length (now queue)) × (n ≤ 256) × PairsBelow (stateCount (now a)) (stateCount (now b)) (tableOf (now queue) n) × Whole (read (now a)) (read (now b)) (tableOf (now queue) n) × (now records ≡ writeRecords (productAutomaton (read (now a)) (read (now b)) (tableOf (now queue) n) .transitions)) × (length (now records) ≤ 10240) × (10500 ≤ length (now out)) × (16642 ≤ length (now names)) ⌝ }
     ensures { λ r. ⌜ outputOf r (now (out .exit)) (now (names .exit)) ≡ outputs (now (out .entry)) (now (names .entry)) (product (read (now (a .entry))) (read (now (b .entry)))) ⌝ }
 {
     let words = write_sheet(a, b, queue, n, records, out);
@@ -124,7 +124,7 @@ fn write_large(
     out: &mut [u32],
     names: &mut [u8],
 ) -> Made
-    requires { ⌜ Ready (now a) (now aruns) × Ready (now b) (now bruns) × (256 * stateCount (now a) ≤ length (now t)) × Queued (now queue) (now t) n × (n ≤ 256) × Within (stateCount (now a)) (stateCount (now b)) (tableOf (now queue) n) × Whole (read (now a)) (read (now b)) (tableOf (now queue) n) × (10500 ≤ length (now out)) × (16642 ≤ length (now names)) ⌝ }
+    requires { ⌜ IndexedSheet (now a) (now aruns) × IndexedSheet (now b) (now bruns) × (256 * stateCount (now a) ≤ length (now t)) × Queued (now queue) (now t) n × (n ≤ 256) × PairsBelow (stateCount (now a)) (stateCount (now b)) (tableOf (now queue) n) × Whole (read (now a)) (read (now b)) (tableOf (now queue) n) × (10500 ≤ length (now out)) × (16642 ≤ length (now names)) ⌝ }
     ensures { λ r. ⌜ outputOf r (now (out .exit)) (now (names .exit)) ≡ outputs (now (out .entry)) (now (names .entry)) (product (read (now (a .entry))) (read (now (b .entry)))) ⌝ }
 {
     let mut buf = [0u32; 11520];
@@ -147,7 +147,7 @@ pub fn write_product(
     out: &mut [u32],
     names: &mut [u8],
 ) -> Made
-    requires { ⌜ Ready (now a) (now aruns) × Ready (now b) (now bruns) × (256 * stateCount (now a) ≤ length (now t)) × Queued (now queue) (now t) n × (n ≤ 256) × Within (stateCount (now a)) (stateCount (now b)) (tableOf (now queue) n) × Whole (read (now a)) (read (now b)) (tableOf (now queue) n) × (10500 ≤ length (now out)) × (16642 ≤ length (now names)) ⌝ }
+    requires { ⌜ IndexedSheet (now a) (now aruns) × IndexedSheet (now b) (now bruns) × (256 * stateCount (now a) ≤ length (now t)) × Queued (now queue) (now t) n × (n ≤ 256) × PairsBelow (stateCount (now a)) (stateCount (now b)) (tableOf (now queue) n) × Whole (read (now a)) (read (now b)) (tableOf (now queue) n) × (10500 ≤ length (now out)) × (16642 ≤ length (now names)) ⌝ }
     ensures { λ r. ⌜ outputOf r (now (out .exit)) (now (names .exit)) ≡ outputs (now (out .entry)) (now (names .entry)) (product (read (now (a .entry))) (read (now (b .entry)))) ⌝ }
 {
     let mut buf = [0u32; 720];

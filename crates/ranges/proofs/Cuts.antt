@@ -1,4 +1,4 @@
--- Cuts, and the spans between them: up to the next cut no range tells symbols apart, and every symbol from lo to hi lies in exactly one span.
+-- Cuts, and the spans between them: up to the next cut no range tells symbols apart, and every symbol from lower to upper lies in exactly one span.
 use Prim.Native.Nat.{ℕ, zero, suc, _-_, _≤_, _<_}
 use mathlib.Core.Bool.{Bool, true, false, cond}
 use mathlib.Core.List.{List, [], _∷_, _++_, List·Memᴰ·head, List·Memᴰ·tail}
@@ -7,7 +7,7 @@ use mathlib.Core.Path.{_≡_, refl, sym, _∙_}
 use native.Mathlib.Omega.{arith}
 use borrow.Author.Tests.{le-leb, lt-leb, leb-true, leb-false, lt-ltb, le-ltb, ltb-true, ltb-false}
 use lib.Dec.{leb, ltb}
-use Rattle.lists.specs.Lists.{_∈_, keep}
+use Rattle.lists.specs.Lists.{_∈_, filter}
 use Rattle.lists.proofs.Tests.{test}
 use Rattle.automata.specs.Automaton.{Transition, holds}
 use Rattle.ranges.specs.Span.{Span}
@@ -53,21 +53,21 @@ module _ (a c b : ℕ) where
 
 module _ (a : ℕ) where
   -- the least of top and both cuts of e
-  abbrev lower : ℕ → Transition → ℕ
-  lower top e = nearer a (e .first) (nearer a (suc (e .last)) top)
+  abbrev nearest : ℕ → Transition → ℕ
+  nearest top e = nearer a (e .first) (nearer a (suc (e .last)) top)
 
-  lower-le : (top : ℕ) (e : Transition) → lower top e ≤ top
-  lower-le top e = omega (arith, nearer-le a (e .first) (nearer a (suc (e .last)) top), nearer-le a (suc (e .last)) top)
+  nearest-le : (top : ℕ) (e : Transition) → nearest top e ≤ top
+  nearest-le top e = omega (arith, nearer-le a (e .first) (nearer a (suc (e .last)) top), nearer-le a (suc (e .last)) top)
 
   pub next-le : (top : ℕ) (es : List Transition) → nextCut a top es ≤ top
   unfolding nextCut
   next-le top [] = omega arith
-  next-le top (e ∷ es) = omega (arith, next-le (lower top e) es, lower-le top e)
+  next-le top (e ∷ es) = omega (arith, next-le (nearest top e) es, nearest-le top e)
 
   pub next-gt : (top : ℕ) (es : List Transition) → a < top → a < nextCut a top es
   unfolding nextCut
   next-gt top [] h = h
-  next-gt top (e ∷ es) h = next-gt (lower top e) es (nearer-gt a (e .first) _ (nearer-gt a (suc (e .last)) _ h))
+  next-gt top (e ∷ es) h = next-gt (nearest top e) es (nearer-gt a (e .first) _ (nearer-gt a (suc (e .last)) _ h))
 
   -- no cut of a range lies between a and the next
   pub next-cuts : (top : ℕ) {e : Transition} {es : List Transition} → e ∈ es
@@ -75,13 +75,13 @@ module _ (a : ℕ) where
   unfolding nextCut
   next-cuts top {e} {es = d ∷ es} (List·Memᴰ·head q) =
       let b = nearer a (suc (d .last)) top in
-      let n = next-le (lower top d) es in
+      let n = next-le (nearest top d) es in
       let z = nearer-le a (d .first) b in
       rw q (
-        ⊎-elim inl (λ (h : lower top d ≤ d .first). inr (omega arith)) (nearer-cut a (d .first) b),
+        ⊎-elim inl (λ (h : nearest top d ≤ d .first). inr (omega arith)) (nearer-cut a (d .first) b),
         ⊎-elim inl (λ (h : b ≤ suc (d .last)). inr (omega arith)) (nearer-cut a (suc (d .last)) top),
       )
-  next-cuts top {es = d ∷ es} (List·Memᴰ·tail m) = next-cuts (lower top d) m
+  next-cuts top {es = d ∷ es} (List·Memᴰ·tail m) = next-cuts (nearest top d) m
 
   -- the next cut is top or a cut of some range
   pub next-is : (top : ℕ) (es : List Transition)
@@ -91,19 +91,19 @@ module _ (a : ℕ) where
   next-is top (e ∷ es) =
       let b = nearer a (suc (e .last)) top in
       ⊎-elim
-      (λ (p : nextCut a (lower top e) es ≡ lower top e).
-      ⊎-elim (λ (q : lower top e ≡ e .first). inr (e, List·Memᴰ·head refl, inl (p ∙ q)))
-      (λ (q : lower top e ≡ b).
+      (λ (p : nextCut a (nearest top e) es ≡ nearest top e).
+      ⊎-elim (λ (q : nearest top e ≡ e .first). inr (e, List·Memᴰ·head refl, inl (p ∙ q)))
+      (λ (q : nearest top e ≡ b).
       ⊎-elim (λ (r : b ≡ suc (e .last)). inr (e, List·Memᴰ·head refl, inr (p ∙ q ∙ r))) (λ (r : b ≡ top). inl (p ∙ q ∙ r)) (nearer-one a (suc (e .last)) top))
       (nearer-one a (e .first) b))
       (λ r. inr (r .0, List·Memᴰ·tail (r .1), r .2))
-      (next-is (lower top e) es)
+      (next-is (nearest top e) es)
 
   -- of two lists, one after the other
   pub next-append : (top : ℕ) (ds es : List Transition) → nextCut a top (ds ++ es) ≡ nextCut a (nextCut a top ds) es
   unfolding nextCut
   next-append top [] es = refl
-  next-append top (d ∷ ds) es = next-append (lower top d) ds es
+  next-append top (d ∷ ds) es = next-append (nearest top d) ds es
 
 leb-same : (m n m′ n′ : ℕ) → ((m ≤ n) × (m′ ≤ n′)) ⊎ ((n < m) × (n′ < m′)) → leb m n ≡ leb m′ n′
 leb-same m n m′ n′ (inl h) = le-leb m n (h .0) ∙ sym (le-leb m′ n′ (h .1))
@@ -123,8 +123,8 @@ next-alike a top es x l u e m =
     rw (f, g)
 
 module _ (top : ℕ) (es : List Transition) where
-  none-below : (n a x : ℕ) → x < a → keep (inside x) (spans n a top es) ≡ []
-  unfolding spans keep inside
+  none-below : (n a x : ℕ) → x < a → filter (inside x) (spans n a top es) ≡ []
+  unfolding spans filter inside
   none-below zero a x h = refl
   none-below (suc n) a x h =
       ⊎-elim
@@ -134,8 +134,8 @@ module _ (top : ℕ) (es : List Transition) where
       (λ (t : ltb a top ≡ false). rw t)
       (test (ltb a top))
 
-  spans-one : (n a x : ℕ) → top - a ≤ n → a ≤ x → x < top → (s : Span) × (keep (inside x) (spans n a top es) ≡ s ∷ [])
-  unfolding spans keep inside
+  spans-one : (n a x : ℕ) → top - a ≤ n → a ≤ x → x < top → (s : Span) × (filter (inside x) (spans n a top es) ≡ s ∷ [])
+  unfolding spans filter inside
   spans-one zero a x d l u = absurd (omega arith)
   spans-one (suc n) a x d l u =
       let g : a < nextCut a top es = next-gt a top es (omega arith) in
@@ -163,20 +163,20 @@ module _ (top : ℕ) (es : List Transition) where
       (λ (t : ltb a top ≡ false). rw t)
       (test (ltb a top))
 
-module _ (hi : ℕ) (es : List Transition) where
+module _ (upper : ℕ) (es : List Transition) where
   -- exactly one span holds x
-  pub cut-one : (lo x : ℕ) → lo ≤ x → x ≤ hi → (s : Span) × (keep (inside x) (cutAll lo hi es) ≡ s ∷ [])
+  pub cut-one : (lower x : ℕ) → lower ≤ x → x ≤ upper → (s : Span) × (filter (inside x) (cutAll lower upper es) ≡ s ∷ [])
   unfolding cutAll
-  cut-one lo x l u = spans-one (suc hi) es (suc hi - lo) lo x (omega arith) l (omega arith)
+  cut-one lower x l u = spans-one (suc upper) es (suc upper - lower) lower x (omega arith) l (omega arith)
 
-  pub cut-end : (a : ℕ) → hi < a → cutAll a hi es ≡ []
+  pub cut-end : (a : ℕ) → upper < a → cutAll a upper es ≡ []
   unfolding cutAll spans
-  cut-end a h = spans-enough (suc hi) es (suc hi - a) 0 a (omega arith) (omega arith)
+  cut-end a h = spans-enough (suc upper) es (suc upper - a) 0 a (omega arith) (omega arith)
 
-  pub cut-step : (a : ℕ) → a ≤ hi
-      → cutAll a hi es ≡ record { low = a; high = nextCut a (suc hi) es - 1 } ∷ cutAll (nextCut a (suc hi) es) hi es
+  pub cut-step : (a : ℕ) → a ≤ upper
+      → cutAll a upper es ≡ record { low = a; high = nextCut a (suc upper) es - 1 } ∷ cutAll (nextCut a (suc upper) es) upper es
   unfolding cutAll spans
   cut-step a h =
-      let n : a < nextCut a (suc hi) es = next-gt a (suc hi) es (omega arith) in
-      spans-enough (suc hi) es (suc hi - a) (suc (suc hi - a)) a (omega arith) (omega arith)
-      ∙ rw (lt-ltb a (suc hi) (omega arith), spans-enough (suc hi) es (suc hi - a) (suc hi - nextCut a (suc hi) es) (nextCut a (suc hi) es) (omega arith) (omega arith))
+      let n : a < nextCut a (suc upper) es = next-gt a (suc upper) es (omega arith) in
+      spans-enough (suc upper) es (suc upper - a) (suc (suc upper - a)) a (omega arith) (omega arith)
+      ∙ rw (lt-ltb a (suc upper) (omega arith), spans-enough (suc upper) es (suc upper - a) (suc upper - nextCut a (suc upper) es) (nextCut a (suc upper) es) (omega arith) (omega arith))

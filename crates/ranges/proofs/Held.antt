@@ -9,7 +9,7 @@ use lib.Dec.{leb}
 use Rattle.lists.proofs.Tests.{test, and-parts}
 use Rattle.lists.proofs.Members.{ascending-rest}
 use Rattle.automata.specs.Automaton.{Transition, holds}
-use Rattle.ranges.specs.Missing.{Free, Sorted}
+use Rattle.ranges.specs.Missing.{Free, SortedRanges}
 
 pub held : (x : ℕ) (e : Transition) → e .first ≤ x → x ≤ e .last → holds x e ≡ true
 unfolding holds
@@ -28,5 +28,5 @@ past x e f l = ⊎-elim (λ c. absurd (false≢true (sym f ∙ held x e l (leb-t
 pub free-cons : (x : ℕ) (e : Transition) (es : List Transition) → holds x e ≡ false → Free x es → Free x (e ∷ es)
 free-cons x e es h f d m = ⊎-elim (λ (q : d ≡ e). rw q h) (λ k. f d k) (List·Memᴰ·cases-cons m)
 
-pub rest-sorted : {e : Transition} {es : List Transition} → Sorted (e ∷ es) → Sorted es
+pub rest-sorted : {e : Transition} {es : List Transition} → SortedRanges (e ∷ es) → SortedRanges es
 rest-sorted p = record { rises = ascending-rest (p .rises); full = λ d m. p .full d (List·Memᴰ·tail m) }

@@ -8,14 +8,14 @@ use native.Mathlib.Nat.{eq-or-lt-of-le}
 use native.Mathlib.Omega.{arith}
 use borrow.Author.Tests.{leb-true, ltb-true, not-true}
 use lib.Dec.{leb, ltb}
-use Rattle.lists.specs.Lists.{_∈_, any, keep, Ascending}
+use Rattle.lists.specs.Lists.{_∈_, any, filter, Ascending}
 use Rattle.lists.proofs.Tests.{test, and-parts}
-use Rattle.lists.proofs.Lists.{any-out, keep-in, keep-out}
+use Rattle.lists.proofs.Lists.{any-out, filter-in, filter-out}
 use Rattle.automata.specs.Automaton.{Transition, holds}
 use Rattle.ranges.specs.Span.{Span}
 use Rattle.ranges.proofs.Inside.{inside}
 use Rattle.ranges.specs.Cuts.{nextCut, spans, cutAll}
-use Rattle.ranges.specs.Missing.{covered, missing, Free, Apart, Holes, Sorted}
+use Rattle.ranges.specs.Missing.{covered, missing, Free, SpansApart, Holes, SortedRanges}
 use Rattle.ranges.specs.inner.Missing.{scan}
 use Rattle.ranges.proofs.Cuts.{next-gt, next-cuts, next-is, cut-one}
 use Rattle.ranges.proofs.Spans.{Stretch, stretches, stretch-alike, cut-stretch}
@@ -56,8 +56,8 @@ module _ (top : ℕ) (es : List Transition) (full : (e : Transition) → e ∈ e
       (r .2))
       (next-is a top es)
 
-  unheld-apart : (n a : ℕ) → Ascending Apart (keep (unheld es) (spans n a top es))
-  unfolding spans keep
+  unheld-apart : (n a : ℕ) → Ascending SpansApart (filter (unheld es) (spans n a top es))
+  unfolding spans filter
   unheld-apart zero a = Ascending.none
   unheld-apart (suc n) a =
       ⊎-elim
@@ -68,9 +68,9 @@ module _ (top : ℕ) (es : List Transition) (full : (e : Transition) → e ∈ e
       let l : a < b = next-gt a top es h in
       ⊎-elim
       (λ (c : unheld es sp ≡ true).
-      let g : (s : Span) → s ∈ keep (unheld es) (spans n b top es) → Apart sp s =
+      let g : (s : Span) → s ∈ filter (unheld es) (spans n b top es) → SpansApart sp s =
       λ s m.
-      let k = keep-out (unheld es) s (spans n b top es) m in
+      let k = filter-out (unheld es) s (spans n b top es) m in
       let v = stretches top es n b s (k .0) in
       let z = v .full in
       let x = v .below in
@@ -84,15 +84,15 @@ module _ (top : ℕ) (es : List Transition) (full : (e : Transition) → e ∈ e
       (test (ltb a top))
 
 -- the spans between cuts that no range holds are the holes
-pub missing-holes : (lo hi : ℕ) (es : List Transition) → ((e : Transition) → e ∈ es → e .first ≤ e .last) → Holes lo hi es (missing lo hi es)
+pub missing-holes : (lower upper : ℕ) (es : List Transition) → ((e : Transition) → e ∈ es → e .first ≤ e .last) → Holes lower upper es (missing lower upper es)
 unfolding missing unheld inside
-missing-holes lo hi es full =
-    let all = cutAll lo hi es in
-    let alike = stretch-alike (suc hi) es lo in
-    let out : (s : Span) → s ∈ keep (unheld es) all → Stretch (suc hi) es lo s × Free (s .low) es =
-    λ s m. let k = keep-out (unheld es) s all m in (cut-stretch lo hi es s (k .0), unheld-free es s (k .1)) in
+missing-holes lower upper es full =
+    let all = cutAll lower upper es in
+    let alike = stretch-alike (suc upper) es lower in
+    let out : (s : Span) → s ∈ filter (unheld es) all → Stretch (suc upper) es lower s × Free (s .low) es =
+    λ s m. let k = filter-out (unheld es) s all m in (cut-stretch lower upper es s (k .0), unheld-free es s (k .1)) in
     record {
-      ascends = unfold cutAll in unheld-apart (suc hi) es full (suc hi - lo) lo;
+      ascends = unfold cutAll in unheld-apart (suc upper) es full (suc upper - lower) lower;
       full = λ s m. out s m .0 .full;
       exact = λ x. (
         λ (s, m, i).
@@ -100,17 +100,17 @@ missing-holes lo hi es full =
             let v = r .0 in
             (omega (arith, v .above, i .above), omega (arith, v .below, i .below), λ e k. alike s v x (i .above) (i .below) e k ∙ r .1 e k),
         λ (l, u, g).
-            let o = cut-one hi es lo x l u in
+            let o = cut-one upper es lower x l u in
             let s = o .0 in
-            let k = keep-out (inside x) s all (rw (o .1) (List·Memᴰ·head refl)) in
+            let k = filter-out (inside x) s all (rw (o .1) (List·Memᴰ·head refl)) in
             let i = and-parts (leb (s .low) x) _ (k .1) in
             let a = leb-true (s .low) x (i .0) in
             let b = leb-true x (s .high) (i .1) in
-            let v = cut-stretch lo hi es s (k .0) in
-            (s, keep-in (unheld es) (k .0) (free-unheld es s (λ e m. sym (alike s v x a b e m) ∙ g e m)), record { above = a; below = b }),
+            let v = cut-stretch lower upper es s (k .0) in
+            (s, filter-in (unheld es) (k .0) (free-unheld es s (λ e m. sym (alike s v x a b e m) ∙ g e m)), record { above = a; below = b }),
       );
     }
 
 -- on sorted ranges one pass gives the holes
-pub missing-scan : (lo hi : ℕ) (es : List Transition) → Sorted es → missing lo hi es ≡ scan lo hi es
-missing-scan lo hi es p = holes-unique lo hi es _ _ (missing-holes lo hi es (p .full)) (scan-holes hi lo es p)
+pub missing-scan : (lower upper : ℕ) (es : List Transition) → SortedRanges es → missing lower upper es ≡ scan lower upper es
+missing-scan lower upper es p = holes-unique lower upper es _ _ (missing-holes lower upper es (p .full)) (scan-holes upper lower es p)

@@ -9,13 +9,13 @@ use native.Mathlib.Omega.{arith}
 use borrow.Author.Tests.{le-leb, leb-true, leb-false}
 use lib.Dec.{leb}
 use lib.ListN.{length}
-use Rattle.lists.specs.Lists.{_∈_, any, keep}
+use Rattle.lists.specs.Lists.{_∈_, any, filter}
 use Rattle.lists.proofs.Tests.{test, or-right}
-use Rattle.lists.proofs.Lists.{keep-in, keep-none}
+use Rattle.lists.proofs.Lists.{filter-in, filter-none}
 use Rattle.automata.specs.Automaton.{Transition, holds}
 use Rattle.lists.proofs.Members.{ascending-first}
 use Rattle.ranges.specs.Span.{Span, Inside, InsideAny, intersectRanges, startsBelow, overlapping, Shared}
-use Rattle.ranges.specs.Missing.{missing, Holes, Sorted}
+use Rattle.ranges.specs.Missing.{missing, Holes, SortedRanges}
 use Rattle.lists.proofs.Every.{any-none}
 use Rattle.ranges.proofs.Missing.{missing-holes}
 use Rattle.ranges.proofs.Held.{held, holds-ends, rest-sorted}
@@ -51,11 +51,11 @@ below-shared end {es = d ∷ es} (Shared.first e x m p q) =
 below-shared end {es = d ∷ es} (Shared.later s) = or-right (leb (d .first) end) _ (below-shared (max end (d .last)) s)
 
 -- in a sorted list an entry that starts at or below the end of an earlier one shares its first symbol
-first-shared : (d e : Transition) (es : List Transition) → Sorted (d ∷ es) → e ∈ es → e .first ≤ d .last → Shared (d ∷ es)
+first-shared : (d e : Transition) (es : List Transition) → SortedRanges (d ∷ es) → e ∈ es → e .first ≤ d .last → Shared (d ∷ es)
 first-shared d e es p m h =
     Shared.first e (e .first) m (held (e .first) d (ascending-first (p .rises) e m) h) (held (e .first) e (omega arith) (p .full e (List·Memᴰ·tail m)))
 
-found-below : (end : ℕ) (es : List Transition) → Sorted es → startsBelow end es ≡ true → ((e : Transition) × e ∈ es × (e .first ≤ end)) ⊎ Shared es
+found-below : (end : ℕ) (es : List Transition) → SortedRanges es → startsBelow end es ≡ true → ((e : Transition) × e ∈ es × (e .first ≤ end)) ⊎ Shared es
 unfolding startsBelow
 found-below end [] p h = absurd (false≢true h)
 found-below end (d ∷ es) p h =
@@ -70,11 +70,11 @@ found-below end (d ∷ es) p h =
     (test (leb (d .first) end))
 
 -- sorted ranges overlap exactly when two different ones hold the same symbol
-pub overlap-shared : (es : List Transition) → Sorted es → (overlapping es ≡ true) ↔ Shared es
+pub overlap-shared : (es : List Transition) → SortedRanges es → (overlapping es ≡ true) ↔ Shared es
 unfolding overlapping
 overlap-shared es p = (out es p, into es)
   where
-    out : (es : List Transition) → Sorted es → overlapping es ≡ true → Shared es
+    out : (es : List Transition) → SortedRanges es → overlapping es ≡ true → Shared es
     out [] p h = absurd (false≢true h)
     out (d ∷ es) p h =
         ⊎-elim (λ (f : (e : Transition) × e ∈ es × (e .first ≤ d .last)). first-shared d (f .0) es p (f .1) (f .2)) (λ s. Shared.later s)
@@ -85,20 +85,20 @@ overlap-shared es p = (out es p, into es)
     into (d ∷ es) (Shared.later s) = below-shared (d .last) s
 
 -- one transition holds x, or none, where no two hold the same symbol
-held-once : (x : ℕ) (es : List Transition) → (Shared es → ⊥) → any (holds x) es ≡ true → (d : Transition) × (keep (holds x) es ≡ d ∷ [])
-unfolding any keep
+held-once : (x : ℕ) (es : List Transition) → (Shared es → ⊥) → any (holds x) es ≡ true → (d : Transition) × (filter (holds x) es ≡ d ∷ [])
+unfolding any filter
 held-once x [] n h = absurd (false≢true h)
 held-once x (d ∷ es) n h =
     ⊎-elim
     (λ (t : holds x d ≡ true).
-    (d, rw (t, keep-none (holds x) es (λ e m. ⊎-elim (λ (u : holds x e ≡ true). absurd (n (Shared.first e x m t u))) (λ u. u) (test (holds x e))))))
+    (d, rw (t, filter-none (holds x) es (λ e m. ⊎-elim (λ (u : holds x e ≡ true). absurd (n (Shared.first e x m t u))) (λ u. u) (test (holds x e))))))
     (λ (t : holds x d ≡ false). rw t (held-once x es (λ s. n (Shared.later s)) (rw t at h)))
     (test (holds x d))
 
 -- a symbol that two transitions hold
-shared-twice : {es : List Transition} → Shared es → (x : ℕ) × ((e : Transition) × e ∈ es × (holds x e ≡ true)) × (1 < length (keep (holds x) es))
-unfolding keep
-shared-twice {es = d ∷ es} (Shared.first e x m p q) = (x, (d, List·Memᴰ·head refl, p), rw p (more (keep-in (holds x) m q)))
+shared-twice : {es : List Transition} → Shared es → (x : ℕ) × ((e : Transition) × e ∈ es × (holds x e ≡ true)) × (1 < length (filter (holds x) es))
+unfolding filter
+shared-twice {es = d ∷ es} (Shared.first e x m p q) = (x, (d, List·Memᴰ·head refl, p), rw p (more (filter-in (holds x) m q)))
   where
     more : {l : List Transition} → e ∈ l → 1 < suc (length l)
     more (List·Memᴰ·head h) = omega arith
@@ -107,27 +107,27 @@ shared-twice {es = d ∷ es} (Shared.later s) =
     let (x, (e, m, h), l) = shared-twice s in
     (x, (e, List·Memᴰ·tail m, h), more x (holds x d) l)
   where
-    more : (x : ℕ) (b : Bool) → 1 < length (keep (holds x) es) → 1 < length (cond b (d ∷ keep (holds x) es) (keep (holds x) es))
+    more : (x : ℕ) (b : Bool) → 1 < length (filter (holds x) es) → 1 < length (cond b (d ∷ filter (holds x) es) (filter (holds x) es))
     more x true l = omega arith
     more x false l = l
 
--- of sorted ranges within lo and hi, exactly one holds each symbol exactly when they don't overlap and leave no hole
-module _ (lo hi : ℕ) (es : List Transition) (p : Sorted es) (within : (e : Transition) → e ∈ es → (lo ≤ e .first) × (e .last ≤ hi)) where
-  pub one-each : ((overlapping es ≡ false) × (missing lo hi es ≡ [])) ↔ ((x : ℕ) → lo ≤ x → x ≤ hi → (d : Transition) × (keep (holds x) es ≡ d ∷ []))
-  one-each = (λ (o, h) x l u. held-once x es (apart o) (taken h x l u), λ f. (no-overlap f, no-hole f (missing lo hi es) (missing-holes lo hi es (p .full))))
+-- of sorted ranges within lower and upper, exactly one holds each symbol exactly when they don't overlap and leave no hole
+module _ (lower upper : ℕ) (es : List Transition) (p : SortedRanges es) (within : (e : Transition) → e ∈ es → (lower ≤ e .first) × (e .last ≤ upper)) where
+  pub one-each : ((overlapping es ≡ false) × (missing lower upper es ≡ [])) ↔ ((x : ℕ) → lower ≤ x → x ≤ upper → (d : Transition) × (filter (holds x) es ≡ d ∷ []))
+  one-each = (λ (o, h) x l u. held-once x es (apart o) (taken h x l u), λ f. (no-overlap f, no-hole f (missing lower upper es) (missing-holes lower upper es (p .full))))
     where
       apart : overlapping es ≡ false → Shared es → ⊥
       apart o s = false≢true (sym o ∙ overlap-shared es p .1 s)
 
-      taken : missing lo hi es ≡ [] → (x : ℕ) → lo ≤ x → x ≤ hi → any (holds x) es ≡ true
+      taken : missing lower upper es ≡ [] → (x : ℕ) → lower ≤ x → x ≤ upper → any (holds x) es ≡ true
       taken h x l u =
           ⊎-elim (λ t. t)
           (λ (t : any (holds x) es ≡ false).
-          let w = missing-holes lo hi es (p .full) .exact x .1 (l, u, any-none (holds x) es t) in
+          let w = missing-holes lower upper es (p .full) .exact x .1 (l, u, any-none (holds x) es t) in
           absurd (List·Memᴰ·not-nil (rw h at (w .1))))
           (test (any (holds x) es))
 
-      no-overlap : ((x : ℕ) → lo ≤ x → x ≤ hi → (d : Transition) × (keep (holds x) es ≡ d ∷ [])) → overlapping es ≡ false
+      no-overlap : ((x : ℕ) → lower ≤ x → x ≤ upper → (d : Transition) × (filter (holds x) es ≡ d ∷ [])) → overlapping es ≡ false
       no-overlap f =
           ⊎-elim
           (λ (t : overlapping es ≡ true).
@@ -139,9 +139,9 @@ module _ (lo hi : ℕ) (es : List Transition) (p : Sorted es) (within : (e : Tra
           (λ t. t)
           (test (overlapping es))
 
-      no-hole : ((x : ℕ) → lo ≤ x → x ≤ hi → (d : Transition) × (keep (holds x) es ≡ d ∷ [])) → (hs : List Span) → Holes lo hi es hs → hs ≡ []
+      no-hole : ((x : ℕ) → lower ≤ x → x ≤ upper → (d : Transition) × (filter (holds x) es ≡ d ∷ [])) → (hs : List Span) → Holes lower upper es hs → hs ≡ []
       no-hole f [] q = refl
       no-hole f (s ∷ hs) q =
           let (l, u, free) = q .exact (s .low) .0 (s, List·Memᴰ·head refl, record { above = omega arith; below = q .full s (List·Memᴰ·head refl) }) in
-          let one = ap length (sym (keep-none (holds (s .low)) es free) ∙ f (s .low) l u .1) in
+          let one = ap length (sym (filter-none (holds (s .low)) es free) ∙ f (s .low) l u .1) in
           absurd (omega arith)

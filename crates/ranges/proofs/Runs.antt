@@ -5,7 +5,7 @@ use mathlib.Core.List.{List, [], _∷_}
 use mathlib.Core.Path.{_≡_, sym, _∙_, ap}
 use borrow.Author.Tests.{le-leb, lt-leb, eq-eqb, ne-eqb}
 use lib.ListN.{length, getD, take, drop}
-use Rattle.lists.specs.Lists.{keep}
+use Rattle.lists.specs.Lists.{filter}
 use Rattle.lists.proofs.Parts.{part-all}
 use Rattle.automata.specs.Automaton.{Transition, rangesOf}
 use Rattle.automata.specs.Records.{readRecords}
@@ -19,16 +19,16 @@ rangesIn s = rangesOf (readRecords s)
 
 module _ (s : List ℕ) (at : ℕ) where
   pub ranges-end : length s - at < 5 → rangesIn (drop at s) ≡ []
-  unfolding rangesOf keep
+  unfolding rangesOf filter
   ranges-end h = rw (records-end s at h)
 
   module _ (h : 5 ≤ length s - at) where
     pub ranges-at : getD s (at + 1) 0 ≡ 1 → rangesIn (drop at s) ≡ recordAt s at ∷ rangesIn (drop (at + 5) s)
-    unfolding rangesOf keep
+    unfolding rangesOf filter
     ranges-at k = rw (records-at s at h, eq-eqb _ _ k)
 
     pub ranges-skip : (getD s (at + 1) 0 ≡ 1 → ⊥) → rangesIn (drop at s) ≡ rangesIn (drop (at + 5) s)
-    unfolding rangesOf keep
+    unfolding rangesOf filter
     ranges-skip k = rw (records-at s at h, ne-eqb _ _ k)
 
 -- whether a range starts below: those from `at` on decide

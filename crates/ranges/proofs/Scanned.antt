@@ -12,7 +12,7 @@ use Rattle.lists.proofs.Tests.{test}
 use Rattle.lists.proofs.Members.{ascending-first}
 use Rattle.automata.specs.Automaton.{Transition}
 use Rattle.ranges.specs.Span.{Span, Inside}
-use Rattle.ranges.specs.Missing.{Free, Within, Holes, Sorted}
+use Rattle.ranges.specs.Missing.{Free, InSomeSpan, Holes, SortedRanges}
 use Rattle.ranges.specs.inner.Missing.{gap, scan}
 use Rattle.ranges.proofs.Separate.{split, here, there}
 use Rattle.ranges.proofs.Held.{not-held, past, free-cons, rest-sorted}
@@ -26,31 +26,31 @@ pub gap-none : (a b : ℕ) → b ≤ a → gap a b ≡ []
 unfolding gap
 gap-none a b h = rw (le-ltb a b h)
 
-module _ (hi : ℕ) where
+module _ (upper : ℕ) where
   -- what is left when no range is
-  end-holes : (c : ℕ) → Holes c hi [] (gap c (suc hi))
-  end-holes c = ⊎-elim (λ t. some (leb-true c hi t)) (λ t. nothing (leb-false c hi t)) (test (leb c hi))
+  end-holes : (c : ℕ) → Holes c upper [] (gap c (suc upper))
+  end-holes c = ⊎-elim (λ t. some (leb-true c upper t)) (λ t. nothing (leb-false c upper t)) (test (leb c upper))
     where
       sp : Span
-      sp = record { low = c; high = suc hi - 1 }
+      sp = record { low = c; high = suc upper - 1 }
 
-      some : c ≤ hi → Holes c hi [] (gap c (suc hi))
+      some : c ≤ upper → Holes c upper [] (gap c (suc upper))
       some h =
-          rw (gap-some c (suc hi) (omega arith))
+          rw (gap-some c (suc upper) (omega arith))
           (record {
             ascends = Ascending.more (λ y m. absurd (List·Memᴰ·not-nil m)) Ascending.none;
             full = λ s m. ⊎-elim (λ (q : s ≡ sp). rw q (omega arith)) (λ m. absurd (List·Memᴰ·not-nil m)) (List·Memᴰ·cases-cons m);
             exact = λ x. (
               λ w.
-                  ⊎-elim (λ (i : Inside x sp). (i .above, omega (arith, i .below), λ e m. absurd (List·Memᴰ·not-nil m))) (λ (v : Within x []). absurd (List·Memᴰ·not-nil (v .1)))
+                  ⊎-elim (λ (i : Inside x sp). (i .above, omega (arith, i .below), λ e m. absurd (List·Memᴰ·not-nil m))) (λ (v : InSomeSpan x []). absurd (List·Memᴰ·not-nil (v .1)))
                   (split sp [] w),
               λ f. here sp [] (f .0) (omega (arith, f .1)),
             );
           })
 
-      nothing : hi < c → Holes c hi [] (gap c (suc hi))
+      nothing : upper < c → Holes c upper [] (gap c (suc upper))
       nothing h =
-          rw (gap-none c (suc hi) (omega arith))
+          rw (gap-none c (suc upper) (omega arith))
           (record {
             ascends = Ascending.none;
             full = λ s m. absurd (List·Memᴰ·not-nil m);
@@ -58,25 +58,25 @@ module _ (hi : ℕ) where
           })
 
   -- one range more, at or before the others
-  module _ (c : ℕ) (e : Transition) (es : List Transition) (p : Sorted (e ∷ es)) (hs : List Span) (r : Holes (max c (suc (e .last))) hi es hs) where
+  module _ (c : ℕ) (e : Transition) (es : List Transition) (p : SortedRanges (e ∷ es)) (hs : List Span) (r : Holes (max c (suc (e .last))) upper es hs) where
     full-range : e .first ≤ e .last
     full-range = p .full e (List·Memᴰ·head refl)
 
-    sound : (x : ℕ) → Within x hs → (c ≤ x) × (x ≤ hi) × Free x (e ∷ es)
+    sound : (x : ℕ) → InSomeSpan x hs → (c ≤ x) × (x ≤ upper) × Free x (e ∷ es)
     sound x w =
         let y = r .exact x .0 w in
         (omega (arith, y .0), y .1, free-cons x e es (not-held x e (λ b. omega (arith, y .0, b .1))) (y .2))
 
-    behind : (x : ℕ) → c ≤ x → x ≤ hi → Free x (e ∷ es) → e .first ≤ x → Within x hs
+    behind : (x : ℕ) → c ≤ x → x ≤ upper → Free x (e ∷ es) → e .first ≤ x → InSomeSpan x hs
     behind x l u f g =
         let a = past x e (f e (List·Memᴰ·head refl)) g in
         r .exact x .1 (omega arith, u, λ d m. f d (List·Memᴰ·tail m))
 
-    range-holes : Holes c hi (e ∷ es) (gap c (min (e .first) (suc hi)) ++ hs)
+    range-holes : Holes c upper (e ∷ es) (gap c (min (e .first) (suc upper)) ++ hs)
     range-holes = ⊎-elim (λ t. some (ltb-true c b t)) (λ t. nothing (ltb-false c b t)) (test (ltb c b))
       where
         b : ℕ
-        b = min (e .first) (suc hi)
+        b = min (e .first) (suc upper)
 
         sp : Span
         sp = record { low = c; high = b - 1 }
@@ -87,7 +87,7 @@ module _ (hi : ℕ) where
         low : (s : Span) → s ∈ hs → max c (suc (e .last)) ≤ s .low
         low s m = r .exact (s .low) .0 (s, m, record { above = omega arith; below = r .full s m }) .0
 
-        some : c < b → Holes c hi (e ∷ es) (gap c b ++ hs)
+        some : c < b → Holes c upper (e ∷ es) (gap c b ++ hs)
         some h =
             rw (gap-some c b h)
             (record {
@@ -103,12 +103,12 @@ module _ (hi : ℕ) where
               );
             })
 
-        nothing : b ≤ c → Holes c hi (e ∷ es) (gap c b ++ hs)
+        nothing : b ≤ c → Holes c upper (e ∷ es) (gap c b ++ hs)
         nothing h =
             rw (gap-none c b h)
             (record { ascends = r .ascends; full = r .full; exact = λ x. (sound x, λ f. behind x (f .0) (f .1) (f .2) (omega (arith, f .0, f .1))) })
 
-  pub scan-holes : (c : ℕ) (es : List Transition) → Sorted es → Holes c hi es (scan c hi es)
+  pub scan-holes : (c : ℕ) (es : List Transition) → SortedRanges es → Holes c upper es (scan c upper es)
   unfolding scan
   scan-holes c [] p = end-holes c
-  scan-holes c (e ∷ es) p = range-holes c e es p (scan (max c (suc (e .last))) hi es) (scan-holes (max c (suc (e .last))) es (rest-sorted p))
+  scan-holes c (e ∷ es) p = range-holes c e es p (scan (max c (suc (e .last))) upper es) (scan-holes (max c (suc (e .last))) es (rest-sorted p))

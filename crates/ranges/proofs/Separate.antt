@@ -13,26 +13,26 @@ use Rattle.lists.proofs.Tests.{test}
 use Rattle.lists.proofs.Members.{ascending-first, ascending-rest}
 use Rattle.automata.specs.Automaton.{Transition}
 use Rattle.ranges.specs.Span.{Span, Inside}
-use Rattle.ranges.specs.Missing.{Within, Apart, Holes}
+use Rattle.ranges.specs.Missing.{InSomeSpan, SpansApart, Holes}
 
 span-eq : (s t : Span) → s .low ≡ t .low → s .high ≡ t .high → s ≡ t
 span-eq s t p q = λ i. record { low = p i; high = q i }
 
 -- spans that ascend apart, none empty
 record Separate (hs : List Span) : Type 0 where
-  ascends : Ascending Apart hs
+  ascends : Ascending SpansApart hs
   full : (s : Span) → s ∈ hs → s .low ≤ s .high
 
 rest-separate : {s : Span} {hs : List Span} → Separate (s ∷ hs) → Separate hs
 rest-separate p = record { ascends = ascending-rest (p .ascends); full = λ t m. p .full t (List·Memᴰ·tail m) }
 
-pub split : {x : ℕ} (s : Span) (hs : List Span) → Within x (s ∷ hs) → Inside x s ⊎ Within x hs
+pub split : {x : ℕ} (s : Span) (hs : List Span) → InSomeSpan x (s ∷ hs) → Inside x s ⊎ InSomeSpan x hs
 split {x} s hs (t, m, i) = ⊎-elim (λ (q : t ≡ s). inl (rw q at i)) (λ k. inr (t, k, i)) (List·Memᴰ·cases-cons m)
 
-pub here : {x : ℕ} (s : Span) (hs : List Span) → s .low ≤ x → x ≤ s .high → Within x (s ∷ hs)
+pub here : {x : ℕ} (s : Span) (hs : List Span) → s .low ≤ x → x ≤ s .high → InSomeSpan x (s ∷ hs)
 here s hs l u = (s, List·Memᴰ·head refl, record { above = l; below = u })
 
-pub there : {x : ℕ} (s : Span) {hs : List Span} → Within x hs → Within x (s ∷ hs)
+pub there : {x : ℕ} (s : Span) {hs : List Span} → InSomeSpan x hs → InSomeSpan x (s ∷ hs)
 there s (t, m, i) = (t, List·Memᴰ·tail m, i)
 
 module _ (s : Span) (hs : List Span) (p : Separate (s ∷ hs)) where
@@ -40,34 +40,34 @@ module _ (s : Span) (hs : List Span) (p : Separate (s ∷ hs)) where
   full-first = p .full s (List·Memᴰ·head refl)
 
   -- the first span's low is the least symbol, and every symbol of the others lies apart from it
-  low-within : Within (s .low) (s ∷ hs)
+  low-within : InSomeSpan (s .low) (s ∷ hs)
   low-within = here s hs (omega arith) full-first
 
-  beyond : (x : ℕ) → Within x hs → suc (s .high) < x
+  beyond : (x : ℕ) → InSomeSpan x hs → suc (s .high) < x
   beyond x (t, m, i) = let a = ascending-first (p .ascends) t m in omega (arith, i .above)
 
-  low-least : (x : ℕ) → Within x (s ∷ hs) → s .low ≤ x
-  low-least x w = ⊎-elim (λ (i : Inside x s). i .above) (λ (v : Within x hs). omega (arith, beyond x v, full-first)) (split s hs w)
+  low-least : (x : ℕ) → InSomeSpan x (s ∷ hs) → s .low ≤ x
+  low-least x w = ⊎-elim (λ (i : Inside x s). i .above) (λ (v : InSomeSpan x hs). omega (arith, beyond x v, full-first)) (split s hs w)
 
 module _ (s t : Span) (hs ks : List Span) (p : Separate (s ∷ hs)) (q : Separate (t ∷ ks)) where
   -- a span with all the symbols of another list's first ends no earlier
-  high-least : s .low ≡ t .low → ((x : ℕ) → Within x (t ∷ ks) → Within x (s ∷ hs)) → t .high ≤ s .high
+  high-least : s .low ≡ t .low → ((x : ℕ) → InSomeSpan x (t ∷ ks) → InSomeSpan x (s ∷ hs)) → t .high ≤ s .high
   high-least e h =
       ⊎-elim (λ c. leb-true _ _ c)
       (λ (c : leb (t .high) (s .high) ≡ false).
       let l : s .high < t .high = leb-false _ _ c in
       let f = full-first s hs p in
       let x = suc (s .high) in
-      ⊎-elim (λ (i : Inside x s). absurd (omega (arith, i .below))) (λ (v : Within x hs). absurd (omega (arith, beyond s hs p x v)))
+      ⊎-elim (λ (i : Inside x s). absurd (omega (arith, i .below))) (λ (v : InSomeSpan x hs). absurd (omega (arith, beyond s hs p x v)))
       (split s hs (h x (here t ks (omega arith) (omega arith)))))
       (test (leb (t .high) (s .high)))
 
-  rest-within : s .high ≡ t .high → ((x : ℕ) → Within x (s ∷ hs) → Within x (t ∷ ks)) → (x : ℕ) → Within x hs → Within x ks
+  rest-within : s .high ≡ t .high → ((x : ℕ) → InSomeSpan x (s ∷ hs) → InSomeSpan x (t ∷ ks)) → (x : ℕ) → InSomeSpan x hs → InSomeSpan x ks
   rest-within e h x v =
       ⊎-elim (λ (i : Inside x t). absurd (omega (arith, i .below, beyond s hs p x v))) (λ w. w) (split t ks (h x (there s v)))
 
 -- separate spans with the same symbols are the same spans
-same-symbols : (hs ks : List Span) → Separate hs → Separate ks → ((x : ℕ) → Within x hs → Within x ks) → ((x : ℕ) → Within x ks → Within x hs) → hs ≡ ks
+same-symbols : (hs ks : List Span) → Separate hs → Separate ks → ((x : ℕ) → InSomeSpan x hs → InSomeSpan x ks) → ((x : ℕ) → InSomeSpan x ks → InSomeSpan x hs) → hs ≡ ks
 same-symbols [] [] p q f g = refl
 same-symbols [] (t ∷ ks) p q f g = absurd (List·Memᴰ·not-nil (g (t .low) (low-within t ks q) .1))
 same-symbols (s ∷ hs) [] p q f g = absurd (List·Memᴰ·not-nil (f (s .low) (low-within s hs p) .1))
@@ -80,7 +80,7 @@ same-symbols (s ∷ hs) (t ∷ ks) p q f g =
     (same-symbols hs ks (rest-separate p) (rest-separate q) (rest-within s t hs ks p q u f) (rest-within t s ks hs q p (sym u) g))
 
 -- there is one list of holes
-pub holes-unique : (lo hi : ℕ) (es : List Transition) (hs ks : List Span) → Holes lo hi es hs → Holes lo hi es ks → hs ≡ ks
-holes-unique lo hi es hs ks p q =
+pub holes-unique : (lower upper : ℕ) (es : List Transition) (hs ks : List Span) → Holes lower upper es hs → Holes lower upper es ks → hs ≡ ks
+holes-unique lower upper es hs ks p q =
     same-symbols hs ks (record { ascends = p .ascends; full = p .full }) (record { ascends = q .ascends; full = q .full })
     (λ x w. q .exact x .1 (p .exact x .0 w)) (λ x w. p .exact x .1 (q .exact x .0 w))

@@ -14,7 +14,7 @@ use Rattle.automata.specs.Automaton.{Transition}
 use Rattle.automata.specs.inner.Records.{recordAt}
 use Rattle.lists.proofs.Members.{ascending-first}
 use Rattle.ranges.specs.Cuts.{nearer, nextCut}
-use Rattle.ranges.specs.Missing.{Sorted}
+use Rattle.ranges.specs.Missing.{SortedRanges}
 use Rattle.ranges.proofs.Held.{rest-sorted}
 use Rattle.ranges.proofs.Runs.{rangesIn, ranges-end, ranges-at, ranges-skip}
 
@@ -58,7 +58,7 @@ module _ (a top : ℕ) (e : Transition) (es : List Transition) where
   unfolding nextCut
   next-holds f l = rw (nearer-min a (suc (e .last)) top (omega arith), nearer-past a (e .first) (min (suc (e .last)) top) f)
 
-  next-above : Sorted (e ∷ es) → a < e .first → nextCut a top (e ∷ es) ≡ min (e .first) top
+  next-above : SortedRanges (e ∷ es) → a < e .first → nextCut a top (e ∷ es) ≡ min (e .first) top
   unfolding nextCut
   next-above s h =
       let l = s .full e (List·Memᴰ·head refl) in
@@ -68,16 +68,16 @@ module _ (a top : ℕ) (e : Transition) (es : List Transition) where
       ∙ next-far a (min (e .first) top) es (λ d m. let f = ascending-first (s .rises) d m in let g = s .full d (List·Memᴰ·tail m) in (omega arith, omega arith))
 
 -- a range that starts above a symbol, and all that follow it
-pub sorted-above : (a : ℕ) (e : Transition) (es : List Transition) → Sorted (e ∷ es) → a < e .first → (d : Transition) → d ∈ e ∷ es → a < d .first
+pub sorted-above : (a : ℕ) (e : Transition) (es : List Transition) → SortedRanges (e ∷ es) → a < e .first → (d : Transition) → d ∈ e ∷ es → a < d .first
 sorted-above a e es s h d m = ⊎-elim (λ (q : d ≡ e). rw q h) (λ m. let f = ascending-first (s .rises) d m in omega arith) (List·Memᴰ·cases-cons m)
 
 -- the ranges of a run from the record at a place on
-module _ (s : List ℕ) (at : ℕ) (o : Sorted (rangesIn (drop at s))) (h : 5 ≤ length s - at) where
-  pub sorted-skip : (getD s (at + 1) 0 ≡ 1 → ⊥) → Sorted (rangesIn (drop (at + 5) s))
-  sorted-skip k = subst Sorted (ranges-skip s at h k) o
+module _ (s : List ℕ) (at : ℕ) (o : SortedRanges (rangesIn (drop at s))) (h : 5 ≤ length s - at) where
+  pub sorted-skip : (getD s (at + 1) 0 ≡ 1 → ⊥) → SortedRanges (rangesIn (drop (at + 5) s))
+  sorted-skip k = subst SortedRanges (ranges-skip s at h k) o
 
-  pub sorted-next : getD s (at + 1) 0 ≡ 1 → Sorted (rangesIn (drop (at + 5) s))
-  sorted-next k = rest-sorted (subst Sorted (ranges-at s at h k) o)
+  pub sorted-next : getD s (at + 1) 0 ≡ 1 → SortedRanges (rangesIn (drop (at + 5) s))
+  sorted-next k = rest-sorted (subst SortedRanges (ranges-at s at h k) o)
 
 -- the next cut: what is found among the ranges before `at`, and the ranges from there on
 module _ (s : List ℕ) (a top found at : ℕ) (e : nextCut a found (rangesIn (drop at s)) ≡ nextCut a top (rangesIn s)) where
@@ -103,5 +103,5 @@ module _ (s : List ℕ) (a top found at : ℕ) (e : nextCut a found (rangesIn (d
           ∙ sym (next-holds a found (recordAt s at) (rangesIn (drop (at + 5) s)) f l)
           ∙ here
 
-      pub cut-above : Sorted (rangesIn (drop at s)) → a < getD s (at + 2) 0 → (r : ℕ) → r ≡ min (getD s (at + 2) 0) found → r ≡ nextCut a top (rangesIn s)
-      cut-above o l r q = q ∙ sym (next-above a found (recordAt s at) (rangesIn (drop (at + 5) s)) (subst Sorted (ranges-at s at h k) o) l) ∙ here
+      pub cut-above : SortedRanges (rangesIn (drop at s)) → a < getD s (at + 2) 0 → (r : ℕ) → r ≡ min (getD s (at + 2) 0) found → r ≡ nextCut a top (rangesIn s)
+      cut-above o l r q = q ∙ sym (next-above a found (recordAt s at) (rangesIn (drop (at + 5) s)) (subst SortedRanges (ranges-at s at h k) o) l) ∙ here

@@ -1,4 +1,4 @@
--- The spans between cuts, one by one: each begins at lo or at a cut, and goes up to the next cut.
+-- The spans between cuts, one by one: each begins at lower or at a cut, and goes up to the next cut.
 use Prim.Native.Nat.{ℕ, zero, suc, _-_, _≤_, _<_}
 use mathlib.Core.Bool.{Bool, true, false, cond}
 use mathlib.Core.List.{List, [], _∷_, List·Memᴰ·head, List·Memᴰ·cases-cons}
@@ -7,8 +7,8 @@ use mathlib.Core.Path.{_≡_, refl, _∙_}
 use native.Mathlib.Omega.{arith}
 use borrow.Author.Tests.{leb-true, ltb-true}
 use lib.Dec.{leb, ltb}
-use Rattle.lists.specs.Lists.{_∈_, keep, Ascending}
-use Rattle.lists.proofs.Lists.{keep-out}
+use Rattle.lists.specs.Lists.{_∈_, filter, Ascending}
+use Rattle.lists.proofs.Lists.{filter-out}
 use Rattle.lists.proofs.Tests.{test, and-parts}
 use Rattle.automata.specs.Automaton.{Transition, holds}
 use Rattle.ranges.specs.Span.{Span}
@@ -78,49 +78,49 @@ module _ (top : ℕ) (es : List Transition) where
       (λ (t : ltb a top ≡ false). rw t Ascending.none)
       (test (ltb a top))
 
-module _ (lo hi : ℕ) (es : List Transition) where
-  pub cut-stretch : (s : Span) → s ∈ cutAll lo hi es → Stretch (suc hi) es lo s
+module _ (lower upper : ℕ) (es : List Transition) where
+  pub cut-stretch : (s : Span) → s ∈ cutAll lower upper es → Stretch (suc upper) es lower s
   unfolding cutAll
-  cut-stretch s m = stretches (suc hi) es (suc hi - lo) lo s m
+  cut-stretch s m = stretches (suc upper) es (suc upper - lower) lower s m
 
-  pub cut-ascend : Ascending Ahead (cutAll lo hi es)
+  pub cut-ascend : Ascending Ahead (cutAll lower upper es)
   unfolding cutAll
-  cut-ascend = spans-ascend (suc hi) es (suc hi - lo) lo
+  cut-ascend = spans-ascend (suc upper) es (suc upper - lower) lower
 
-  -- a span ends before a cut or at hi, and no cut lies inside it
-  pub cut-ends : (s : Span) → s ∈ cutAll lo hi es → (s .high ≡ hi) ⊎ Cut es (suc (s .high))
+  -- a span ends before a cut or at upper, and no cut lies inside it
+  pub cut-ends : (s : Span) → s ∈ cutAll lower upper es → (s .high ≡ upper) ⊎ Cut es (suc (s .high))
   cut-ends s m =
       let r = cut-stretch s m in
-      ⊎-elim (λ (q : nextCut (s .low) (suc hi) es ≡ suc hi). inl (omega (arith, r .ends)))
+      ⊎-elim (λ (q : nextCut (s .low) (suc upper) es ≡ suc upper). inl (omega (arith, r .ends)))
       (λ c. inr (c .0, c .1, ⊎-elim (λ q. inl (r .ends ∙ q)) (λ q. inr (r .ends ∙ q)) (c .2)))
-      (next-is (s .low) (suc hi) es)
+      (next-is (s .low) (suc upper) es)
 
-  pub cut-uncut : (s : Span) → s ∈ cutAll lo hi es → (c : ℕ) → Cut es c → s .low < c → s .high < c
+  pub cut-uncut : (s : Span) → s ∈ cutAll lower upper es → (c : ℕ) → Cut es c → s .low < c → s .high < c
   cut-uncut s m c (e, i, k) l =
-      let n = nextCut (s .low) (suc hi) es in
+      let n = nextCut (s .low) (suc upper) es in
       let f = cut-stretch s m .ends in
-      let z = next-cuts (s .low) (suc hi) i in
+      let z = next-cuts (s .low) (suc upper) i in
       ⊎-elim
       (λ (q : c ≡ e .first). ⊎-elim (λ (h : e .first ≤ s .low). absurd (omega arith)) (λ (h : n ≤ e .first). omega arith) (z .0))
       (λ (q : c ≡ suc (e .last)). ⊎-elim (λ (h : suc (e .last) ≤ s .low). absurd (omega arith)) (λ (h : n ≤ suc (e .last)). omega arith) (z .1))
       k
 
-  pub cut-alike : (s : Span) → s ∈ cutAll lo hi es → (x : ℕ) → s .low ≤ x → x ≤ s .high → (e : Transition) → e ∈ es → holds x e ≡ holds (s .low) e
-  cut-alike s m = stretch-alike (suc hi) es lo s (cut-stretch s m)
+  pub cut-alike : (s : Span) → s ∈ cutAll lower upper es → (x : ℕ) → s .low ≤ x → x ≤ s .high → (e : Transition) → e ∈ es → holds x e ≡ holds (s .low) e
+  cut-alike s m = stretch-alike (suc upper) es lower s (cut-stretch s m)
 
   -- the span that holds a symbol
   pub record Containing (a : ℕ) : Type 0 where
     pub span : Span
-    pub «in» : span ∈ cutAll lo hi es
+    pub «in» : span ∈ cutAll lower upper es
     pub low : span .low ≤ a
     pub high : a ≤ span .high
-    pub only : keep (inside a) (cutAll lo hi es) ≡ span ∷ []
+    pub only : filter (inside a) (cutAll lower upper es) ≡ span ∷ []
 
-  pub containing : (a : ℕ) → lo ≤ a → a ≤ hi → Containing a
+  pub containing : (a : ℕ) → lower ≤ a → a ≤ upper → Containing a
   unfolding inside
   containing a l u =
-      let r = cut-one hi es lo a l u in
+      let r = cut-one upper es lower a l u in
       let s = r .0 in
-      let m = keep-out (inside a) s (cutAll lo hi es) (rw (r .1) (List·Memᴰ·head refl)) in
+      let m = filter-out (inside a) s (cutAll lower upper es) (rw (r .1) (List·Memᴰ·head refl)) in
       let i = and-parts (leb (s .low) a) _ (m .1) in
       record { span = s; «in» = m .0; low = leb-true _ _ (i .0); high = leb-true _ _ (i .1); only = r .1 }

@@ -11,7 +11,7 @@ use mathlib.Core.Path.{_≡_}
 use Rattle.lists.specs.Lists.{_∈_}
 use Rattle.automata.specs.Automaton.{Transition}
 use Rattle.ranges.specs.Span.{Span, Inside, InsideAny, intersectRanges, overlapping, Shared}
-use Rattle.ranges.specs.Missing.{missing, Holes, Sorted}
+use Rattle.ranges.specs.Missing.{missing, Holes, SortedRanges}
 use Rattle.ranges.proofs.Missing
 use Rattle.ranges.proofs.Overlap
 use Rattle.ranges.proofs.Separate
@@ -21,13 +21,13 @@ pub intersect-exact : (s t : Span) (x : ℕ) → (Inside x s × Inside x t) ↔ 
 intersect-exact = Overlap.intersect-exact
 
 -- sorted ranges overlap exactly when two different ones hold the same symbol
-pub overlap-shared : (es : List Transition) → Sorted es → (overlapping es ≡ true) ↔ Shared es
+pub overlap-shared : (es : List Transition) → SortedRanges es → (overlapping es ≡ true) ↔ Shared es
 overlap-shared = Overlap.overlap-shared
 
--- the spans that `missing` gives are the maximal runs of symbols from lo to hi that no range holds, ascending
-pub missing-holes : (lo hi : ℕ) (es : List Transition) → ((e : Transition) → e ∈ es → e .first ≤ e .last) → Holes lo hi es (missing lo hi es)
+-- the spans that `missing` gives are the maximal runs of symbols from lower to upper that no range holds, ascending
+pub missing-holes : (lower upper : ℕ) (es : List Transition) → ((e : Transition) → e ∈ es → e .first ≤ e .last) → Holes lower upper es (missing lower upper es)
 missing-holes = Missing.missing-holes
 
 -- two lists of these runs are the same
-pub holes-unique : (lo hi : ℕ) (es : List Transition) (hs ks : List Span) → Holes lo hi es hs → Holes lo hi es ks → hs ≡ ks
+pub holes-unique : (lower upper : ℕ) (es : List Transition) (hs ks : List Span) → Holes lower upper es hs → Holes lower upper es ks → hs ≡ ks
 holes-unique = Separate.holes-unique

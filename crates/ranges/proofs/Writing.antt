@@ -10,7 +10,7 @@ use lib.ListN.{length, getD, drop, length-append}
 use lib.Seq.{sets, length-sets}
 use Rattle.lists.proofs.Parts.{sets-append}
 use Rattle.ranges.specs.Span.{Span}
-use Rattle.ranges.specs.Missing.{missing, Sorted}
+use Rattle.ranges.specs.Missing.{missing, SortedRanges}
 use Rattle.ranges.specs.inner.Missing.{gap, scan, spanWords}
 use Rattle.ranges.proofs.Missing.{missing-scan}
 use Rattle.ranges.proofs.Runs.{rangesIn, ranges-at, ranges-skip, ranges-end}
@@ -60,36 +60,36 @@ pub holes-room : (s h h′ : List ℕ) (n n′ a b at : ℕ) → 5 ≤ length s 
 holes-room s h h′ n n′ a b at p r w m = omega (arith, gap-short a b, ap length w ∙ length-sets h (2 * n) (spanWords (gap a b)))
 
 -- the holes: those from `cursor` on in the ranges from `at` on are left
-module _ (s h₀ : List ℕ) (lo hi : ℕ) where
+module _ (s h₀ : List ℕ) (lower upper : ℕ) where
   abbrev pub HolesLeft : List ℕ → ℕ → ℕ → ℕ → Type 0
-  HolesLeft h cursor n at = Left h₀ (scan lo hi (rangesIn s)) h n (scan cursor hi (rangesIn (drop at s)))
+  HolesLeft h cursor n at = Left h₀ (scan lower upper (rangesIn s)) h n (scan cursor upper (rangesIn (drop at s)))
 
-  pub holes-start : HolesLeft h₀ lo 0 0
-  holes-start = left-start h₀ (scan lo hi (rangesIn s))
+  pub holes-start : HolesLeft h₀ lower 0 0
+  holes-start = left-start h₀ (scan lower upper (rangesIn s))
 
   module _ (h : List ℕ) (cursor n at : ℕ) (l : HolesLeft h cursor n at) where
     pub holes-skip : 5 ≤ length s - at → (getD s (at + 1) 0 ≡ 1 → ⊥) → HolesLeft h cursor n (at + 5)
     holes-skip p k = rw (ranges-skip s at p k) at l
 
     module _ (b n′ : ℕ) (h′ : List ℕ) (r : n′ ≡ n + length (gap cursor b)) (w : h′ ≡ sets h (2 * n) (spanWords (gap cursor b))) where
-      pub holes-next : 5 ≤ length s - at → getD s (at + 1) 0 ≡ 1 → b ≡ min (getD s (at + 2) 0) (hi + 1) → (cursor′ : ℕ) → cursor′ ≡ max cursor (getD s (at + 3) 0 + 1)
+      pub holes-next : 5 ≤ length s - at → getD s (at + 1) 0 ≡ 1 → b ≡ min (getD s (at + 2) 0) (upper + 1) → (cursor′ : ℕ) → cursor′ ≡ max cursor (getD s (at + 3) 0 + 1)
           → HolesLeft h′ cursor′ n′ (at + 5)
       unfolding scan
-      holes-next p k e cursor′ f = left-more (gap cursor b) (scan cursor′ hi (rangesIn (drop (at + 5) s))) (rw step at l) h′ n′ r w
+      holes-next p k e cursor′ f = left-more (gap cursor b) (scan cursor′ upper (rangesIn (drop (at + 5) s))) (rw step at l) h′ n′ r w
         where
-          step : scan cursor hi (rangesIn (drop at s)) ≡ gap cursor b ++ scan cursor′ hi (rangesIn (drop (at + 5) s))
-          step = rw (ranges-at s at p k, e, f, add-one hi, add-one (getD s (at + 3) 0))
+          step : scan cursor upper (rangesIn (drop at s)) ≡ gap cursor b ++ scan cursor′ upper (rangesIn (drop (at + 5) s))
+          step = rw (ranges-at s at p k, e, f, add-one upper, add-one (getD s (at + 3) 0))
 
       pub holes-length : length h′ ≡ length h₀
       holes-length = simp length-sets at (ap length w) ∙ (simp length-sets at (ap length (l .words)))
 
-      module _ (p : length s - at < 5) (e : b ≡ hi + 1) (d : Sorted (rangesIn s)) where
-        last-left : Left h₀ (missing lo hi (rangesIn s)) h n (gap cursor b)
+      module _ (p : length s - at < 5) (e : b ≡ upper + 1) (d : SortedRanges (rangesIn s)) where
+        last-left : Left h₀ (missing lower upper (rangesIn s)) h n (gap cursor b)
         unfolding scan
-        last-left = rw (missing-scan lo hi (rangesIn s) d, e, add-one hi) (rw (ranges-end s at p) at l)
+        last-left = rw (missing-scan lower upper (rangesIn s) d, e, add-one upper) (rw (ranges-end s at p) at l)
 
-        pub holes-count : n′ ≡ length (missing lo hi (rangesIn s))
+        pub holes-count : n′ ≡ length (missing lower upper (rangesIn s))
         holes-count = r ∙ last-left .count
 
-        pub holes-words : h′ ≡ sets h₀ 0 (spanWords (missing lo hi (rangesIn s)))
+        pub holes-words : h′ ≡ sets h₀ 0 (spanWords (missing lower upper (rangesIn s)))
         holes-words = w ∙ last-left .words

@@ -1,4 +1,4 @@
--- Spans between cuts (document 01, "Determinizing"): the cuts are every first and every last plus 1. `lo` and `hi` are the least and the greatest symbol.
+-- Spans between cuts (document 01, "Determinizing"): the cuts are every first and every last plus 1. `lower` and `upper` are the least and the greatest symbol.
 use Prim.Native.Nat.{ℕ, zero, suc, _-_}
 use mathlib.Core.Bool.{cond}
 use mathlib.Core.List.{List, [], _∷_}
@@ -29,6 +29,6 @@ spans (suc n) a top es =
     let more : List Span = record { low = a; high = nextCut a top es - 1 } ∷ spans n (nextCut a top es) top es in
     cond (ltb a top) more []
 
--- the spans between cuts from lo to hi
+-- the spans between cuts from lower to upper
 unfoldable pub cutAll : ℕ → ℕ → List Transition → List Span
-cutAll lo hi es = spans (suc hi - lo) lo (suc hi) es
+cutAll lower upper es = spans (suc upper - lower) lower (suc upper) es

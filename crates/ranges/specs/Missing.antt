@@ -1,10 +1,10 @@
--- The symbols from lo to hi that no range holds (document 01, "Ranges"), as spans: by cuts, by their properties, and by one pass over sorted ranges.
+-- The symbols from lower to upper that no range holds (document 01, "Ranges"), as spans: by cuts, by their properties, and by one pass over sorted ranges.
 use Prim.Native.Nat.{ℕ, suc, _≤_, _<_}
 use mathlib.Core.Bool.{Bool, false, not}
 use mathlib.Core.List.{List}
 use mathlib.Core.Logic.{_↔_}
 use mathlib.Core.Path.{_≡_}
-use Rattle.lists.specs.Lists.{_∈_, any, keep, Ascending}
+use Rattle.lists.specs.Lists.{_∈_, any, filter, Ascending}
 use Rattle.automata.specs.Automaton.{Transition, holds}
 use Rattle.ranges.specs.Span.{Span, Inside}
 use Rattle.ranges.specs.Cuts.{cutAll}
@@ -15,27 +15,27 @@ covered es s = any (holds (s .low)) es
 
 -- the spans between cuts that no range holds
 unfoldable pub missing : ℕ → ℕ → List Transition → List Span
-missing lo hi es = keep (λ s. not (covered es s)) (cutAll lo hi es)
+missing lower upper es = filter (λ s. not (covered es s)) (cutAll lower upper es)
 
 -- no range holds the symbol x
 abbrev pub Free : ℕ → List Transition → Type 0
 Free x es = (e : Transition) → e ∈ es → holds x e ≡ false
 
 -- the symbol x lies in one of the spans
-abbrev pub Within : ℕ → List Span → Type 0
-Within x hs = (s : Span) × s ∈ hs × Inside x s
+abbrev pub InSomeSpan : ℕ → List Span → Type 0
+InSomeSpan x hs = (s : Span) × s ∈ hs × Inside x s
 
 -- a symbol stands between s and t
-abbrev pub Apart : Span → Span → Type 0
-Apart s t = suc (s .high) < t .low
+abbrev pub SpansApart : Span → Span → Type 0
+SpansApart s t = suc (s .high) < t .low
 
 -- the maximal runs of symbols that no range holds, ascending: since the spans are apart and hold every such symbol, none can be longer
-pub record Holes (lo hi : ℕ) (es : List Transition) (hs : List Span) : Type 0 where
-  pub ascends : Ascending Apart hs
+pub record Holes (lower upper : ℕ) (es : List Transition) (hs : List Span) : Type 0 where
+  pub ascends : Ascending SpansApart hs
   pub full : (s : Span) → s ∈ hs → s .low ≤ s .high
-  pub exact : (x : ℕ) → Within x hs ↔ ((lo ≤ x) × (x ≤ hi) × Free x es)
+  pub exact : (x : ℕ) → InSomeSpan x hs ↔ ((lower ≤ x) × (x ≤ upper) × Free x es)
 
 -- sorted by first, and none empty
-pub record Sorted (es : List Transition) : Type 0 where
+pub record SortedRanges (es : List Transition) : Type 0 where
   pub rises : Ascending (λ d e. d .first ≤ e .first) es
   pub full : (e : Transition) → e ∈ es → e .first ≤ e .last

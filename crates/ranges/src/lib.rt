@@ -7,7 +7,7 @@ ghost use lib.Seq.{sets};
 ghost use Rattle.automata.specs.Automaton.{rangesOf};
 ghost use Rattle.automata.specs.Records.{readRecords};
 ghost use Rattle.ranges.specs.Span.{intersectRanges, spanOf, startsBelow, overlapping};
-ghost use Rattle.ranges.specs.Missing.{Sorted, missing};
+ghost use Rattle.ranges.specs.Missing.{SortedRanges, missing};
 ghost use Rattle.ranges.specs.inner.Missing.{gap, spanWords};
 
 // The common symbols of two ranges.
@@ -126,7 +126,7 @@ fn add_gap(holes: &mut [u32], n: usize, from: u64, to: u64) -> usize
 // Writes low and high of each hole that the run's ranges leave from lower to upper at the front of holes; answers how many holes there are.
 // There is room for two words for each record of five, and two more.
 pub fn missing_ranges(run: &[u32], lower: u32, upper: u32, holes: &mut [u32]) -> usize
-    requires { ⌜ Sorted (rangesOf (readRecords (now run))) × (2 * length (now run) + 10 ≤ 5 * length (now holes)) ⌝ }
+    requires { ⌜ SortedRanges (rangesOf (readRecords (now run))) × (2 * length (now run) + 10 ≤ 5 * length (now holes)) ⌝ }
     ensures count { λ r. ⌜ r ≡ length (missing lower upper (rangesOf (readRecords (now (run .entry))))) ⌝ }
     ensures written { λ r. ⌜ now (holes .exit) ≡ sets (now (holes .entry)) 0 (spanWords (missing lower upper (rangesOf (readRecords (now (run .entry)))))) ⌝ }
 {

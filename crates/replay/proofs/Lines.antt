@@ -14,7 +14,7 @@ use Rattle.replay.specs.declared.Longer.{Longer}
 use Rattle.replay.specs.declared.Longer.the-variants.{Value, Nothing}
 use Rattle.replay.specs.declared.Numbers.{Numbers}
 use Rattle.replay.specs.declared.Numbers.the-variants.{Stored, TooMany, Malformed}
-use Rattle.replay.specs.Lines.{Line, withDigit, ended, behind, lineFrom, lineAt, told, answer}
+use Rattle.replay.specs.Lines.{NumberLine, withDigit, ended, behind, lineFrom, lineAt, told, answer}
 
 -- a number that no digits say, one for which there is no room, and one that is stored
 module _ (l : List ℕ) (n v : ℕ) (b : Bool) where
@@ -34,16 +34,16 @@ pub record Outcome : Type 0 where
   pub place : ℕ
   pub whole : Bool
 
-unfoldable pub outcome : List ℕ → ℕ → ℕ → Line → Outcome
+unfoldable pub outcome : List ℕ → ℕ → ℕ → NumberLine → Outcome
 outcome out n i l = record { memory = sets out n (l .numbers); count = n + length (l .numbers); place = i + l .size; whole = l .whole }
 
 -- a byte that is passed
-outcome-passed : (out : List ℕ) (n i : ℕ) (l : Line) → outcome out n (i + 1) l ≡ outcome out n i (behind false 0 l)
+outcome-passed : (out : List ℕ) (n i : ℕ) (l : NumberLine) → outcome out n (i + 1) l ≡ outcome out n i (behind false 0 l)
 unfolding outcome
 outcome-passed out n i l = let d : i + 1 + l .size ≡ i + suc (l .size) = omega arith in cc
 
 -- and the number that it ends
-outcome-behind : (out : List ℕ) (n i v : ℕ) (b : Bool) (l : Line)
+outcome-behind : (out : List ℕ) (n i v : ℕ) (b : Bool) (l : NumberLine)
     → outcome (sets out n (ended b v [])) (n + length (ended b v [])) (i + 1) l ≡ outcome out n i (behind b v l)
 unfolding outcome
 outcome-behind out n i v true l =
@@ -81,7 +81,7 @@ module _ (s : List ℕ) (i v : ℕ) (b : Bool) where
 reply : ℕ → Outcome → Numbers
 reply room o = cond (o .whole) (told room (o .count) (o .place)) Malformed
 
-answer-reply : (room at : ℕ) (out : List ℕ) (l : Line) → reply room (outcome out 0 at l) ≡ answer room at l
+answer-reply : (room at : ℕ) (out : List ℕ) (l : NumberLine) → reply room (outcome out 0 at l) ≡ answer room at l
 unfolding reply answer outcome
 answer-reply room at out l = let a : 0 + length (l .numbers) ≡ length (l .numbers) = omega arith in cc
 
@@ -97,12 +97,12 @@ module _ (out₀ s out : List ℕ) (at n v i : ℕ) (b : Bool) (e : outcome out 
       (l : lineFrom b v (drop i s) ≡ record { numbers = ended b v []; size = z; whole = true }) where
     last-stored : m ≡ sets out₀ 0 (lineAt s at .numbers)
     unfolding outcome
-    last-stored = r ∙ ap (λ (x : Line). sets out n (x .numbers)) (sym l) ∙ ap (λ (o : Outcome). o .memory) e
+    last-stored = r ∙ ap (λ (x : NumberLine). sets out n (x .numbers)) (sym l) ∙ ap (λ (o : Outcome). o .memory) e
 
     last-answer : (t : Numbers) (room to : ℕ) → t ≡ told room k to → to ≡ i + z → t ≡ answer room at (lineAt s at)
     unfolding reply outcome
     last-answer t room to f g =
-        f ∙ ap (told room k) g ∙ ap (λ (j : ℕ). told room j (i + z)) q ∙ ap (λ (x : Line). reply room (outcome out n i x)) (sym l) ∙ ap (reply room) e
+        f ∙ ap (told room k) g ∙ ap (λ (j : ℕ). told room j (i + z)) q ∙ ap (λ (x : NumberLine). reply room (outcome out n i x)) (sym l) ∙ ap (reply room) e
         ∙ answer-reply room at out₀ (lineAt s at)
 
   -- the end of the text
@@ -126,7 +126,7 @@ module _ (out₀ s out : List ℕ) (at n v i : ℕ) (b : Bool) (e : outcome out 
       pub line-blank : (m : List ℕ) (k : ℕ) → getD s i 0 ≡ 32 → k ≡ n + length (ended b v []) → m ≡ sets out n (ended b v [])
           → outcome m k (i + 1) (lineFrom false 0 (drop (i + 1) s)) ≡ outcome out₀ 0 at (lineAt s at)
       line-blank m k p q r =
-          let l : Line = lineFrom false 0 (drop (i + 1) s) in
+          let l : NumberLine = lineFrom false 0 (drop (i + 1) s) in
           rw (q, r) (outcome-behind out n i v b l) ∙ ap (outcome out n i) (sym (from-blank s i v b h other p)) ∙ e
 
       module _ (x : Longer) (p : getD s i 0 ≡ 32 → ⊥) (q : x ≡ withDigit v (getD s i 0)) where
@@ -137,12 +137,12 @@ module _ (out₀ s out : List ℕ) (at n v i : ℕ) (b : Bool) (e : outcome out 
         -- another byte, or a number that is no word
         pub other-stored : x ≡ Nothing → out ≡ sets out₀ 0 (lineAt s at .numbers)
         unfolding outcome
-        other-stored r = ap (λ (l : Line). sets out n (l .numbers)) (sym (from-other s i v b h other p (sym q ∙ r))) ∙ ap (λ (o : Outcome). o .memory) e
+        other-stored r = ap (λ (l : NumberLine). sets out n (l .numbers)) (sym (from-other s i v b h other p (sym q ∙ r))) ∙ ap (λ (o : Outcome). o .memory) e
 
         pub other-answer : x ≡ Nothing → (room : ℕ) → Malformed ≡ answer room at (lineAt s at)
         unfolding reply outcome
         other-answer r room =
-            ap (λ (l : Line). reply room (outcome out n i l)) (sym (from-other s i v b h other p (sym q ∙ r))) ∙ ap (reply room) e ∙ answer-reply room at out₀ (lineAt s at)
+            ap (λ (l : NumberLine). reply room (outcome out n i l)) (sym (from-other s i v b h other p (sym q ∙ r))) ∙ ap (reply room) e ∙ answer-reply room at out₀ (lineAt s at)
 
 -- at most one number ends at a byte, so that there are no more numbers than bytes
 pub few-more : (n k v i z : ℕ) (b : Bool) → n + (z - i) ≤ z → i < z → k ≡ n + length (ended b v []) → k + (z - (i + 1)) ≤ z
@@ -158,18 +158,18 @@ pub ruleset otherLaws = (other-answer, other-stored, needs)
 pub ruleset lineLaws = (line-begun, line-blank, line-digit, few-more, needs)
 
 -- what the answer says of a line that was stored
-pub record Told (room at : ℕ) (l : Line) (n to : ℕ) : Type 0 where
+pub record LineStored (room at : ℕ) (l : NumberLine) (n to : ℕ) : Type 0 where
   pub whole : l .whole ≡ true
   pub count : n ≡ length (l .numbers)
   pub place : to ≡ at + l .size
   pub fits : n ≤ room
 
-pub line-told : (room at n to : ℕ) (l : Line) (r : Numbers) → r ≡ answer room at l → r ≡ Stored n to → Told room at l n to
+pub line-told : (room at n to : ℕ) (l : NumberLine) (r : Numbers) → r ≡ answer room at l → r ≡ Stored n to → LineStored room at l n to
 unfolding answer
 line-told room at n to l r e f = go (l .whole) (ltb room (length (l .numbers))) refl refl (sym e ∙ f)
   where
     go : (w t : Bool) → l .whole ≡ w → ltb room (length (l .numbers)) ≡ t → cond w (cond t TooMany (Stored (length (l .numbers)) (at + l .size))) Malformed ≡ Stored n to
-        → Told room at l n to
+        → LineStored room at l n to
     go true false p q g =
         let c : n ≡ length (l .numbers) = cc in
         record { whole = p; count = c; place = cc; fits = omega (arith, ltb-false room (length (l .numbers)) q) }
@@ -177,12 +177,12 @@ line-told room at n to l r e f = go (l .whole) (ltb room (length (l .numbers))) 
     go false t p q g = let z : _≡_ {A = ℕ} 0 1 = cc in absurd (omega arith)
 
 -- the numbers of such a line are the first part of the memory
-pub line-part : (room at n to : ℕ) (out : List ℕ) (l : Line) → Told room at l n to → length out ≡ room → take n (sets out 0 (l .numbers)) ≡ l .numbers
+pub line-part : (room at n to : ℕ) (out : List ℕ) (l : NumberLine) → LineStored room at l n to → length out ≡ room → take n (sets out 0 (l .numbers)) ≡ l .numbers
 line-part room at n to out l t e =
     ap (take n) (sets-eq (l .numbers) out 0 (omega (arith, t .count, t .fits))) ∙ take-at (l .numbers) (drop (0 + length (l .numbers)) out) n (sym (t .count))
 
 -- so many of them stand at the front of memory of that length
-module _ (r : Numbers) (at n to : ℕ) (out m : List ℕ) (l : Line) (e : r ≡ answer (length out) at l) (f : r ≡ Stored n to) (k : length m ≡ length out) where
+module _ (r : Numbers) (at n to : ℕ) (out m : List ℕ) (l : NumberLine) (e : r ≡ answer (length out) at l) (f : r ≡ Stored n to) (k : length m ≡ length out) where
   pub case-within : n ≤ length m
   case-within = omega (arith, line-told (length out) at n to l r e f .fits)
 

@@ -10,7 +10,7 @@ use Rattle.replay.specs.declared.Numbers.{Numbers}
 use Rattle.replay.specs.declared.Numbers.the-variants.{Stored, TooMany, Malformed}
 
 -- the numbers of a line, how many bytes it takes with its line feed, and whether it could be read
-pub record Line : Type 0 where
+pub record NumberLine : Type 0 where
   pub numbers : List ℕ
   pub size : ℕ
   pub whole : Bool
@@ -29,11 +29,11 @@ ended true v ns = v ∷ ns
 ended false v ns = ns
 
 -- a line whose first byte is passed; that byte ends the number v, if digits say it
-abbrev pub behind : Bool → ℕ → Line → Line
+abbrev pub behind : Bool → ℕ → NumberLine → NumberLine
 behind begun v l = record { numbers = ended begun v (l .numbers); size = suc (l .size); whole = l .whole }
 
 -- the line at the front of a text; `begun` tells whether digits stand directly before, and they say v
-unfoldable pub lineFrom : Bool → ℕ → List ℕ → Line
+unfoldable pub lineFrom : Bool → ℕ → List ℕ → NumberLine
 lineFrom begun v [] = record { numbers = ended begun v []; size = 0; whole = true }
 lineFrom begun v (b ∷ bs) =
     cond (eqb b 10) (record { numbers = ended begun v []; size = 1; whole = true })
@@ -41,7 +41,7 @@ lineFrom begun v (b ∷ bs) =
     (elim (withDigit v b) [ Value w ↦ behind false 0 (lineFrom true w bs) | Nothing ↦ record { numbers = []; size = 0; whole = false } ]))
 
 -- the line at a place of a text
-unfoldable pub lineAt : List ℕ → ℕ → Line
+unfoldable pub lineAt : List ℕ → ℕ → NumberLine
 lineAt s at = lineFrom false 0 (drop at s)
 
 -- the answer for n numbers up to a place, where there is room for some
@@ -49,5 +49,5 @@ abbrev pub told : ℕ → ℕ → ℕ → Numbers
 told room n to = cond (ltb room n) TooMany (Stored n to)
 
 -- the answer for a line
-unfoldable pub answer : ℕ → ℕ → Line → Numbers
+unfoldable pub answer : ℕ → ℕ → NumberLine → Numbers
 answer room at l = cond (l .whole) (told room (length (l .numbers)) (at + l .size)) Malformed

@@ -18,7 +18,7 @@ use Rattle.lists.proofs.Written.{written-length}
 use Rattle.refusal.specs.declared.InputRefusal.{InputRefusal}
 use Rattle.refusal.specs.Number.{inputNumber}
 use Rattle.replay.specs.Cases.{listAt, isLast, bytesBefore}
-use Rattle.words.specs.Acceptance.{acceptsText, answerOf}
+use Rattle.words.specs.Acceptance.{acceptsTextAnswer, acceptanceOf}
 use Rattle.words.specs.declared.Acceptance.{Acceptance}
 use Rattle.replay_all.specs.Decided.{labelsCase, accepted, textCase}
 
@@ -55,7 +55,7 @@ labels-none s h = sym (rw (eq-eqb (length s) 0 h))
 
 -- the text of a case
 module _ (s x y : List ℕ) (l : x ≡ listAt s 0) (k : y ≡ listAt s (1 + length x)) (n : ℕ) (q : n ≡ bytesBefore (take 1024 y)) where
-  text-by : textCase s ≡ cond (eqb n (length y)) (accepted s (1 + length x + 1 + length y) (acceptsText x y)) false
+  text-by : textCase s ≡ cond (eqb n (length y)) (accepted s (1 + length x + 1 + length y) (acceptsTextAnswer x y)) false
   unfolding textCase
   text-by = rw (← l, ← k, ← q)
 
@@ -63,9 +63,9 @@ module _ (s x y : List ℕ) (l : x ≡ listAt s 0) (k : y ≡ listAt s (1 + leng
   text-other h = sym (text-by ∙ rw (ne-eqb n (length y) h))
 
   pub text-told : n ≡ length y → (z m : List ℕ) → Written z 0 (take n y) m n → n ≤ length m → (a : Acceptance) (b : Bool)
-      → b ≡ accepted s (1 + length x + 1 + length y) (answerOf a) → answerOf a ≡ acceptsText x (take n m) → b ≡ textCase s
+      → b ≡ accepted s (1 + length x + 1 + length y) (acceptanceOf a) → acceptanceOf a ≡ acceptsTextAnswer x (take n m) → b ≡ textCase s
   text-told h z m w g a b p e =
-      p ∙ ap (accepted s (1 + length x + 1 + length y)) (e ∙ ap (acceptsText x) (bytes-all z m y n w h g)) ∙ sym (text-by ∙ rw (eq-eqb n (length y) h))
+      p ∙ ap (accepted s (1 + length x + 1 + length y)) (e ∙ ap (acceptsTextAnswer x) (bytes-all z m y n w h g)) ∙ sym (text-by ∙ rw (eq-eqb n (length y) h))
 
 pub ruleset labelLaws = (labels-none, labels-other, labels-accepted, labels-refused, needs)
 

@@ -8,7 +8,7 @@ use borrow.Author.Needs.{needs}
 use borrow.Author.Tests.{eq-eqb, ne-eqb, lt-ltb, le-ltb, le-leb, lt-leb}
 use lib.Dec.{eqb, ltb, leb}
 use lib.ListN.{length, getD, take}
-use Rattle.determinize.specs.Sheets.{determinizeSheet}
+use Rattle.determinize.specs.Sheets.{determinizeAnswer}
 use Rattle.epsilon.specs.Eliminate.{eliminateAnswer}
 use Rattle.lists.specs.Written.{Written}
 use Rattle.output.specs.declared.Made.{Made}
@@ -17,8 +17,8 @@ use Rattle.output.specs.Output.{Output, outputs, roomFirst}
 use Rattle.parser.specs.declared.Parsed.{Parsed}
 use Rattle.parser.specs.declared.Parsed.the-variants as parsing
 use Rattle.parser.specs.Parsed.{parsed, parsedOf}
-use Rattle.parser.specs.Pattern.{parse}
-use Rattle.product.specs.Product.{intersection}
+use Rattle.parser.specs.Pattern.{parseAnswer}
+use Rattle.product.specs.Product.{intersectionAnswer}
 use Rattle.refusal.specs.declared.Decision.{Decision}
 use Rattle.refusal.specs.Decision.{decisionOf}
 use Rattle.refusal.specs.declared.Refusal.{Refusal}
@@ -34,11 +34,11 @@ use Rattle.replay_all.proofs.Bytes.{bytes-all}
 
 -- one sheet, or two
 module _ (s x : List ℕ) (lx : x ≡ listAt s 0) (o l : List ℕ) (a : Made) (b : Bool) where
-  pub determinize-told : outputOf a o l ≡ outputs words bytes (determinizeSheet x words bytes) → b ≡ isOutcome s (1 + length x) (outputOf a o l) → b ≡ determinizeCase s
+  pub determinize-told : outputOf a o l ≡ outputs words bytes (determinizeAnswer x words bytes) → b ≡ isOutcome s (1 + length x) (outputOf a o l) → b ≡ determinizeCase s
   unfolding determinizeCase
   determinize-told e p = p ∙ ap (isOutcome s (1 + length x)) e ∙ rw lx
 
-  pub product-told : (y : List ℕ) → y ≡ listAt s (1 + length x) → outputOf a o l ≡ outputs words bytes (roomFirst words bytes (intersection x y))
+  pub product-told : (y : List ℕ) → y ≡ listAt s (1 + length x) → outputOf a o l ≡ outputs words bytes (roomFirst words bytes (intersectionAnswer x y))
       → b ≡ isOutcome s (1 + length x + 1 + length y) (outputOf a o l) → b ≡ productCase s
   unfolding productCase
   product-told y ly e p = p ∙ ap (isOutcome s (1 + length x + 1 + length y)) e ∙ rw (ly, lx)
@@ -123,7 +123,7 @@ module _ (s : List ℕ) (at : ℕ) (a : Parsed) (o l : List ℕ) where
 
 -- a text
 module _ (s x : List ℕ) (lx : x ≡ listAt s 0) (n : ℕ) (q : n ≡ bytesBefore (take 4096 x)) where
-  parse-by : parseCase s ≡ cond (eqb n (length x)) (isReading s (1 + length x) (parsed words bytes (roomFirst words bytes (parse x)))) false
+  parse-by : parseCase s ≡ cond (eqb n (length x)) (isReading s (1 + length x) (parsed words bytes (roomFirst words bytes (parseAnswer x)))) false
   unfolding parseCase
   parse-by = rw (← lx, ← q)
 
@@ -131,9 +131,9 @@ module _ (s x : List ℕ) (lx : x ≡ listAt s 0) (n : ℕ) (q : n ≡ bytesBefo
   parse-other h = sym (parse-by ∙ rw (ne-eqb n (length x) h))
 
   pub parse-told : n ≡ length x → (z m : List ℕ) → Written z 0 (take n x) m n → n ≤ length m → (o l : List ℕ) (a : Parsed) (b : Bool)
-      → parsedOf a o l ≡ parsed words bytes (roomFirst words bytes (parse (take n m))) → b ≡ isReading s (1 + length x) (parsedOf a o l) → b ≡ parseCase s
+      → parsedOf a o l ≡ parsed words bytes (roomFirst words bytes (parseAnswer (take n m))) → b ≡ isReading s (1 + length x) (parsedOf a o l) → b ≡ parseCase s
   parse-told h z m w g o l a b e p =
-      p ∙ ap (isReading s (1 + length x)) (e ∙ ap (λ (v : List ℕ). parsed words bytes (roomFirst words bytes (parse v))) (bytes-all z m x n w h g))
+      p ∙ ap (isReading s (1 + length x)) (e ∙ ap (λ (v : List ℕ). parsed words bytes (roomFirst words bytes (parseAnswer v))) (bytes-all z m x n w h g))
       ∙ sym (parse-by ∙ rw (eq-eqb n (length x) h))
 
 -- two sheets and their labels

@@ -13,7 +13,7 @@ use Rattle.replay.specs.declared.Numbers.the-variants.{Stored, TooMany, Malform
 use Rattle.replay.specs.declared.Tally.{Tally}
 use Rattle.replay.specs.Counting.{caseOf, caseAt, begun, tallied}
 use Rattle.replay.specs.Lines.{answer, lineAt}
-use Rattle.replay.proofs.Lines.{Told, line-told, line-part}
+use Rattle.replay.proofs.Lines.{LineStored, line-told, line-part}
 use Rattle.replay_all.specs.declared.Kind.{Kind}
 use Rattle.replay_all.specs.declared.Kind.the-variants as kind
 use Rattle.replay_all.specs.declared.operations.Operation.the-variants.{Totalize, Complement, EpsilonEliminate}
@@ -106,7 +106,7 @@ part-at out s at room l = go (answer room at (lineAt s at)) refl
   where
     go : (r : Numbers) → r ≡ answer room at (lineAt s at) → take (caseOf at r .count) (sets out 0 (lineAt s at .numbers)) ≡ take (caseOf at r .count) (lineAt s at .numbers)
     go (Stored n to) e =
-        let t : Told room at (lineAt s at) n to = line-told room at n to (lineAt s at) (Stored n to) e refl in
+        let t : LineStored room at (lineAt s at) n to = line-told room at n to (lineAt s at) (Stored n to) e refl in
         line-part room at n to out (lineAt s at) t l ∙ sym (take-all n (lineAt s at .numbers) (omega (arith, t .count)))
     go TooMany e = refl
     go Malformed e = refl

@@ -19,25 +19,25 @@ use Rattle.sheets.specs.declared.Checked.{Checked}
 use Rattle.sheets.specs.declared.Checked.the-variants as checked
 use Rattle.sheets.specs.Fault.{fault}
 use Rattle.totality.specs.Answers.{isNfaAnswer}
-use Rattle.words.specs.Acceptance.{acceptsWords, answerOf}
+use Rattle.words.specs.Acceptance.{acceptsWordsAnswer, acceptanceOf}
 use Rattle.words.specs.declared.Acceptance.{Acceptance}
 use Rattle.words.specs.declared.Acceptance.the-variants as acceptance
 use Rattle.replay_all.specs.Decided.{sheetCase, accepted, wordCase, decided, nfaCase, nonemptyCase, equivalentCase}
 
 -- the answer of acceptance
 module _ (s : List ℕ) (at : ℕ) (a : Acceptance) where
-  pub accepted-kind : (b : Bool) (k : ℕ) → a ≡ acceptance.Kind k → b ≡ isLast s at k → b ≡ accepted s at (answerOf a)
+  pub accepted-kind : (b : Bool) (k : ℕ) → a ≡ acceptance.Kind k → b ≡ isLast s at k → b ≡ accepted s at (acceptanceOf a)
   unfolding accepted
-  accepted-kind b k e h = h ∙ ap (λ (x : Acceptance). accepted s at (answerOf x)) (sym e)
+  accepted-kind b k e h = h ∙ ap (λ (x : Acceptance). accepted s at (acceptanceOf x)) (sym e)
 
   module _ (i : InputRefusal) (n : ℕ) (e : a ≡ acceptance.Refused i) (p : n ≡ inputNumber i) where
-    pub accepted-malformed : (b : Bool) → n ≡ 9 → b ≡ isLast s at 9 → b ≡ accepted s at (answerOf a)
+    pub accepted-malformed : (b : Bool) → n ≡ 9 → b ≡ isLast s at 9 → b ≡ accepted s at (acceptanceOf a)
     unfolding accepted
-    accepted-malformed b q h = h ∙ sym (ap (λ (x : Acceptance). accepted s at (answerOf x)) e ∙ rw (eq-eqb (inputNumber i) 9 (sym p ∙ q)))
+    accepted-malformed b q h = h ∙ sym (ap (λ (x : Acceptance). accepted s at (acceptanceOf x)) e ∙ rw (eq-eqb (inputNumber i) 9 (sym p ∙ q)))
 
-    pub accepted-refused : (n ≡ 9 → ⊥) → false ≡ accepted s at (answerOf a)
+    pub accepted-refused : (n ≡ 9 → ⊥) → false ≡ accepted s at (acceptanceOf a)
     unfolding accepted
-    accepted-refused q = sym (ap (λ (x : Acceptance). accepted s at (answerOf x)) e ∙ rw (ne-eqb (inputNumber i) 9 (λ z. q (p ∙ z))))
+    accepted-refused q = sym (ap (λ (x : Acceptance). accepted s at (acceptanceOf x)) e ∙ rw (ne-eqb (inputNumber i) 9 (λ z. q (p ∙ z))))
 
 -- the answer to a question
 module _ (s : List ℕ) (at : ℕ) (a : Decision) where
@@ -75,7 +75,7 @@ module _ (s x : List ℕ) (l : x ≡ listAt s 0) (b : Bool) where
     nonempty-told h = cc
 
   module _ (y : List ℕ) (k : y ≡ listAt s (1 + length x)) where
-    pub word-told : (a : Acceptance) → b ≡ accepted s (1 + length x + 1 + length y) (answerOf a) → answerOf a ≡ acceptsWords x y → b ≡ wordCase s
+    pub word-told : (a : Acceptance) → b ≡ accepted s (1 + length x + 1 + length y) (acceptanceOf a) → acceptanceOf a ≡ acceptsWordsAnswer x y → b ≡ wordCase s
     unfolding wordCase
     word-told a p h = cc
 

@@ -11,25 +11,25 @@ use lib.ListN.{length, take, replicate}
 use Rattle.automata.specs.WellFormed.{lastSymbol}
 use Rattle.equality.specs.declared.Verdict.{Verdict}
 use Rattle.equality.specs.declared.Verdict.the-variants as verdict
-use Rattle.equality.specs.Equality.{compared, Judged}
+use Rattle.equality.specs.Equality.{equalityAnswer, Judged}
 use Rattle.refusal.specs.declared.InputRefusal.{InputRefusal}
 use Rattle.refusal.specs.declared.Refusal.{Refusal}
 use Rattle.refusal.specs.Number.{numberOf}
 use Rattle.replay.specs.Cases.{listAt, isLast}
-use Rattle.words.specs.Acceptance.{acceptsWords, answerOf}
+use Rattle.words.specs.Acceptance.{acceptsWordsAnswer, acceptanceOf}
 use Rattle.words.specs.declared.Acceptance.{Acceptance}
 use Rattle.words.specs.declared.Acceptance.the-variants as acceptance
 use Rattle.replay_all.specs.Verdicts.{isOne, tellsApart, isTold, lastOf, isVerdict, EqualityCase}
 
 -- whether a sheet accepts a word
-module _ (a w : List ℕ) (r : Acceptance) (h : answerOf r ≡ acceptsWords a w) where
-  pub accepts-kind : (k : ℕ) → r ≡ acceptance.Kind k → eqb k 1 ≡ isOne (acceptsWords a w)
-  accepts-kind k e = ap isOne (sym (ap answerOf e) ∙ h)
+module _ (a w : List ℕ) (r : Acceptance) (h : acceptanceOf r ≡ acceptsWordsAnswer a w) where
+  pub accepts-kind : (k : ℕ) → r ≡ acceptance.Kind k → eqb k 1 ≡ isOne (acceptsWordsAnswer a w)
+  accepts-kind k e = ap isOne (sym (ap acceptanceOf e) ∙ h)
 
-  pub accepts-refused : (i : InputRefusal) → r ≡ acceptance.Refused i → false ≡ isOne (acceptsWords a w)
-  accepts-refused i e = ap isOne (sym (ap answerOf e) ∙ h)
+  pub accepts-refused : (i : InputRefusal) → r ≡ acceptance.Refused i → false ≡ isOne (acceptsWordsAnswer a w)
+  accepts-refused i e = ap isOne (sym (ap acceptanceOf e) ∙ h)
 
-module _ (a b w : List ℕ) (x : Bool) (e : x ≡ isOne (acceptsWords a w)) (y : Bool) (f : y ≡ isOne (acceptsWords b w)) where
+module _ (a b w : List ℕ) (x : Bool) (e : x ≡ isOne (acceptsWordsAnswer a w)) (y : Bool) (f : y ≡ isOne (acceptsWordsAnswer b w)) where
   pub apart-first : x ≡ true → not y ≡ tellsApart a b w
   unfolding tellsApart
   apart-first t = rw (← e, ← f, t)
@@ -82,7 +82,7 @@ module _ (s : List ℕ) (at : ℕ) (a b o : List ℕ) (v : Verdict) where
 pub ruleset verdictLaws = (same-other, same-told, word-long, word-over, word-apart, word-alike, verdict-refused, needs)
 
 -- two sheets
-pub equality-told : (s x y o : List ℕ) (v : Verdict) (r : Bool) → x ≡ listAt s 0 → y ≡ listAt s (1 + length x) → Judged (compared 0 lastSymbol x y (replicate 510 0)) (replicate 510 0) o v
+pub equality-told : (s x y o : List ℕ) (v : Verdict) (r : Bool) → x ≡ listAt s 0 → y ≡ listAt s (1 + length x) → Judged (equalityAnswer 0 lastSymbol x y (replicate 510 0)) (replicate 510 0) o v
     → r ≡ isVerdict s (1 + length x + 1 + length y) x y o v → EqualityCase s r
 equality-told s x y o v r lx ly j p = record { verdict = v; word = o; judged = rw (ly, lx) at j; is = p ∙ rw (ly, lx) }
 

@@ -10,8 +10,8 @@ use lib.Seq.{sets}
 use Rattle.automata.specs.Automaton.{Transition, leaving, rangesOf}
 use Rattle.automata.specs.Records.{readRecords, writeRecords}
 use Rattle.automata.proofs.Records.{read-write, length-write}
-use Rattle.lists.proofs.Lists.{length-keep}
-use Rattle.ranges.specs.Missing.{Sorted}
+use Rattle.lists.proofs.Lists.{length-filter}
+use Rattle.ranges.specs.Missing.{SortedRanges}
 use Rattle.ranges.proofs.Sorting.{leaving-sorted}
 use Rattle.sheets.specs.inner.Accepted.{Accepted}
 use Rattle.sheets.specs.inner.Runs.{startsOf, RunAt}
@@ -25,9 +25,9 @@ module _ (s : List ℕ) (a : Accepted s) where
   pub first-run : (old starts : List ℕ) → starts ≡ sets old 0 (startsOf s) → length old ≡ 257 → RunAt s starts 0
   first-run old starts e l = run-at s a starts 0 (starts-indexed s old starts e (omega (arith, a .few-states))) (a .some-state)
 
-  pub run-sorted : (run : List ℕ) → run ≡ writeRecords (leaving (read s) 0) → Sorted (rangesOf (readRecords run))
+  pub run-sorted : (run : List ℕ) → run ≡ writeRecords (leaving (read s) 0) → SortedRanges (rangesOf (readRecords run))
   run-sorted run e =
-      subst (λ (es : List Transition). Sorted (rangesOf es)) (sym (ap readRecords e ∙ read-write (leaving (read s) 0))) (leaving-sorted (read s) 0 (read-well s a))
+      subst (λ (es : List Transition). SortedRanges (rangesOf es)) (sym (ap readRecords e ∙ read-write (leaving (read s) 0))) (leaving-sorted (read s) 0 (read-well s a))
 
   pub run-short : (run : List ℕ) → run ≡ writeRecords (leaving (read s) 0) → length run ≤ 10240
   unfolding leaving
@@ -36,7 +36,7 @@ module _ (s : List ℕ) (a : Accepted s) where
         arith,
         ap length e,
         length-write (leaving (read s) 0),
-        length-keep (λ (t : Transition). eqb (t .from) 0) (read s .transitions),
+        length-filter (λ (t : Transition). eqb (t .from) 0) (read s .transitions),
         read-fits s a .few-transitions,
       )
 

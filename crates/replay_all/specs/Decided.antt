@@ -12,7 +12,7 @@ use Rattle.replay.specs.Cases.{listAt, isLast}
 use Rattle.sheets.specs.Fault.{fault}
 use Rattle.subautomaton.specs.Answer.{subautomatonAnswer}
 use Rattle.totality.specs.Answers.{isNfaAnswer}
-use Rattle.words.specs.Acceptance.{acceptsWords, acceptsText}
+use Rattle.words.specs.Acceptance.{acceptsWordsAnswer, acceptsTextAnswer}
 use Rattle.replay_all.specs.Parts.{behind, areBytes}
 
 -- the words of a sheet, then its fault's number or 0
@@ -32,13 +32,13 @@ accepted s at (refused n) = cond (eqb n 9) (isLast s at 9) false
 
 -- a sheet, a word, then the answer
 unfoldable pub wordCase : List ℕ → Bool
-wordCase s = accepted s (behind s (behind s 0)) (acceptsWords (listAt s 0) (listAt s (behind s 0)))
+wordCase s = accepted s (behind s (behind s 0)) (acceptsWordsAnswer (listAt s 0) (listAt s (behind s 0)))
 
 -- a sheet, a text, then the answer
 unfoldable pub textCase : List ℕ → Bool
 textCase s =
     cond (areBytes 1024 (listAt s (behind s 0)))
-    (accepted s (behind s (behind s 0)) (acceptsText (listAt s 0) (listAt s (behind s 0))))
+    (accepted s (behind s (behind s 0)) (acceptsTextAnswer (listAt s 0) (listAt s (behind s 0))))
     false
 
 -- 1 for yes or 0 for no stands last; refusals have no cases

@@ -4,14 +4,14 @@ use mathlib.Core.Bool.{Bool, false, cond}
 use mathlib.Core.List.{List}
 use lib.Dec.{eqb, leb, ltb}
 use lib.ListN.{length, getD, take, replicate}
-use Rattle.determinize.specs.Sheets.{determinizeSheet}
+use Rattle.determinize.specs.Sheets.{determinizeAnswer}
 use Rattle.epsilon.specs.Eliminate.{eliminateAnswer}
 use Rattle.labels.specs.Labels.{sameLabel}
 use Rattle.output.specs.Output.{Pattern, Lengths, Output, outputs, roomFirst}
 use Rattle.parser.specs.Parsed.{parsed}
 use Rattle.parser.specs.Parsed as parser
-use Rattle.parser.specs.Pattern.{parse}
-use Rattle.product.specs.Product.{intersection}
+use Rattle.parser.specs.Pattern.{parseAnswer}
+use Rattle.product.specs.Product.{intersectionAnswer}
 use Rattle.refusal.specs.Answer.{Answer, refused, given}
 use Rattle.replay.specs.Cases.{listAt, isLast}
 use Rattle.totality.specs.Answers.{totalizeAnswer, complementAnswer}
@@ -51,12 +51,12 @@ bytes = replicate 16642 0
 
 -- a sheet, then the outcome of determinizing it
 unfoldable pub determinizeCase : List ℕ → Bool
-determinizeCase s = isOutcome s (behind s 0) (outputs words bytes (determinizeSheet (listAt s 0) words bytes))
+determinizeCase s = isOutcome s (behind s 0) (outputs words bytes (determinizeAnswer (listAt s 0) words bytes))
 
 -- two sheets, then the outcome of their product
 unfoldable pub productCase : List ℕ → Bool
 productCase s =
-    isOutcome s (behind s (behind s 0)) (outputs words bytes (roomFirst words bytes (intersection (listAt s 0) (listAt s (behind s 0)))))
+    isOutcome s (behind s (behind s 0)) (outputs words bytes (roomFirst words bytes (intersectionAnswer (listAt s 0) (listAt s (behind s 0)))))
 
 -- the operations that keep labels
 unfoldable pub operation : Operation → List ℕ → List ℕ → Answer Pattern
@@ -90,5 +90,5 @@ isReading s at o = isRead s at (o .answer) (o .sheet) (o .labels)
 unfoldable pub parseCase : List ℕ → Bool
 parseCase s =
     cond (areBytes 4096 (listAt s 0))
-    (isReading s (behind s 0) (parsed words bytes (roomFirst words bytes (parse (listAt s 0)))))
+    (isReading s (behind s 0) (parsed words bytes (roomFirst words bytes (parseAnswer (listAt s 0)))))
     false

@@ -9,11 +9,11 @@ use lib.ListN.{length, getD, take, replicate}
 use Rattle.automata.specs.WellFormed.{lastSymbol}
 use Rattle.equality.specs.declared.Verdict.{Verdict}
 use Rattle.equality.specs.declared.Verdict.the-variants.{Same, Different, Refused}
-use Rattle.equality.specs.Equality.{compared, Judged}
+use Rattle.equality.specs.Equality.{equalityAnswer, Judged}
 use Rattle.refusal.specs.Answer.{Answer, refused, given}
 use Rattle.refusal.specs.Number.{numberOf}
 use Rattle.replay.specs.Cases.{listAt, isLast}
-use Rattle.words.specs.Acceptance.{acceptsWords}
+use Rattle.words.specs.Acceptance.{acceptsWordsAnswer}
 use Rattle.replay_all.specs.Parts.{behind}
 
 -- the answer says that the word is accepted
@@ -23,7 +23,7 @@ isOne (refused n) = false
 
 -- one of the sheets accepts the word, and the other does not
 unfoldable pub tellsApart : List ℕ → List ℕ → List ℕ → Bool
-tellsApart a b w = cond (isOne (acceptsWords a w)) (not (isOne (acceptsWords b w))) (isOne (acceptsWords b w))
+tellsApart a b w = cond (isOne (acceptsWordsAnswer a w)) (not (isOne (acceptsWordsAnswer b w))) (isOne (acceptsWordsAnswer b w))
 
 -- the case ends from the place on with 0, then x and a number
 unfoldable pub isTold : List ℕ → ℕ → ℕ → Bool
@@ -47,5 +47,5 @@ isVerdict s at a b o (Refused r) = isLast s at (numberOf r)
 pub record EqualityCase (s : List ℕ) (r : Bool) : Type 0 where
   pub verdict : Verdict
   pub word : List ℕ
-  pub judged : Judged (compared 0 lastSymbol (listAt s 0) (listAt s (behind s 0)) (replicate 510 0)) (replicate 510 0) word verdict
+  pub judged : Judged (equalityAnswer 0 lastSymbol (listAt s 0) (listAt s (behind s 0)) (replicate 510 0)) (replicate 510 0) word verdict
   pub is : r ≡ isVerdict s (behind s (behind s 0)) (listAt s 0) (listAt s (behind s 0)) word verdict

@@ -1,12 +1,12 @@
 // Cases of acceptance: a sheet, a word or a text, and 1 if it is accepted, else 0, or 9 where the text is malformed.
 use words::Acceptance;
 ghost use mathlib.Core.Path.{_≡_};
-ghost use Rattle.words.specs.Acceptance.{answerOf};
+ghost use Rattle.words.specs.Acceptance.{acceptanceOf};
 ghost use Rattle.replay_all.specs.Decided.{accepted, wordCase, textCase};
 
 // Whether the answer stands last in a case, at the place at.
 fn answered(case: &[u32], at: usize, answer: Acceptance) -> bool
-    ensures { λ r. ⌜ r ≡ accepted (now (case .entry)) at (answerOf answer) ⌝ }
+    ensures { λ r. ⌜ r ≡ accepted (now (case .entry)) at (acceptanceOf answer) ⌝ }
 {
     match answer {
         Acceptance::Kind(k) => replay::is_last(case, at, k),

@@ -7,7 +7,7 @@ ghost use lib.ListN.{length};
 ghost use Rattle.automata.specs.Automaton.{leaving, rangesOf};
 ghost use Rattle.automata.specs.Records.{readRecords};
 ghost use Rattle.lists.specs.Written.{Written};
-ghost use Rattle.ranges.specs.Missing.{missing, Sorted};
+ghost use Rattle.ranges.specs.Missing.{missing, SortedRanges};
 ghost use Rattle.ranges.specs.Span.{spanOf};
 ghost use Rattle.sheets.specs.inner.Accepted.{Accepted};
 ghost use Rattle.sheets.specs.Sheet.{read};
@@ -108,7 +108,7 @@ fn holes(case: &[u32]) -> bool
 
 // Whether the listed holes are those that the ranges of the run leave.
 fn are_holes(run: &[u32], expected: &[u32]) -> bool
-    requires { ⌜ Sorted (rangesOf (readRecords (now run))) × (length (now run) ≤ 10240) ⌝ }
+    requires { ⌜ SortedRanges (rangesOf (readRecords (now run))) × (length (now run) ≤ 10240) ⌝ }
     ensures { λ r. ⌜ r ≡ areSpans (now (expected .entry)) (missing 0 4294967295 (rangesOf (readRecords (now (run .entry))))) ⌝ }
 {
     let mut found = [0u32; 4098];

@@ -3,12 +3,12 @@
 use equality::Verdict;
 use words::Acceptance;
 ghost use mathlib.Core.Path.{_≡_};
-ghost use Rattle.words.specs.Acceptance.{acceptsWords};
+ghost use Rattle.words.specs.Acceptance.{acceptsWordsAnswer};
 ghost use Rattle.replay_all.specs.Verdicts.{isOne, tellsApart, isTold, lastOf, isVerdict, EqualityCase};
 
 // Whether the sheet accepts the word.
 fn accepts(sheet: &[u32], word: &[u32]) -> bool
-    ensures { λ r. ⌜ r ≡ isOne (acceptsWords (now (sheet .entry)) (now (word .entry))) ⌝ }
+    ensures { λ r. ⌜ r ≡ isOne (acceptsWordsAnswer (now (sheet .entry)) (now (word .entry))) ⌝ }
 {
     match words::accepts_words(sheet, word) {
         Acceptance::Kind(k) => k == 1,

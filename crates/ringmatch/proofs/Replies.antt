@@ -12,7 +12,7 @@ use Rattle.output.specs.Output.{Output}
 use Rattle.refusal.specs.Number.{inputNumber, numberOf}
 use Rattle.refusal.specs.declared.Refusal.{Refusal}
 use Rattle.refusal.specs.declared.InputRefusal.{InputRefusal}
-use Rattle.words.specs.Acceptance.{answerOf}
+use Rattle.words.specs.Acceptance.{acceptanceOf}
 use Rattle.words.specs.declared.Acceptance.{Acceptance}
 use Rattle.words.specs.declared.Acceptance.the-variants
 use Rattle.equality.specs.declared.Verdict.{Verdict}
@@ -29,13 +29,13 @@ use Rattle.refusal.specs.declared.Decision.the-variants as decision
 use Rattle.refusal.specs.declared.Decision.the-variants.{Is}
 use Rattle.ringmatch.specs.Reply.{reply, replyBit, replied, built, buildReply, read, readReply, VerdictReply, told, tellVerdict, Told}
 
-pub reply-given : (old k : ℕ) (r : Acceptance) → r ≡ the-variants.Kind k → replied 0 k ≡ reply old (answerOf r)
-reply-given old k r e = ap (λ x. reply old (answerOf x)) (sym e)
+pub reply-given : (old k : ℕ) (r : Acceptance) → r ≡ the-variants.Kind k → replied 0 k ≡ reply old (acceptanceOf r)
+reply-given old k r e = ap (λ x. reply old (acceptanceOf x)) (sym e)
 
-pub reply-refused : (old n : ℕ) (r : Acceptance) (i : InputRefusal) → n ≡ inputNumber i → r ≡ the-variants.Refused i → replied n old ≡ reply old (answerOf r)
-reply-refused old n r i h e = ap (λ x. replied x old) h ∙ ap (λ x. reply old (answerOf x)) (sym e)
+pub reply-refused : (old n : ℕ) (r : Acceptance) (i : InputRefusal) → n ≡ inputNumber i → r ≡ the-variants.Refused i → replied n old ≡ reply old (acceptanceOf r)
+reply-refused old n r i h e = ap (λ x. replied x old) h ∙ ap (λ x. reply old (acceptanceOf x)) (sym e)
 
-pub reply-passed : (code old new : ℕ) (r : Acceptance) (a : Answer ℕ) → replied code new ≡ reply old (answerOf r) → answerOf r ≡ a → replied code new ≡ reply old a
+pub reply-passed : (code old new : ℕ) (r : Acceptance) (a : Answer ℕ) → replied code new ≡ reply old (acceptanceOf r) → acceptanceOf r ≡ a → replied code new ≡ reply old a
 reply-passed code old new r a e h = e ∙ ap (reply old) h
 
 -- the lengths of an operation's outputs

@@ -4,21 +4,21 @@ ghost use mathlib.Core.Path.{_≡_};
 ghost use mathlib.Core.List.{List};
 ghost use Prim.Native.Nat.{ℕ};
 ghost use Rattle.automata.specs.WellFormed.{lastSymbol};
-ghost use Rattle.determinize.specs.Sheets.{determinizeSheet};
+ghost use Rattle.determinize.specs.Sheets.{determinizeAnswer};
 ghost use Rattle.emptiness.specs.Reachable.{reachableAnswer};
 ghost use Rattle.epsilon.specs.Eliminate.{eliminateAnswer};
-ghost use Rattle.equality.specs.Equality.{compared};
+ghost use Rattle.equality.specs.Equality.{equalityAnswer};
 ghost use Rattle.equivalence.specs.Equivalent.{equivalentAnswer};
 ghost use Rattle.output.specs.Made.{outputOf};
 ghost use Rattle.output.specs.Output.{outputs, roomFirst};
 ghost use Rattle.parser.specs.Parsed.{parsed, parsedOf};
-ghost use Rattle.parser.specs.Pattern.{parse};
-ghost use Rattle.product.specs.Product.{intersection};
+ghost use Rattle.parser.specs.Pattern.{parseAnswer};
+ghost use Rattle.product.specs.Product.{intersectionAnswer};
 ghost use Rattle.refusal.specs.Decision.{decisionOf};
 ghost use Rattle.ringmatch.specs.Reply.{reply, replyBit, replied, built, buildReply, read, readReply, told, tellVerdict, Told};
 ghost use Rattle.subautomaton.specs.Answer.{subautomatonAnswer};
 ghost use Rattle.totality.specs.Answers.{isNfaAnswer, totalizeAnswer, complementAnswer};
-ghost use Rattle.words.specs.Acceptance.{acceptsWords, acceptsText, answerOf};
+ghost use Rattle.words.specs.Acceptance.{acceptsWordsAnswer, acceptsTextAnswer, acceptanceOf};
 use equality::Verdict;
 use output::Made;
 use parser::Parsed;
@@ -27,7 +27,7 @@ use words::Acceptance;
 
 // The number of an acceptance's refusal, or 0 with the answer stored.
 fn reply_acceptance(r: Acceptance, answer: &mut u32) -> u32
-    ensures { λ code. ⌜ replied code (now (answer .exit)) ≡ reply (now (answer .entry)) (answerOf r) ⌝ }
+    ensures { λ code. ⌜ replied code (now (answer .exit)) ≡ reply (now (answer .entry)) (acceptanceOf r) ⌝ }
 {
     match r {
         Acceptance::Kind(k) => {
@@ -107,7 +107,7 @@ fn reply_verdict(r: Verdict, same: &mut u32, number: &mut u64) -> u32
 // Whether a sheet accepts a word of u32 symbols: answer is 1 if so, else 0. Refusals: 1 to 6.
 #[no_mangle]
 pub extern "C" fn ringmatch_accepts_words(sheet: &[u32], word: &[u32], answer: &mut u32) -> u32
-    ensures { λ code. ⌜ replied code (now (answer .exit)) ≡ reply (now (answer .entry)) (acceptsWords (now (sheet .entry)) (now (word .entry))) ⌝ }
+    ensures { λ code. ⌜ replied code (now (answer .exit)) ≡ reply (now (answer .entry)) (acceptsWordsAnswer (now (sheet .entry)) (now (word .entry))) ⌝ }
 {
     reply_acceptance(words::accepts_words(sheet, word), answer)
 }
@@ -115,7 +115,7 @@ pub extern "C" fn ringmatch_accepts_words(sheet: &[u32], word: &[u32], answer: &
 // Whether a sheet accepts a text in UTF-8, as the word of its code points: answer is 1 if so, else 0. Refusals: 1 to 6, then 9.
 #[no_mangle]
 pub extern "C" fn ringmatch_accepts_text(sheet: &[u32], text: &[u8], answer: &mut u32) -> u32
-    ensures { λ code. ⌜ replied code (now (answer .exit)) ≡ reply (now (answer .entry)) (acceptsText (now (sheet .entry)) (now (text .entry))) ⌝ }
+    ensures { λ code. ⌜ replied code (now (answer .exit)) ≡ reply (now (answer .entry)) (acceptsTextAnswer (now (sheet .entry)) (now (text .entry))) ⌝ }
 {
     reply_acceptance(words::accepts_text(sheet, text), answer)
 }
@@ -130,7 +130,7 @@ pub extern "C" fn ringmatch_determinize(
     words: &mut u64,
     bytes: &mut u64,
 ) -> u32
-    ensures { λ code. ⌜ built code (now (words .exit)) (now (bytes .exit)) (now (out .exit)) (now (names .exit)) ≡ buildReply (now (words .entry)) (now (bytes .entry)) (outputs (now (out .entry)) (now (names .entry)) (determinizeSheet (now (sheet .entry)) (now (out .entry)) (now (names .entry)))) ⌝ }
+    ensures { λ code. ⌜ built code (now (words .exit)) (now (bytes .exit)) (now (out .exit)) (now (names .exit)) ≡ buildReply (now (words .entry)) (now (bytes .entry)) (outputs (now (out .entry)) (now (names .entry)) (determinizeAnswer (now (sheet .entry)) (now (out .entry)) (now (names .entry)))) ⌝ }
 {
     reply_made(determinize::determinize(sheet, out, names), words, bytes)
 }
@@ -243,7 +243,7 @@ pub extern "C" fn ringmatch_intersection(
     words: &mut u64,
     bytes: &mut u64,
 ) -> u32
-    ensures { λ code. ⌜ built code (now (words .exit)) (now (bytes .exit)) (now (out .exit)) (now (names .exit)) ≡ buildReply (now (words .entry)) (now (bytes .entry)) (outputs (now (out .entry)) (now (names .entry)) (roomFirst (now (out .entry)) (now (names .entry)) (intersection (now (a .entry)) (now (b .entry))))) ⌝ }
+    ensures { λ code. ⌜ built code (now (words .exit)) (now (bytes .exit)) (now (out .exit)) (now (names .exit)) ≡ buildReply (now (words .entry)) (now (bytes .entry)) (outputs (now (out .entry)) (now (names .entry)) (roomFirst (now (out .entry)) (now (names .entry)) (intersectionAnswer (now (a .entry)) (now (b .entry))))) ⌝ }
 {
     reply_made(product::intersection(a, b, out, names), words, bytes)
 }
@@ -259,7 +259,7 @@ pub extern "C" fn ringmatch_parse_automaton(
     words: &mut u64,
     bytes: &mut u64,
 ) -> u32
-    ensures { λ code. ⌜ read code (now («bytes_read» .exit)) (now (words .exit)) (now (bytes .exit)) (now (out .exit)) (now (names .exit)) ≡ readReply (now («bytes_read» .entry)) (now (words .entry)) (now (bytes .entry)) (parsed (now (out .entry)) (now (names .entry)) (roomFirst (now (out .entry)) (now (names .entry)) (parse (now (text .entry))))) ⌝ }
+    ensures { λ code. ⌜ read code (now («bytes_read» .exit)) (now (words .exit)) (now (bytes .exit)) (now (out .exit)) (now (names .exit)) ≡ readReply (now («bytes_read» .entry)) (now (words .entry)) (now (bytes .entry)) (parsed (now (out .entry)) (now (names .entry)) (roomFirst (now (out .entry)) (now (names .entry)) (parseAnswer (now (text .entry))))) ⌝ }
 {
     reply_parsed(
         parser::parse_automaton(text, out, names),
@@ -280,7 +280,7 @@ pub extern "C" fn ringmatch_equality(
     same: &mut u32,
     number: &mut u64,
 ) -> u32
-    ensures { λ code. ⌜ Told (compared 0 lastSymbol (now (a .entry)) (now (b .entry)) (now (word .entry))) (now (word .entry)) (now (word .exit)) (now (same .entry)) (now (number .entry)) (told code (now (same .exit)) (now (number .exit))) ⌝ }
+    ensures { λ code. ⌜ Told (equalityAnswer 0 lastSymbol (now (a .entry)) (now (b .entry)) (now (word .entry))) (now (word .entry)) (now (word .exit)) (now (same .entry)) (now (number .entry)) (told code (now (same .exit)) (now (number .exit))) ⌝ }
 {
     reply_verdict(equality::equality(a, b, word), same, number)
 }

@@ -7,17 +7,17 @@ use mathlib.Core.Path.{_≡_, refl, sym, subst}
 use native.Mathlib.Omega.{arith}
 use borrow.Author.Tests.{eqb-true, eqb-false}
 use lib.Dec.{eqb, lit≤}
-use Rattle.lists.specs.Lists.{keep}
+use Rattle.lists.specs.Lists.{filter}
 use Rattle.lists.proofs.Tests.{test}
 use Rattle.automata.specs.Automaton.{Word, none, more, carries, holds}
 use Rattle.automata.specs.WellFormed.{lastSymbol}
 use Rattle.equality.specs.Forced.{Two}
-use Rattle.equality.specs.Successors.{successor, stateAfter, acceptAfter}
+use Rattle.automata.specs.Successors.{successor, stateAfter, acceptAfter}
 use Rattle.equality.specs.Verdict.{Equal, Apart}
 use Rattle.equality.proofs.Exact.{one-word, not-same}
 use Rattle.refusal.specs.Answer.{Answer, given}
 use Rattle.sheets.specs.Sheet.{read}
-use Rattle.verdict_line.specs.Line.{Line, same, differs, sameLine, differLine}
+use Rattle.verdict_line.specs.Line.{VerdictLine, same, differs, sameLine, differLine}
 use Rattle.samples.proofs.Patterns.{determinized, DC}
 use Rattle.samples.specs.Samples.{A, B, DA, DB, both}
 use Rattle.samples.proofs.Three.{three, well-a, well-b}
@@ -38,11 +38,11 @@ abbrev others : Two
 others = record { one = DA; two = DC; low = 0; high = lastSymbol }
 
 apart-9 : Apart others (9 ∷ [])
-unfolding stateAfter successor keep carries holds
+unfolding stateAfter successor filter carries holds
 apart-9 = record { word = more (lit≤ tt) (lit≤ tt) none; short = lit≤ tt; differ = λ e. omega arith }
 
-pub allowed-same-4 : (x : Answer Two) → x ≡ given both → Line x (sameLine 4)
-allowed-same-4 x e = subst (λ (y : Answer Two). Line y (sameLine 4)) (sym e) (same both 4 equal-4)
+pub allowed-same-4 : (x : Answer Two) → x ≡ given both → VerdictLine x (sameLine 4)
+allowed-same-4 x e = subst (λ (y : Answer Two). VerdictLine y (sameLine 4)) (sym e) (same both 4 equal-4)
 
-pub allowed-differ-9 : (x : Answer Two) → x ≡ given others → Line x (differLine (9 ∷ []))
-allowed-differ-9 x e = subst (λ (y : Answer Two). Line y (differLine (9 ∷ []))) (sym e) (differs others (9 ∷ []) apart-9)
+pub allowed-differ-9 : (x : Answer Two) → x ≡ given others → VerdictLine x (differLine (9 ∷ []))
+allowed-differ-9 x e = subst (λ (y : Answer Two). VerdictLine y (differLine (9 ∷ []))) (sym e) (differs others (9 ∷ []) apart-9)

@@ -18,7 +18,7 @@ use Rattle.equality.proofs.Theorems.{classes-number}
 use Rattle.labels.specs.Labels.{sameLabel}
 use Rattle.grammar.specs.Bytes.{isSpace, isLetter, isDigit, isNameByte}
 use Rattle.grammar.specs.Grammar.{follow, run, space, neededSpace, begins, token, name, number, ends, range, target, transition, initial, nextName, many, transitions, nextNames, accepting, heading, ending, wholeText}
-use Rattle.parser.specs.Pattern.{namesOf, statesOf, acceptWord, automatonOf, patternOf, fewTransitions, meant, parse}
+use Rattle.parser.specs.Pattern.{namesOf, statesOf, acceptWord, automatonOf, patternOf, fewTransitions, meant, parseAnswer}
 use Rattle.syntax.specs.Examples.{text-a, text-b, text-c}
 use Rattle.syntax.specs.Spelled.{spell}
 use Rattle.refusal.specs.Answer.{Answer, given}
@@ -26,8 +26,8 @@ use Rattle.search.specs.Search.{index, add, meet}
 use Rattle.sheets.specs.Sheet.{read}
 use Rattle.sheets.proofs.Accepted.{accepted}
 use Rattle.sheets.proofs.Meaning.{read-well}
-use Rattle.verdict_line.specs.Texts.{twoTexts, withSecondText, withFirstText, comparedTexts}
-use Rattle.verdict_line.specs.Line.{Line, refuses, same, differs, sameLine, differLine}
+use Rattle.verdict_line.specs.Texts.{twoTexts, withSecondText, withFirstText, verdictAnswer}
+use Rattle.verdict_line.specs.Line.{VerdictLine, refuses, same, differs, sameLine, differLine}
 use Rattle.samples.proofs.Allowed.{allowed-same-4, allowed-differ-9}
 use Rattle.samples.proofs.Patterns.{determinized, no-fault, DC}
 use Rattle.samples.specs.Samples.{A, B, C, DA, DB, both}
@@ -36,16 +36,16 @@ use Rattle.samples.proofs.Verdicts.{same-ab, differ-ac, only-nine}
 use Rattle.output.specs.Output.{statesFirst, transitionsFirst}
 
 abbrev apart : Two
-apart = record { one = DA; two = DC; low = 0; high = lastSymbol }
+apart = record { one = DA; two = DC; lower = 0; upper = lastSymbol }
 
 -- the texts are read as A, B and C
 are-compared :
-    (comparedTexts 0 lastSymbol (text-a ++ 32 ∷ text-b) ≡ given both)
-    × (comparedTexts 0 lastSymbol (text-a ++ 32 ∷ text-c) ≡ given apart)
+    (verdictAnswer 0 lastSymbol (text-a ++ 32 ∷ text-b) ≡ given both)
+    × (verdictAnswer 0 lastSymbol (text-a ++ 32 ∷ text-c) ≡ given apart)
 unfolding follow isSpace isLetter isDigit isNameByte run space neededSpace begins token name valueAfter number ends range target transition initial
     nextName many transitions nextNames accepting heading ending wholeText spell sameLabel index add meet flatMap namesOf statesOf any acceptWord automatonOf
-    patternOf fewTransitions meant statesFirst transitionsFirst parse insert inOrder readRecords withSecond withFirst both-determinized twoTexts withSecondText withFirstText
-    comparedTexts
+    patternOf fewTransitions meant statesFirst transitionsFirst parseAnswer insert inOrder readRecords withSecond withFirst both-determinized twoTexts withSecondText withFirstText
+    verdictAnswer
 are-compared = (
   ap (λ (x : Answer Automaton). withFirst 0 lastSymbol x (determinize 0 lastSymbol (read B))) (determinized .0) ∙ ap (withSecond 0 lastSymbol DA) (determinized .1),
   ap (λ (x : Answer Automaton). withFirst 0 lastSymbol x (determinize 0 lastSymbol (read C))) (determinized .0) ∙ ap (withSecond 0 lastSymbol DA) (determinized .2),
@@ -55,15 +55,15 @@ well-c : WellFormed (read C)
 well-c = read-well C (accepted C (no-fault .2))
 
 -- document 01's lines are allowed
-pub may-print-same-4 : Line (comparedTexts 0 lastSymbol (text-a ++ 32 ∷ text-b)) (sameLine 4)
+pub may-print-same-4 : VerdictLine (verdictAnswer 0 lastSymbol (text-a ++ 32 ∷ text-b)) (sameLine 4)
 may-print-same-4 = allowed-same-4 _ (are-compared .0)
 
-pub may-print-differ-9 : Line (comparedTexts 0 lastSymbol (text-a ++ 32 ∷ text-c)) (differLine (9 ∷ []))
+pub may-print-differ-9 : VerdictLine (verdictAnswer 0 lastSymbol (text-a ++ 32 ∷ text-c)) (differLine (9 ∷ []))
 may-print-differ-9 = allowed-differ-9 _ (are-compared .1)
 
 -- and no others
 
-by-both : (x : Answer Two) (bytes : List ℕ) → x ≡ given both → Line x bytes → bytes ≡ sameLine 4
+by-both : (x : Answer Two) (bytes : List ℕ) → x ≡ given both → VerdictLine x bytes → bytes ≡ sameLine 4
 by-both x bytes e (refuses n) = absurd (let z : _≡_ {A = ℕ} 0 1 = cc in omega arith)
 by-both x bytes e (same t joins h) =
     let z : t ≡ both = cc in
@@ -78,7 +78,7 @@ by-both x bytes e (differs t w h) =
     let one = one-word 0 lastSymbol (read A) (read B) well-a well-b DA DB (determinized .0) (determinized .1) w (q .word) (q .differ) in
     absurd (not-same 0 lastSymbol (read A) (read B) well-a well-b DA DB (determinized .0) (determinized .1) w one (q .word) same-ab)
 
-by-apart : (x : Answer Two) (bytes : List ℕ) → x ≡ given apart → Line x bytes → bytes ≡ differLine (9 ∷ [])
+by-apart : (x : Answer Two) (bytes : List ℕ) → x ≡ given apart → VerdictLine x bytes → bytes ≡ differLine (9 ∷ [])
 by-apart x bytes e (refuses n) = absurd (let z : _≡_ {A = ℕ} 0 1 = cc in omega arith)
 by-apart x bytes e (same t joins h) =
     let z : t ≡ apart = cc in
@@ -89,8 +89,8 @@ by-apart x bytes e (differs t w h) =
     let q = subst (λ (u : Two). Apart u w) z h in
     ap differLine (only-nine w (one-word 0 lastSymbol (read A) (read C) well-a well-c DA DC (determinized .0) (determinized .2) w (q .word) (q .differ)))
 
-pub prints-same-4 : (bytes : List ℕ) → Line (comparedTexts 0 lastSymbol (text-a ++ 32 ∷ text-b)) bytes → bytes ≡ sameLine 4
+pub prints-same-4 : (bytes : List ℕ) → VerdictLine (verdictAnswer 0 lastSymbol (text-a ++ 32 ∷ text-b)) bytes → bytes ≡ sameLine 4
 prints-same-4 bytes = by-both _ bytes (are-compared .0)
 
-pub prints-differ-9 : (bytes : List ℕ) → Line (comparedTexts 0 lastSymbol (text-a ++ 32 ∷ text-c)) bytes → bytes ≡ differLine (9 ∷ [])
+pub prints-differ-9 : (bytes : List ℕ) → VerdictLine (verdictAnswer 0 lastSymbol (text-a ++ 32 ∷ text-c)) bytes → bytes ≡ differLine (9 ∷ [])
 prints-differ-9 bytes = by-apart _ bytes (are-compared .1)

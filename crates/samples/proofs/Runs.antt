@@ -4,7 +4,7 @@ use mathlib.Core.List.{[], _∷_, flatMap, map, head-eq-of-cons-eq, List·Memᴰ
 use mathlib.Core.Path.{_≡_, refl}
 use native.Mathlib.Omega.{arith}
 use lib.Dec.{lit≤}
-use Rattle.lists.specs.Lists.{any, keep, tabulate}
+use Rattle.lists.specs.Lists.{any, filter, tabulate}
 use Rattle.automata.specs.Automaton.{stay, Accepts, holds, leaving, rangesOf, states, hasEpsilon}
 use Rattle.automata.specs.Automaton as runs
 use Rattle.automata.specs.Ordered.{inOrder, insert}
@@ -34,5 +34,5 @@ overlap-accepts-5 = (1, runs.read (range 0 0 9 1) (List·Memᴰ·head refl) refl
 
 -- 0 leads to 2, which accepts in the complement
 pub complement-accepts-5 : Accepts (complemented 0 lastSymbol (read O)) (5 ∷ [])
-unfolding any keep tabulate flatMap map holds leaving rangesOf inOrder insert readRecords nearer nextCut spans cutAll covered missing startsBelow overlapping states holesOf hasEpsilon isNfaAt isNfaIn isNfa filled filledIn totalized flipped complemented
+unfolding any filter tabulate flatMap map holds leaving rangesOf inOrder insert readRecords nearer nextCut spans cutAll covered missing startsBelow overlapping states holesOf hasEpsilon isNfaAt isNfaIn isNfa filled filledIn totalized flipped complemented
 complement-accepts-5 = (2, runs.read (range 0 0 9 2) (List·Memᴰ·tail (List·Memᴰ·head refl)) refl refl (lit≤ tt) (lit≤ tt) stay, lit≤ tt)

@@ -5,7 +5,7 @@ use mathlib.Core.List.{List, [], _∷_, _++_}
 use mathlib.Core.Option.{some}
 use mathlib.Core.Path.{_≡_, refl}
 use lib.ListN.{length, take}
-use Rattle.lists.specs.Lists.{any, keep, tabulate}
+use Rattle.lists.specs.Lists.{any, filter, tabulate}
 use Rattle.automata.specs.Automaton.{Accepts, holds}
 use Rattle.automata.specs.Records.{readRecords}
 use Rattle.automata.specs.WellFormed.{lastSymbol}
@@ -15,8 +15,8 @@ use Rattle.ranges.specs.Span.{intersectRanges, startsBelow, overlapping}
 use Rattle.ranges.specs.Cuts.{nearer, nextCut, spans, cutAll}
 use Rattle.ranges.specs.Missing.{covered, missing}
 use Rattle.dsu.specs.Classes.{Classes}
-use Rattle.equality.specs.Equality.{compared, Judged}
-use Rattle.equality.specs.Forced.{Forced, states}
+use Rattle.equality.specs.Equality.{equalityAnswer, Judged}
+use Rattle.equality.specs.Forced.{Forced, totalSize}
 use Rattle.equality.specs.declared.Verdict.{Verdict}
 use Rattle.equality.specs.declared.Verdict.the-variants.{Same, Different}
 use Rattle.refusal.specs.Answer.{given}
@@ -26,7 +26,7 @@ use Rattle.sheets.specs.Checked.{sheetFirst}
 use Rattle.sheets.specs.Fault.{isBad, recordFault, recordsFault, transitionsFault, statesFault, fault}
 use Rattle.sheets.specs.Sheet.{read, write}
 use Rattle.totality.specs.Totality.{complemented}
-use Rattle.words.specs.Acceptance.{acceptsWords}
+use Rattle.words.specs.Acceptance.{acceptsWordsAnswer}
 use Rattle.words.specs.Simulation.{isEpsilon, epsilonRow, closures, closure, outgoing, step, startSet, simulate, least, kindOf, kind}
 use Rattle.samples.proofs.Patterns.{determinized}
 use Rattle.samples.specs.Samples.{range, A, B, C, O, DA, DB, both, span, part}
@@ -36,8 +36,8 @@ use Rattle.samples.proofs.Runs.{accepts-9, rejects-10, rejects-empty, o
 use Rattle.samples.proofs.Three.{three}
 use Rattle.samples.proofs.Verdicts.{same-4, differ-9}
 use Rattle.syntax.specs.Examples.{text-a, text-b, text-c}
-use Rattle.verdict_line.specs.Line.{Line, sameLine, differLine}
-use Rattle.verdict_line.specs.Texts.{comparedTexts}
+use Rattle.verdict_line.specs.Line.{VerdictLine, sameLine, differLine}
+use Rattle.verdict_line.specs.Texts.{verdictAnswer}
 
 pub starred :
     -- holes of nothing, and of (5, 4294967295)
@@ -50,9 +50,9 @@ pub starred :
     -- parts
     × (partition 3 0 lastSymbol (range 0 0 5 1 ∷ range 0 3 9 2 ∷ []) ≡ part 0 2 (1 ∷ []) ∷ part 3 5 (1 ∷ 2 ∷ []) ∷ part 6 9 (2 ∷ []) ∷ [])
     -- A accepts the word 9, not 10, not the empty word
-    × (acceptsWords A (9 ∷ []) ≡ given 1)
-    × (acceptsWords A (10 ∷ []) ≡ given 0)
-    × (acceptsWords A [] ≡ given 0)
+    × (acceptsWordsAnswer A (9 ∷ []) ≡ given 1)
+    × (acceptsWordsAnswer A (10 ∷ []) ≡ given 0)
+    × (acceptsWordsAnswer A [] ≡ given 0)
     -- and the same by runs
     × Accepts (read A) (9 ∷ [])
     × (Accepts (read A) (10 ∷ []) → ⊥)
@@ -62,25 +62,25 @@ pub starred :
     × (DA .size ≡ 3)
     × (length (DA .transitions) ≡ 4)
     -- an automaton with an overlap and its complement both accept 5
-    × (acceptsWords O (5 ∷ []) ≡ given 1)
-    × (acceptsWords (write (complemented 0 lastSymbol (read O))) (5 ∷ []) ≡ given 1)
+    × (acceptsWordsAnswer O (5 ∷ []) ≡ given 1)
+    × (acceptsWordsAnswer (write (complemented 0 lastSymbol (read O))) (5 ∷ []) ≡ given 1)
     -- and the same by runs
     × Accepts (read O) (5 ∷ [])
     × Accepts (complemented 0 lastSymbol (read O)) (5 ∷ [])
     -- B determinized: 4 states; with the 3 of A determinized they are in 3 classes
     × (determinize 0 lastSymbol (read B) ≡ given DB)
     × (DB .size ≡ 4)
-    × Classes (Forced both) (states both) 3
+    × Classes (Forced both) (totalSize both) 3
     -- the program `verdict` may print `same 4` for the texts of A and B, and `differ 9` for those of A and C
-    × Line (comparedTexts 0 lastSymbol (text-a ++ 32 ∷ text-b)) (sameLine 4)
-    × Line (comparedTexts 0 lastSymbol (text-a ++ 32 ∷ text-c)) (differLine (9 ∷ []))
+    × VerdictLine (verdictAnswer 0 lastSymbol (text-a ++ 32 ∷ text-b)) (sameLine 4)
+    × VerdictLine (verdictAnswer 0 lastSymbol (text-a ++ 32 ∷ text-c)) (differLine (9 ∷ []))
     -- A and B are the same with 4 joins, whatever buffer is lent; A and C differ, and the word is 9
-    × ((o o′ : List ℕ) (r : Verdict) → 510 ≤ length o → Judged (compared 0 lastSymbol A B o) o o′ r → r ≡ Same 4)
-    × ((o o′ : List ℕ) (r : Verdict) → 510 ≤ length o → Judged (compared 0 lastSymbol A C o) o o′ r → (r ≡ Different 1) × (take 1 o′ ≡ 9 ∷ []))
+    × ((o o′ : List ℕ) (r : Verdict) → 510 ≤ length o → Judged (equalityAnswer 0 lastSymbol A B o) o o′ r → r ≡ Same 4)
+    × ((o o′ : List ℕ) (r : Verdict) → 510 ≤ length o → Judged (equalityAnswer 0 lastSymbol A C o) o o′ r → (r ≡ Different 1) × (take 1 o′ ≡ 9 ∷ []))
     -- the program `verdict` prints `same 4` for the texts of A and B with a blank between, and `differ 9` for those of A and C
-    × ((bytes : List ℕ) → Line (comparedTexts 0 lastSymbol (text-a ++ 32 ∷ text-b)) bytes → bytes ≡ sameLine 4)
-    × ((bytes : List ℕ) → Line (comparedTexts 0 lastSymbol (text-a ++ 32 ∷ text-c)) bytes → bytes ≡ differLine (9 ∷ []))
-unfolding any keep tabulate holds readRecords has pickFrom through closed isEpsilon epsilonRow closures closure outgoing step startSet simulate least kindOf kind nearer nextCut spans cutAll covered missing intersectRanges startsBelow overlapping partOf partition isBad recordFault recordsFault transitionsFault statesFault fault sheetFirst acceptsWords
+    × ((bytes : List ℕ) → VerdictLine (verdictAnswer 0 lastSymbol (text-a ++ 32 ∷ text-b)) bytes → bytes ≡ sameLine 4)
+    × ((bytes : List ℕ) → VerdictLine (verdictAnswer 0 lastSymbol (text-a ++ 32 ∷ text-c)) bytes → bytes ≡ differLine (9 ∷ []))
+unfolding any filter tabulate holds readRecords has pickFrom through closed isEpsilon epsilonRow closures closure outgoing step startSet simulate least kindOf kind nearer nextCut spans cutAll covered missing intersectRanges startsBelow overlapping partOf partition isBad recordFault recordsFault transitionsFault statesFault fault sheetFirst acceptsWordsAnswer
 starred = (
   refl,
   refl,

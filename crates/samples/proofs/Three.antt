@@ -8,18 +8,18 @@ use native.Mathlib.Omega.{arith}
 use borrow.Author.Tests.{leb-true, leb-false, le-leb}
 use lib.Dec.{leb, lit≤}
 use lib.ListN.{getD}
-use Rattle.lists.specs.Lists.{_∈_, keep}
+use Rattle.lists.specs.Lists.{_∈_, filter}
 use Rattle.lists.proofs.Tests.{test}
 use Rattle.automata.specs.Automaton.{Transition, holds, carries}
 use Rattle.automata.specs.WellFormed.{WellFormed, lastSymbol}
 use Rattle.automata.specs.Deterministic.{Deterministic}
 use Rattle.determinize.proofs.Theorems.{determinize-deterministic}
 use Rattle.dsu.specs.Classes.{Classes, none, old, new}
-use Rattle.equality.specs.Forced.{Such, Forced, starts, follow, successorIn}
-use Rattle.equality.specs.Successors.{successor}
+use Rattle.equality.specs.Forced.{JoinsSuccessors, Forced, starts, follow, successorIn}
+use Rattle.automata.specs.Successors.{successor}
 use Rattle.equality.proofs.Exact.{smallest-two}
 use Rattle.equality.proofs.Forced.{successor-left, successor-right, by-side}
-use Rattle.equality.proofs.Successors.{successor-is}
+use Rattle.automata.proofs.Successors.{successor-is}
 use Rattle.sheets.specs.Sheet.{read}
 use Rattle.sheets.proofs.Accepted.{accepted}
 use Rattle.sheets.proofs.Meaning.{read-well}
@@ -85,7 +85,7 @@ module _ (x : ℕ) (h : x ≤ lastSymbol) where
       (λ q i. rw (successor-right both q x) (class-b q i))
 
 -- states of one class have successors of one class
-such : Such both (λ p q. class p ≡ class q)
+such : JoinsSuccessors both (λ p q. class p ≡ class q)
 such =
     record {
       equivalence = record { same = λ p h. refl; turn = λ p q h k e. sym e; chain = λ p q r h k l e f. e ∙ f };
@@ -98,7 +98,7 @@ apart {p} {q} f = smallest-two 0 lastSymbol (read A) (read B) well-a well-b DA D
 
 -- the starts are joined, and with them their successors under 0, 5 and 10
 joined : Forced both 0 3 × Forced both 1 4 × Forced both 1 5 × Forced both 2 6
-unfolding successorIn successor keep carries holds
+unfolding successorIn successor filter carries holds
 joined = (starts, follow 0 (lit≤ tt, lit≤ tt) starts, follow 5 (lit≤ tt, lit≤ tt) starts, follow 10 (lit≤ tt, lit≤ tt) starts)
 
 pub three : Classes (Forced both) 7 3

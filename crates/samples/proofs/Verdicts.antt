@@ -9,7 +9,7 @@ use lib.ListN.{length, take}
 use Rattle.automata.specs.Automaton.{none, more}
 use Rattle.automata.specs.WellFormed.{lastSymbol}
 use Rattle.sheets.specs.Sheet.{read}
-use Rattle.equality.specs.Equality.{compared, Judged, SameWords, ExactlyOne}
+use Rattle.equality.specs.Equality.{equalityAnswer, Judged, SameWords, ExactlyOne}
 use Rattle.equality.specs.declared.Verdict.{Verdict}
 use Rattle.equality.specs.declared.Verdict.the-variants.{Same, Different}
 use Rattle.equality.proofs.Theorems.{classes-number, equality-exact}
@@ -22,7 +22,7 @@ pub same-ab : SameWords 0 lastSymbol (read A) (read B)
 same-ab w v = (λ h. b-single w .1 (a-single w .0 h), λ h. a-single w .1 (b-single w .0 h))
 
 -- 7 states in 3 classes: 4 joins
-pub same-4 : (o o′ : List ℕ) (r : Verdict) → 510 ≤ length o → Judged (compared 0 lastSymbol A B o) o o′ r → r ≡ Same 4
+pub same-4 : (o o′ : List ℕ) (r : Verdict) → 510 ≤ length o → Judged (equalityAnswer 0 lastSymbol A B o) o o′ r → r ≡ Same 4
 same-4 o o′ r room judged =
     let x = equality-exact 0 lastSymbol A B (no-fault .0) (no-fault .1) o o′ r room judged DA DB (determinized .0) (determinized .1) in
     let (j, is) = x .same .1 same-ab in
@@ -48,7 +48,7 @@ differ-ac s =
     let nine : 9 ≡ x = head-eq-of-cons-eq e in
     omega arith
 
-pub differ-9 : (o o′ : List ℕ) (r : Verdict) → 510 ≤ length o → Judged (compared 0 lastSymbol A C o) o o′ r → (r ≡ Different 1) × (take 1 o′ ≡ 9 ∷ [])
+pub differ-9 : (o o′ : List ℕ) (r : Verdict) → 510 ≤ length o → Judged (equalityAnswer 0 lastSymbol A C o) o o′ r → (r ≡ Different 1) × (take 1 o′ ≡ 9 ∷ [])
 differ-9 o o′ r room judged =
     let x = equality-exact 0 lastSymbol A C (no-fault .0) (no-fault .2) o o′ r room judged DA DC (determinized .0) (determinized .2) in
     let (n, is, d) = x .different differ-ac in

@@ -15,13 +15,13 @@ use Rattle.lists.proofs.Members.{at-in, distinct-length}
 use Rattle.lists.proofs.Tests.{test}
 use Rattle.lists.specs.Index.{index}
 use Rattle.lists.proofs.Index.{Decides, index-lt, index-at}
-use Rattle.search.specs.Search.{Graph, meet, Found, over, found, explore, table}
-use Rattle.search.proofs.Reached.{Reached, start, step, Good, MoreThan, AllReached}
+use Rattle.search.specs.Search.{Graph, meet, SearchResult, over, found, explore, table}
+use Rattle.search.proofs.Reached.{Reached, start, step, ReachedElements, MoreThan, AllReached}
 use Rattle.search.proofs.Tables.{Extends, extends-refl, extends-trans, extends-in, extends-at, extends-length, meet-extends, meet-in, meet-good}
 
 module _ {X : Type 0} (G : Graph X) (most : ℕ) where
   -- what is found once the first i entries have been taken
-  unfoldable pub queue : ℕ → List X → Found X
+  unfoldable pub queue : ℕ → List X → SearchResult X
   queue i T = explore G (suc most - i) i T
 
   pub queue-begin : table G most ≡ queue 0 (G .start ∷ [])
@@ -67,7 +67,7 @@ module _ {X : Type 0} (G : Graph X) (ok : Decides (G .same)) where
   -- the table U, finished from T
   record Finished (T U : List X) : Type 0 where
     pub extends : Extends T U
-    pub good : Good G U
+    pub good : ReachedElements G U
     pub done : Done (length U) U
 
   round-done : (i : ℕ) (T : List X) → i < length T → Done i T → Done (suc i) (meet (G .same) (G .next (getD T i (G .start))) T)
@@ -80,10 +80,10 @@ module _ {X : Type 0} (G : Graph X) (ok : Decides (G .same)) where
       (λ (q : suc j < suc i). extends-in x y (d j (omega arith) y n))
       (eq-or-lt-of-le l)
 
-  round-good : (i : ℕ) (T : List X) → i < length T → Good G T → Good G (meet (G .same) (G .next (getD T i (G .start))) T)
+  round-good : (i : ℕ) (T : List X) → i < length T → ReachedElements G T → ReachedElements G (meet (G .same) (G .next (getD T i (G .start))) T)
   round-good i T h g = meet-good G ok _ T g (λ x m. step (g .reached _ (at-in T i (G .start) h)) m)
 
-  explore-found : (n i : ℕ) (T U : List X) → explore G n i T ≡ found U → i ≤ length T → Good G T → Done i T → Finished T U × (length U < i + n)
+  explore-found : (n i : ℕ) (T U : List X) → explore G n i T ≡ found U → i ≤ length T → ReachedElements G T → Done i T → Finished T U × (length U < i + n)
   unfolding explore
   explore-found zero i T U e l g d = let z : _≡_ {A = ℕ} 0 1 = cc in absurd (omega arith)
   explore-found (suc n) i T U e l g d =
@@ -102,7 +102,7 @@ module _ {X : Type 0} (G : Graph X) (ok : Decides (G .same)) where
       rw (← q) (record { extends = extends-refl T; good = g; done = λ j k. d j (omega arith) }, omega arith))
       (test (ltb i (length T)))
 
-  explore-over : (n i : ℕ) (T : List X) → explore G n i T ≡ over → i ≤ length T → Good G T → (U : List X) × Good G U × (i + n ≤ length U)
+  explore-over : (n i : ℕ) (T : List X) → explore G n i T ≡ over → i ≤ length T → ReachedElements G T → (U : List X) × ReachedElements G U × (i + n ≤ length U)
   unfolding explore
   explore-over zero i T e l g = (T, g, omega arith)
   explore-over (suc n) i T e l g =
@@ -119,7 +119,7 @@ module _ {X : Type 0} (G : Graph X) (ok : Decides (G .same)) where
       absurd (omega arith))
       (test (ltb i (length T)))
 
-  start-good : Good G (G .start ∷ [])
+  start-good : ReachedElements G (G .start ∷ [])
   start-good =
       record {
         distinct = Distinct.more (λ m. List·Memᴰ·not-nil m) Distinct.none;
@@ -158,7 +158,7 @@ module _ {X : Type 0} (G : Graph X) (ok : Decides (G .same)) where
     λ m. go (table G most) refl m,
   )
     where
-      go : (f : Found X) → table G most ≡ f → MoreThan most G → f ≡ over
+      go : (f : SearchResult X) → table G most ≡ f → MoreThan most G → f ≡ over
       go over e m = refl
       go (found T) e m =
           let l = table-few most T e in

@@ -10,15 +10,15 @@ pub data Reached {X : Type 0} (G : Graph X) : X → Type 0 where
   step : {x y : X} → Reached G x → y ∈ G .next x → Reached G y
 
 -- elements that are distinct and reached
-pub record Good {X : Type 0} (G : Graph X) (T : List X) : Type 0 where
+pub record ReachedElements {X : Type 0} (G : Graph X) (T : List X) : Type 0 where
   pub distinct : Distinct T
   pub reached : (x : X) → x ∈ T → Reached G x
 
 -- more than k of them
 abbrev pub MoreThan : {X : Type 0} → ℕ → Graph X → Type 0
-MoreThan {X} k G = (T : List X) × Good G T × (k < length T)
+MoreThan {X} k G = (T : List X) × ReachedElements G T × (k < length T)
 
 -- all of them
 pub record AllReached {X : Type 0} (G : Graph X) (T : List X) : Type 0 where
-  pub good : Good G T
+  pub good : ReachedElements G T
   pub whole : (x : X) → Reached G x → x ∈ T

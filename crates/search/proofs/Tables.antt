@@ -16,7 +16,7 @@ use Rattle.lists.proofs.Members.{distinct-end}
 pub use Rattle.lists.proofs.Index.{index-before, index-behind, same-no, index-in, index-lt, index-at, index-place}
 use Rattle.lists.proofs.Tests.{test}
 use Rattle.search.specs.Search.{Graph, add, meet}
-use Rattle.search.proofs.Reached.{Reached, Good}
+use Rattle.search.proofs.Reached.{Reached, ReachedElements}
 
 -- U is T with some entries behind it
 pub record Extends {X : Type 0} (T U : List X) : Type 0 where
@@ -113,11 +113,11 @@ module _ {X : Type 0} (same : X → X → Bool) (ok : Decides same) where
 
 module _ {X : Type 0} (G : Graph X) (ok : Decides (G .same)) where
   -- a table of distinct and reached elements stays one
-  add-good : (x : X) (T : List X) → Good G T → Reached G x → Good G (add (G .same) x T)
+  add-good : (x : X) (T : List X) → ReachedElements G T → Reached G x → ReachedElements G (add (G .same) x T)
   unfolding add
   add-good x T g r = go (ltb (index (G .same) x T) (length T)) refl
     where
-      go : (b : Bool) → ltb (index (G .same) x T) (length T) ≡ b → Good G (cond b T (T ++ x ∷ []))
+      go : (b : Bool) → ltb (index (G .same) x T) (length T) ≡ b → ReachedElements G (cond b T (T ++ x ∷ []))
       go true e = g
       go false e =
           let far : length T ≤ index (G .same) x T = ltb-false _ _ e in
@@ -126,7 +126,7 @@ module _ {X : Type 0} (G : Graph X) (ok : Decides (G .same)) where
             reached = λ y m. ⊎-elim (g .reached y) (λ k. let e : y ≡ x = List·Memᴰ·eq-of-singleton k in rw e r) (List·Memᴰ·append-cases T m);
           }
 
-  pub meet-good : (xs T : List X) → Good G T → ((x : X) → x ∈ xs → Reached G x) → Good G (meet (G .same) xs T)
+  pub meet-good : (xs T : List X) → ReachedElements G T → ((x : X) → x ∈ xs → Reached G x) → ReachedElements G (meet (G .same) xs T)
   unfolding meet
   meet-good [] T g r = g
   meet-good (x ∷ xs) T g r = meet-good xs (add (G .same) x T) (add-good x T g (r x (List·Memᴰ·head refl))) (λ y m. r y (List·Memᴰ·tail m))

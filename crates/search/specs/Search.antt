@@ -22,17 +22,17 @@ pub record Graph (X : Type 0) : Type 0 where
   pub start : X
 
 -- the finished table, or none because it has too many entries
-pub data Found (X : Type 0) : Type 0 where
-  over : Found X
-  found : List X → Found X
+pub data SearchResult (X : Type 0) : Type 0 where
+  over : SearchResult X
+  found : List X → SearchResult X
 
 -- the entries of the table are the queue: entry i is next, and n entries may still be taken
-unfoldable pub explore : {X : Type 0} → Graph X → ℕ → ℕ → List X → Found X
+unfoldable pub explore : {X : Type 0} → Graph X → ℕ → ℕ → List X → SearchResult X
 explore G zero i T = over
 explore G (suc n) i T =
     let more = explore G n (suc i) (meet (G .same) (G .next (getD T i (G .start))) T) in
     cond (ltb i (length T)) more (found T)
 
 -- the table from the start on; `over` where it has more than `most` entries
-unfoldable pub table : {X : Type 0} → Graph X → ℕ → Found X
+unfoldable pub table : {X : Type 0} → Graph X → ℕ → SearchResult X
 table G most = explore G (suc most) 0 (G .start ∷ [])

@@ -8,17 +8,17 @@ use borrow.Author.Needs.{needs}
 use borrow.Author.Tests.{le-leb, lt-leb, lt-ltb, le-ltb, eq-eqb, ne-eqb}
 use lib.ListN.{length, take}
 use lib.Seq.{sets}
-use Rattle.replay.specs.Lines.{Line, answer, lineAt}
+use Rattle.replay.specs.Lines.{NumberLine, answer, lineAt}
 use Rattle.replay.specs.declared.Numbers.{Numbers}
 use Rattle.replay.specs.declared.Numbers.the-variants.{Stored, TooMany, Malformed}
-use Rattle.replay.proofs.Lines.{Told, line-told, line-part, case-within}
-use Rattle.words.specs.Acceptance.{acceptsWords, answerOf}
+use Rattle.replay.proofs.Lines.{LineStored, line-told, line-part, case-within}
+use Rattle.words.specs.Acceptance.{acceptsWordsAnswer, acceptanceOf}
 use Rattle.words.specs.declared.Acceptance.{Acceptance}
 use Rattle.series.specs.declared.tested.Tested.{Tested}
 use Rattle.series.specs.Series.{testedOf, onSeries, withSeries, onSheet, seriesOf}
 
 -- the numbers of a line that was stored, in the terms that code has
-part-numbers : (old m : List ℕ) (room at n to : ℕ) (l : Line) → Told room at l n to → length old ≡ room → m ≡ sets old 0 (l .numbers) → take (n - 0) m ≡ l .numbers
+part-numbers : (old m : List ℕ) (room at n to : ℕ) (l : NumberLine) → LineStored room at l n to → length old ≡ room → m ≡ sets old 0 (l .numbers) → take (n - 0) m ≡ l .numbers
 part-numbers old m room at n to l t k g =
     let z : n - 0 ≡ n = omega arith in
     ap (λ (k : ℕ). take k m) z ∙ ap (take n) g ∙ line-part room at n to old l t k
@@ -40,9 +40,9 @@ module _ (s sheet : List ℕ) (at : ℕ) (r : Numbers) (e : r ≡ answer 32768 a
     series-behind h = rw (ne-eqb to (length s) h) at (on-series (Stored n to) f)
 
     pub series-tested : (old m : List ℕ) (a : Acceptance) → to ≡ length s → m ≡ sets old 0 (lineAt s at .numbers) → length old ≡ 32768
-        → answerOf a ≡ acceptsWords sheet (take (n - 0) m) → some (answerOf a) ≡ withSeries s at sheet
+        → acceptanceOf a ≡ acceptsWordsAnswer sheet (take (n - 0) m) → some (acceptanceOf a) ≡ withSeries s at sheet
     series-tested old m a h g k x =
-        ap some (x ∙ ap (acceptsWords sheet) (part-numbers old m 32768 at n to (lineAt s at) (line-told 32768 at n to (lineAt s at) r e f) k g))
+        ap some (x ∙ ap (acceptsWordsAnswer sheet) (part-numbers old m 32768 at n to (lineAt s at) (line-told 32768 at n to (lineAt s at) r e f) k g))
         ∙ rw (eq-eqb to (length s) h) at (on-series (Stored n to) f)
 
 pub ruleset seriesLaws = (series-long, series-malformed, series-behind, case-within, series-tested, needs)

@@ -10,18 +10,18 @@ use Rattle.refusal.specs.Answer.{Answer}
 use Rattle.replay.specs.Lines.{answer, lineAt}
 use Rattle.replay.specs.declared.Numbers.{Numbers}
 use Rattle.replay.specs.declared.Numbers.the-variants.{Stored, TooMany, Malformed}
-use Rattle.words.specs.Acceptance.{acceptsWords, answerOf}
+use Rattle.words.specs.Acceptance.{acceptsWordsAnswer, acceptanceOf}
 use Rattle.series.specs.declared.tested.Tested.{Tested}
 use Rattle.series.specs.declared.tested.Tested.the-variants.{Answered, Unreadable}
 
 -- the answer that a value of the code stands for
 abbrev pub testedOf : Tested → Option (Answer ℕ)
-testedOf (Answered a) = some (answerOf a)
+testedOf (Answered a) = some (acceptanceOf a)
 testedOf Unreadable = none
 
 -- the answer where the series was read on the last line
 abbrev pub onSeries : List ℕ → List ℕ → List ℕ → Numbers → Option (Answer ℕ)
-onSeries s sheet series (Stored n to) = cond (eqb to (length s)) (some (acceptsWords sheet series)) none
+onSeries s sheet series (Stored n to) = cond (eqb to (length s)) (some (acceptsWordsAnswer sheet series)) none
 onSeries s sheet series TooMany = none
 onSeries s sheet series Malformed = none
 

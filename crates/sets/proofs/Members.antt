@@ -9,8 +9,8 @@ use native.Mathlib.Omega.{arith}
 use borrow.Author.Tests.{le-leb, lt-leb, leb-true, ltb-true, ltb-false}
 use lib.Dec.{leb, ltb}
 use lib.ListN.{getD}
-use Rattle.lists.specs.Lists.{_∈_, keep}
-use Rattle.lists.proofs.Lists.{keep-ext, keep-all, keep-none, keep-out}
+use Rattle.lists.specs.Lists.{_∈_, filter}
+use Rattle.lists.proofs.Lists.{filter-ext, filter-all, filter-none, filter-out}
 use Rattle.lists.proofs.Tests.{test, true-same}
 use Rattle.sets.specs.Sets.{Set, has, pickFrom}
 use Rattle.sets.specs.inner.Members.{Canon, membersFrom, nextMember}
@@ -20,7 +20,7 @@ use Rattle.sets.proofs.Sets.{mem-has, pick-out, has-below}
 pub from-skip : (S : Set) (q m : ℕ) → q ≤ m → ((x : ℕ) → q ≤ x → x < m → has x S ≡ false) → membersFrom q S ≡ membersFrom m S
 unfolding membersFrom
 from-skip S q m l h =
-    keep-ext (leb q) (leb m) S
+    filter-ext (leb q) (leb m) S
     (λ x i.
     true-same _ _
     (λ t.
@@ -28,15 +28,15 @@ from-skip S q m l h =
     ⊎-elim (λ c. absurd (false≢true (sym (h x a (ltb-true x m c)) ∙ mem-has i))) (λ c. le-leb m x (ltb-false x m c)) (test (ltb x m)))
     (λ t. let a : m ≤ x = leb-true m x t in le-leb q x (omega arith)))
 
-here : (k n : ℕ) (P : ℕ → Bool) (q : ℕ) → k ≤ q → q < k + n → P q ≡ true → keep (leb q) (pickFrom k n P) ≡ q ∷ keep (leb (q + 1)) (pickFrom k n P)
-unfolding keep pickFrom
+here : (k n : ℕ) (P : ℕ → Bool) (q : ℕ) → k ≤ q → q < k + n → P q ≡ true → filter (leb q) (pickFrom k n P) ≡ q ∷ filter (leb (q + 1)) (pickFrom k n P)
+unfolding filter pickFrom
 here k zero P q l u h = absurd (omega arith)
 here k (suc n) P q l u h =
     ⊎-elim
     (λ (e : k ≡ q).
     rw (ap P e ∙ h, le-leb q k (omega arith), lt-leb (q + 1) k (omega arith))
     (ap₂ _∷_ e
-    (keep-ext (leb q) (leb (q + 1)) (pickFrom (suc k) n P)
+    (filter-ext (leb q) (leb (q + 1)) (pickFrom (suc k) n P)
     (λ x i. let b : suc k ≤ x = pick-out (suc k) n P x (mem-has i) .0 in le-leb q x (omega arith) ∙ sym (le-leb (q + 1) x (omega arith))))))
     (λ (e : k < q). past e (P k) (here (suc k) n P q e (omega arith) h))
     (eq-or-lt-of-le l)
@@ -44,12 +44,12 @@ here k (suc n) P q l u h =
     R : Set
     R = pickFrom (suc k) n P
 
-    past : k < q → (b : Bool) → keep (leb q) R ≡ q ∷ keep (leb (q + 1)) R → keep (leb q) (cond b (k ∷ R) R) ≡ q ∷ keep (leb (q + 1)) (cond b (k ∷ R) R)
+    past : k < q → (b : Bool) → filter (leb q) R ≡ q ∷ filter (leb (q + 1)) R → filter (leb q) (cond b (k ∷ R) R) ≡ q ∷ filter (leb (q + 1)) (cond b (k ∷ R) R)
     past e true ih = rw (lt-leb q k (omega arith), lt-leb (q + 1) k (omega arith)) ih
     past e false ih = ih
 
-least : (k n : ℕ) (P : ℕ → Bool) (p x : ℕ) → k ≤ x → x < k + n → P x ≡ true → p ≤ x → getD (keep (leb p) (pickFrom k n P)) 0 256 ≤ x
-unfolding keep pickFrom
+least : (k n : ℕ) (P : ℕ → Bool) (p x : ℕ) → k ≤ x → x < k + n → P x ≡ true → p ≤ x → getD (filter (leb p) (pickFrom k n P)) 0 256 ≤ x
+unfolding filter pickFrom
 least k zero P p x l u h g = absurd (omega arith)
 least k (suc n) P p x l u h g =
     ⊎-elim (λ (e : k ≡ x). rw (ap P e ∙ h, le-leb p k (omega arith)) (omega arith)) (λ (e : k < x). past (P k) (least (suc k) n P p x e (omega arith) h g))
@@ -58,11 +58,11 @@ least k (suc n) P p x l u h g =
     R : Set
     R = pickFrom (suc k) n P
 
-    first : (b : Bool) → getD (keep (leb p) R) 0 256 ≤ x → getD (cond b (k ∷ keep (leb p) R) (keep (leb p) R)) 0 256 ≤ x
+    first : (b : Bool) → getD (filter (leb p) R) 0 256 ≤ x → getD (cond b (k ∷ filter (leb p) R) (filter (leb p) R)) 0 256 ≤ x
     first true ih = l
     first false ih = ih
 
-    past : (b : Bool) → getD (keep (leb p) R) 0 256 ≤ x → getD (keep (leb p) (cond b (k ∷ R) R)) 0 256 ≤ x
+    past : (b : Bool) → getD (filter (leb p) R) 0 256 ≤ x → getD (filter (leb p) (cond b (k ∷ R) R)) 0 256 ≤ x
     past true ih = first (leb p k) ih
     past false ih = ih
 
@@ -72,32 +72,32 @@ first-of (x ∷ l) = inl (List·Memᴰ·head refl)
 
 pub from-all : (S : Set) → membersFrom 0 S ≡ S
 unfolding membersFrom
-from-all S = keep-all (leb 0) S (λ x i. le-leb 0 x (omega arith))
+from-all S = filter-all (leb 0) S (λ x i. le-leb 0 x (omega arith))
 
 module _ (S : Set) (c : Canon 256 S) where
   -- a member is the first of those from it on
   pub from-here : (q : ℕ) → has q S ≡ true → membersFrom q S ≡ q ∷ membersFrom (q + 1) S
   unfolding membersFrom
   from-here q h =
-      subst (λ (R : Set). keep (leb q) R ≡ q ∷ keep (leb (q + 1)) R) c
+      subst (λ (R : Set). filter (leb q) R ≡ q ∷ filter (leb (q + 1)) R) c
       (here 0 256 (λ x. has x S) q (omega arith) (let b = has-below 256 S c q h in omega arith) h)
 
   pub from-end : (q : ℕ) → 256 ≤ q → membersFrom q S ≡ []
   unfolding membersFrom
-  from-end q l = keep-none (leb q) S (λ x i. let b = has-below 256 S c x (mem-has i) in lt-leb q x (omega arith))
+  from-end q l = filter-none (leb q) S (λ x i. let b = has-below 256 S c x (mem-has i) in lt-leb q x (omega arith))
 
   -- the next member is a member, or 256 stands for none
   pub next-cases : (q : ℕ) → ((has (nextMember S q) S ≡ true) × (q ≤ nextMember S q)) ⊎ ((nextMember S q ≡ 256) × (membersFrom q S ≡ []))
   unfolding nextMember membersFrom
   next-cases q =
-      ⊎-elim (λ m. let r = keep-out (leb q) _ S m in inl (mem-has (r .0), leb-true q _ (r .1))) (λ e. inr (ap (λ l. getD l 0 256) e, e))
-      (first-of (keep (leb q) S))
+      ⊎-elim (λ m. let r = filter-out (leb q) _ S m in inl (mem-has (r .0), leb-true q _ (r .1))) (λ e. inr (ap (λ l. getD l 0 256) e, e))
+      (first-of (filter (leb q) S))
 
   -- nothing lies between
   pub next-least : (q x : ℕ) → has x S ≡ true → q ≤ x → nextMember S q ≤ x
   unfolding nextMember membersFrom
   next-least q x h l =
-      subst (λ (R : Set). getD (keep (leb q) R) 0 256 ≤ x) c
+      subst (λ (R : Set). getD (filter (leb q) R) 0 256 ≤ x) c
       (least 0 256 (λ x. has x S) q x (omega arith) (let b = has-below 256 S c x h in omega arith) h l)
 
   pub next-above : (q : ℕ) → q ≤ 256 → q ≤ nextMember S q

@@ -12,8 +12,8 @@ use borrow.Author.Tests.{leb-true, leb-false, ltb-true, ltb-false, lt-ltb, le-lt
 use lib.Dec.{leb, ltb, eqb}
 use lib.ListN.{length, getD, take, drop, set, replicate, length-drop, length-set, length-replicate}
 use lib.Seq.{drop-nil, take-nil, getD-set-same, getD-set-other}
-use Rattle.lists.specs.Lists.{_∈_, keep, Ascending, none, more}
-use Rattle.lists.proofs.Lists.{keep-none, length-keep, drop-mem}
+use Rattle.lists.specs.Lists.{_∈_, filter, Ascending, none, more}
+use Rattle.lists.proofs.Lists.{filter-none, length-filter, drop-mem}
 use Rattle.lists.proofs.Tests.{test}
 use Rattle.automata.specs.Automaton.{Transition}
 use Rattle.automata.specs.Records.{readRecords}
@@ -33,14 +33,14 @@ rising (more {x} f a) = more (λ y m. front (f y m)) (rising a)
 
 below-none : (q : ℕ) (e : Transition) (es : List Transition) → q ≤ e .from → ((y : Transition) → y ∈ es → e .from ≤ y .from) → below q es ≡ 0
 unfolding below
-below-none q e es h f = ap length (keep-none (λ e. ltb (e .from) q) es (λ y m. le-ltb (y .from) q (let l = f y m in omega arith)))
+below-none q e es h f = ap length (filter-none (λ e. ltb (e .from) q) es (λ y m. le-ltb (y .from) q (let l = f y m in omega arith)))
 
 below-in : (q : ℕ) (e : Transition) (es : List Transition) → e .from < q → below q (e ∷ es) ≡ suc (below q es)
-unfolding below keep
+unfolding below filter
 below-in q e es h = rw (lt-ltb (e .from) q h)
 
 below-out : (q : ℕ) (e : Transition) (es : List Transition) → q ≤ e .from → below q (e ∷ es) ≡ below q es
-unfolding below keep
+unfolding below filter
 below-out q e es h = rw (le-ltb (e .from) q h)
 
 -- record k leaves a state below q exactly when it is one of the first `below q`
@@ -61,7 +61,7 @@ below-split q (suc k) (d ∷ ts) (more f a) e r h =
 
 pub below-length : (q : ℕ) (ts : List Transition) → below q ts ≤ length ts
 unfolding below
-below-length q ts = length-keep _ ts
+below-length q ts = length-filter _ ts
 
 -- belongs to crate lists: what stands in a blank array
 pub blank-at : (n q : ℕ) → _≡_ {A = ℕ} (getD (replicate n 0) q 0) 0
@@ -119,7 +119,7 @@ module _ (t : List ℕ) (k : ℕ) where
 pub ruleset endsLaws = (ends-bound, ends-ended, ends-next, needs)
 
 pub below-mono : (q : ℕ) (ts : List Transition) → below q ts ≤ below (suc q) ts
-unfolding below keep
+unfolding below filter
 below-mono q [] = omega arith
 below-mono q (e ∷ ts) =
     let ih : below q ts ≤ below (suc q) ts = below-mono q ts in
@@ -179,8 +179,8 @@ module _ (t ends : List ℕ) (up : Rising (readRecords t)) (e : Ends t ends (len
       up-to l = omega arith
 
 -- the transitions that leave q are those from `below q` up to `below (q + 1)`
-pub leaving-run : (q : ℕ) (ts : List Transition) → Rising ts → keep (λ e. eqb (e .from) q) ts ≡ take (below (suc q) ts - below q ts) (drop (below q ts) ts)
-unfolding keep
+pub leaving-run : (q : ℕ) (ts : List Transition) → Rising ts → filter (λ e. eqb (e .from) q) ts ≡ take (below (suc q) ts - below q ts) (drop (below q ts) ts)
+unfolding filter
 leaving-run q [] a = rw (drop-nil, take-nil)
 leaving-run q (e ∷ ts) (more f a) =
     let ih = leaving-run q ts a in
@@ -202,6 +202,6 @@ leaving-run q (e ∷ ts) (more f a) =
     (λ u.
     let k : suc q ≤ e .from = ltb-false _ _ u in
     rw (ne-eqb (e .from) q (λ z. omega arith), below-out (suc q) e ts k, below-out q e ts l, z, below-none (suc q) e ts k f)
-    (keep-none (λ e. eqb (e .from) q) ts (λ y m. ne-eqb (y .from) q (λ c. let o = f y m in omega arith))))
+    (filter-none (λ e. eqb (e .from) q) ts (λ y m. ne-eqb (y .from) q (λ c. let o = f y m in omega arith))))
     (test (ltb (e .from) (suc q))))
     (test (ltb (e .from) q))

@@ -26,7 +26,7 @@ orElse-zero zero g e = (refl, e)
 orElse-zero (suc f) g e = absurd (omega arith)
 
 -- what a record that is not bad is
-pub record Good (n : ℕ) (e : Transition) : Type 0 where
+pub record ProperRecord (n : ℕ) (e : Transition) : Type 0 where
   pub from-in : e .from < n
   pub to-in : e .to < n
   pub sound : Sound e
@@ -37,7 +37,7 @@ blank-tests true true false a b = absurd (true≢false b)
 blank-tests true false y a b = absurd (true≢false b)
 blank-tests false x y a b = absurd (true≢false (sym a))
 
-pub bad-not : (n : ℕ) (e : Transition) → isBad n e ≡ false → Good n e
+pub bad-not : (n : ℕ) (e : Transition) → isBad n e ≡ false → ProperRecord n e
 unfolding isBad
 bad-not n e h =
     let a = or-false _ (eqb (e .kind) 0 && not (eqb (e .first) 0 && eqb (e .last) 0)) h in
@@ -52,7 +52,7 @@ bad-not n e h =
       sound = record { known = ltb-false _ _ (d .0); full = ltb-false _ _ (b .1); blank = blank };
     }
 
-good-not : (n : ℕ) (e : Transition) → Good n e → isBad n e ≡ false
+good-not : (n : ℕ) (e : Transition) → ProperRecord n e → isBad n e ≡ false
 unfolding isBad
 good-not n e g =
     rw (le-ltb 1 (e .kind) (g .sound .known), lt-leb n (e .from) (g .from-in), lt-leb n (e .to) (g .to-in), le-ltb (e .last) (e .first) (g .sound .full))
@@ -61,17 +61,17 @@ good-not n e g =
     (λ (t : eqb (e .kind) 0 ≡ false). rw t)
     (test (eqb (e .kind) 0)))
 
-record-pass : (n : ℕ) (before : List ℕ) (e : Transition) → recordFault n before e ≡ 0 → Good n e × (less before (wordsOf e) ≡ true)
+record-pass : (n : ℕ) (before : List ℕ) (e : Transition) → recordFault n before e ≡ 0 → ProperRecord n e × (less before (wordsOf e) ≡ true)
 unfolding recordFault
 record-pass n before e h =
     let p = cond-no (isBad n e) 4 _ h in
     (bad-not n e (p .0), cond-yes (less before (wordsOf e)) 5 0 (p .1) .0)
 
 -- records that pass are good, and ascend
-records-good : (n : ℕ) (before : List ℕ) (es : List Transition) → recordsFault n before es ≡ 0 → (e : Transition) → e ∈ es → Good n e
+records-good : (n : ℕ) (before : List ℕ) (es : List Transition) → recordsFault n before es ≡ 0 → (e : Transition) → e ∈ es → ProperRecord n e
 unfolding recordsFault
 records-good n before [] h e m = elim m [ ]
-records-good n before (d ∷ es) h e (List·Memᴰ·head q) = subst (Good n) (sym q) (record-pass n before d (orElse-zero (recordFault n before d) _ h .0) .0)
+records-good n before (d ∷ es) h e (List·Memᴰ·head q) = subst (ProperRecord n) (sym q) (record-pass n before d (orElse-zero (recordFault n before d) _ h .0) .0)
 records-good n before (d ∷ es) h e (List·Memᴰ·tail m) = records-good n (wordsOf d) es (orElse-zero (recordFault n before d) _ h .1) e m
 
 records-ascend : (n : ℕ) (d : Transition) (es : List Transition) → recordsFault n (wordsOf d) es ≡ 0 → ((e : Transition) → e ∈ es → Before d e) × Ascending Before es
@@ -93,7 +93,7 @@ all-ascend n [] h = none
 all-ascend n (e ∷ es) h = let r = records-ascend n e es (orElse-zero (recordFault n [] e) _ h .1) in more (r .0) (r .1)
 
 -- and records that are good and ascend pass
-records-pass : (n : ℕ) (before : List ℕ) (es : List Transition) → ((e : Transition) → e ∈ es → Good n e) → Ascending Before es
+records-pass : (n : ℕ) (before : List ℕ) (es : List Transition) → ((e : Transition) → e ∈ es → ProperRecord n e) → Ascending Before es
     → ((e : Transition) → e ∈ es → less before (wordsOf e) ≡ true) → recordsFault n before es ≡ 0
 unfolding recordsFault recordFault
 records-pass n before [] g a l = refl

@@ -13,7 +13,7 @@ use Rattle.automata.proofs.Leaving.{leaves}
 use Rattle.automata.proofs.Records.{read-write, records-at, part-record}
 use Rattle.sheets.specs.Sheet.{stateCount, recordsAt, read}
 use Rattle.sheets.specs.inner.Accepted.{Accepted}
-use Rattle.sheets.specs.inner.Runs.{Ready, Named, RunAt}
+use Rattle.sheets.specs.inner.Runs.{IndexedSheet, Named, RunAt}
 use Rattle.sheets.proofs.Meaning.{read-well}
 use Rattle.sheets.proofs.Runs.{run-at}
 
@@ -48,7 +48,7 @@ module _ (s : List ℕ) (a : Accepted s) where
   run-named q run e = subst Named (sym (ap readRecords e ∙ read-write _)) (named-in (leaving (read s) q) (λ d m. leaves (read s) q d m .0))
 
 -- the same with the table of runs
-module _ (s starts : List ℕ) (r : Ready s starts) (q : ℕ) where
+module _ (s starts : List ℕ) (r : IndexedSheet s starts) (q : ℕ) where
   pub ready-run : q < stateCount s → RunAt s starts q
   ready-run h = run-at s (r .accepted) starts q (r .indexed) h
 

@@ -9,8 +9,8 @@ use borrow.Author.Tests.{eq-eqb, ne-eqb, eqb-true, not-true, not-false}
 use lib.Dec.{eqb}
 use lib.ListN.{length, getD, take, drop}
 use lib.Seq.{sets}
-use Rattle.lists.specs.Lists.{_∈_, any, keep, all}
-use Rattle.lists.proofs.Lists.{any-out, any-in, any-ext, keep-in, keep-out}
+use Rattle.lists.specs.Lists.{_∈_, any, filter, all}
+use Rattle.lists.proofs.Lists.{any-out, any-in, any-ext, filter-in, filter-out}
 use Rattle.lists.proofs.Index.{same-decides}
 use Rattle.lists.proofs.Members.{at-in}
 use Rattle.lists.proofs.Parts.{part-all}
@@ -21,7 +21,7 @@ use Rattle.labels.specs.Labels.{sameLabel, readLabels}
 use Rattle.labels.proofs.Labels.{length-read}
 use Rattle.name_table.specs.inner.Names.{namesIn}
 use Rattle.search.proofs.Tables.{meet-in}
-use Rattle.sheets.specs.inner.Runs.{startsOf, Named, Ready}
+use Rattle.sheets.specs.inner.Runs.{startsOf, Named, IndexedSheet}
 use Rattle.sheets.specs.Sheet.{stateCount, read}
 use Rattle.sheets.proofs.Meaning.{read-well}
 use Rattle.sheets.proofs.Named.{sheet-named}
@@ -67,9 +67,9 @@ module _ (a al b bl starts ca cb : List ℕ) (t : Tabled a al b bl starts ca cb)
   unfolding fitsFrom leaving
   from-state d q md h =
       let two = and-parts (eqb (getD cb q 0) (getD ca (d .from) 0)) _ h in
-      let o = any-out (fits cb (getD ca (d .to) 0) d) (keep (λ (e : Transition). eqb (e .from) q) (read b .transitions)) (two .1) in
+      let o = any-out (fits cb (getD ca (d .to) 0) d) (filter (λ (e : Transition). eqb (e .from) q) (read b .transitions)) (two .1) in
       let e = o .0 in
-      let k = keep-out (λ (e : Transition). eqb (e .from) q) e (read b .transitions) (o .1) in
+      let k = filter-out (λ (e : Transition). eqb (e .from) q) e (read b .transitions) (o .1) in
       let z : e .from ≡ q = eqb-true (e .from) q (k .1) in
       let y : eqb (getD cb (e .from) 0) (getD ca (d .from) 0) ≡ true = ap (λ (p : ℕ). eqb (getD cb p 0) (getD ca (d .from) 0)) z ∙ two .0 in
       any-in (covers (patternOf a al) (patternOf b bl) d) (k .0) (sym (fits-same d e md (k .0)) ∙ and-both _ _ y (o .2))
@@ -79,7 +79,7 @@ module _ (a al b bl starts ca cb : List ℕ) (t : Tabled a al b bl starts ca cb)
   unfolding fitsFrom leaving
   from-transition d e md me h =
       let two = and-parts (eqb (getD cb (e .from) 0) (getD ca (d .from) 0)) _ (fits-same d e md me ∙ h) in
-      and-both _ _ (two .0) (any-in (fits cb (getD ca (d .to) 0) d) (keep-in (λ (x : Transition). eqb (x .from) (e .from)) me (eq-eqb (e .from) (e .from) refl)) (two .1))
+      and-both _ _ (two .0) (any-in (fits cb (getD ca (d .to) 0) d) (filter-in (λ (x : Transition). eqb (x .from) (e .from)) me (eq-eqb (e .from) (e .from) refl)) (two .1))
 
   covered-same : (d : Transition) → d ∈ read a .transitions → fitsIn (read b) ca cb d ≡ isCovered (patternOf a al) (patternOf b bl) d
   unfolding fitsIn isCovered
@@ -123,7 +123,7 @@ module _ (a al b bl starts ca cb : List ℕ) (t : Tabled a al b bl starts ca cb)
   pub decide-named : Named (readRecords (take (length a - (stateCount a + 4)) (drop (stateCount a + 4) a)))
   decide-named = sheet-named a (t .inputs .first)
 
-  pub decide-ready : Ready b starts
+  pub decide-ready : IndexedSheet b starts
   decide-ready = record { accepted = t .inputs .second; indexed = t .indexed }
 
 pub ruleset decideLaws = (decide-states, decide-start, decide-covered, decide-named, decide-ready, needs)

@@ -11,7 +11,7 @@ use lib.Dec.{eqb, ltb}
 use lib.ListN.{length, getD, take, drop}
 use Rattle.lists.specs.Lists.{_∈_, any, Ascending}
 use Rattle.lists.proofs.Lists.{any-out}
-use Rattle.lists.proofs.Members.{ascending-first, ascending-rest, ascending-by, ascending-keep}
+use Rattle.lists.proofs.Members.{ascending-first, ascending-rest, ascending-by, ascending-filter}
 use Rattle.lists.proofs.Tests.{test}
 use Rattle.automata.specs.Automaton.{Transition, Automaton, leaving}
 use Rattle.automata.specs.Records.{readRecords, writeRecords}
@@ -19,7 +19,7 @@ use Rattle.automata.specs.WellFormed.{Lex, Before, Sound, WellFormed}
 use Rattle.automata.specs.inner.Records.{recordAt}
 use Rattle.automata.proofs.Leaving.{leaves}
 use Rattle.automata.proofs.Records.{records-at, records-end, read-write}
-use Rattle.sheets.specs.inner.Runs.{Ready}
+use Rattle.sheets.specs.inner.Runs.{IndexedSheet}
 use Rattle.sheets.specs.Sheet.{read}
 use Rattle.sheets.proofs.Meaning.{read-well}
 use Rattle.sheets.proofs.Named.{named-to, ready-named}
@@ -150,10 +150,10 @@ unfolding leaving
 leaving-rises A q w =
     let out : (e : Transition) → e ∈ leaving A q → e ∈ A .transitions × (e .from ≡ q) = λ e m. leaves A q e m in
     ascending-by (λ d e m n. starts-below d e (out d m .1 ∙ sym (out e n .1)) (w .sound d (out d m .0)) (w .sound e (out e n .0)))
-    (ascending-keep (λ e. eqb (e .from) q) (w .ascends))
+    (ascending-filter (λ e. eqb (e .from) q) (w .ascends))
 
 -- the run of a state
-pub ready-ordered : (s starts : List ℕ) (r : Ready s starts) (q : ℕ) (run : List ℕ) → run ≡ writeRecords (leaving (read s) q) → Ordered (readRecords run)
+pub ready-ordered : (s starts : List ℕ) (r : IndexedSheet s starts) (q : ℕ) (run : List ℕ) → run ≡ writeRecords (leaving (read s) q) → Ordered (readRecords run)
 ready-ordered s starts r q run e =
     record {
       named = ready-named s starts r q run e;

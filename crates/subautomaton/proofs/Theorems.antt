@@ -15,7 +15,7 @@ use lib.Dec.{eqb, ltb, leb, lit≤}
 use Rattle.lists.specs.Lists.{_∈_, any, all}
 use Rattle.lists.proofs.Lists.{any-out, any-in}
 use Rattle.lists.proofs.Tests.{and-parts, and-both, or-cases}
-use Rattle.automata.specs.Automaton.{Transition, states}
+use Rattle.automata.specs.Automaton.{Transition, states, acceptOf}
 use Rattle.labels.specs.Labels.{sameLabel, labelsFault, labelsOk}
 use Rattle.lists.proofs.Index.{same-equal, equal-same}
 use Rattle.output.specs.Output.{Pattern, labelsFirst}
@@ -33,7 +33,7 @@ use Rattle.sheets.specs.Sheet.{stateCount}
 use Rattle.sheets.proofs.Decisions.{number-some, call-is, call-refused, sheet-either, given-not}
 use Rattle.sheets.proofs.Numbers.{sheet-given, sheet-number, sheet-fault}
 use Rattle.subautomaton.specs.Answer.{patternOf, subautomatonAnswer}
-use Rattle.subautomaton.specs.Inclusion.{labelOf, acceptOf, isSame, hasState, covers, isCovered, isSubautomaton, Covers, Sub}
+use Rattle.subautomaton.specs.Inclusion.{labelOf, isSame, hasState, covers, isCovered, isSubautomaton, Covers, Sub}
 use Rattle.lists.proofs.Every.{all-out, all-in}
 use Rattle.automata.proofs.States.{states-in, states-out}
 
@@ -57,22 +57,22 @@ module _ (P Q : Pattern) where
   unfolding covers
   covers-in d e c = rw (equal-same _ _ (c .from), equal-same _ _ (c .to), eq-eqb (e .kind) (d .kind) (c .kind), le-leb (e .first) (d .first) (c .first), le-leb (d .last) (e .last) (c .last))
 
-  same-in : (p q : ℕ) → labelOf P p ≡ labelOf Q q → (0 < acceptOf P p → 0 < acceptOf Q q) → isSame P Q p q ≡ true
+  same-in : (p q : ℕ) → labelOf P p ≡ labelOf Q q → (0 < acceptOf (P .automaton) p → 0 < acceptOf (Q .automaton) q) → isSame P Q p q ≡ true
   unfolding isSame
-  same-in p q e h = rw (equal-same _ _ e) (by-word (eqb (acceptOf P p) 0) refl)
+  same-in p q e h = rw (equal-same _ _ e) (by-word (eqb (acceptOf (P .automaton) p) 0) refl)
     where
-      by-word : (b : Bool) → eqb (acceptOf P p) 0 ≡ b → (b || ltb 0 (acceptOf Q q)) ≡ true
+      by-word : (b : Bool) → eqb (acceptOf (P .automaton) p) 0 ≡ b → (b || ltb 0 (acceptOf (Q .automaton) q)) ≡ true
       by-word true k = refl
-      by-word false k = let n : acceptOf P p ≡ 0 → ⊥ = eqb-false (acceptOf P p) 0 k in lt-ltb 0 (acceptOf Q q) (h (omega arith))
+      by-word false k = let n : acceptOf (P .automaton) p ≡ 0 → ⊥ = eqb-false (acceptOf (P .automaton) p) 0 k in lt-ltb 0 (acceptOf (Q .automaton) q) (h (omega arith))
 
   -- the state of Q that the state p of P is
-  same-out : (p q : ℕ) → isSame P Q p q ≡ true → (labelOf P p ≡ labelOf Q q) × (0 < acceptOf P p → 0 < acceptOf Q q)
+  same-out : (p q : ℕ) → isSame P Q p q ≡ true → (labelOf P p ≡ labelOf Q q) × (0 < acceptOf (P .automaton) p → 0 < acceptOf (Q .automaton) q)
   unfolding isSame
   same-out p q h =
       let two = and-parts (sameLabel (labelOf P p) (labelOf Q q)) _ h in
-      (same-equal _ _ (two .0), λ a. ⊎-elim (λ (z : eqb (acceptOf P p) 0 ≡ true). absurd (let y : acceptOf P p ≡ 0 = eqb-true (acceptOf P p) 0 z in omega arith)) (λ z. ltb-true 0 (acceptOf Q q) z) (or-cases (eqb (acceptOf P p) 0) _ (two .1)))
+      (same-equal _ _ (two .0), λ a. ⊎-elim (λ (z : eqb (acceptOf (P .automaton) p) 0 ≡ true). absurd (let y : acceptOf (P .automaton) p ≡ 0 = eqb-true (acceptOf (P .automaton) p) 0 z in omega arith)) (λ z. ltb-true 0 (acceptOf (Q .automaton) q) z) (or-cases (eqb (acceptOf (P .automaton) p) 0) _ (two .1)))
 
-  has-out : (p : ℕ) → hasState P Q p ≡ true → (q : ℕ) × (q < Q .automaton .size) × (labelOf P p ≡ labelOf Q q) × (0 < acceptOf P p → 0 < acceptOf Q q)
+  has-out : (p : ℕ) → hasState P Q p ≡ true → (q : ℕ) × (q < Q .automaton .size) × (labelOf P p ≡ labelOf Q q) × (0 < acceptOf (P .automaton) p → 0 < acceptOf (Q .automaton) q)
   unfolding hasState
   has-out p h =
       let o = any-out (isSame P Q p) (states (Q .automaton .size)) h in
@@ -81,15 +81,15 @@ module _ (P Q : Pattern) where
 
   has-in : Sub P Q → (p : ℕ) → p < P .automaton .size → hasState P Q p ≡ true
   unfolding hasState
-  has-in s p h = by-word (eqb (acceptOf P p) 0) refl
+  has-in s p h = by-word (eqb (acceptOf (P .automaton) p) 0) refl
     where
-      by-word : (b : Bool) → eqb (acceptOf P p) 0 ≡ b → any (isSame P Q p) (states (Q .automaton .size)) ≡ true
+      by-word : (b : Bool) → eqb (acceptOf (P .automaton) p) 0 ≡ b → any (isSame P Q p) (states (Q .automaton .size)) ≡ true
       by-word true k =
-          let z : acceptOf P p ≡ 0 = eqb-true (acceptOf P p) 0 k in
+          let z : acceptOf (P .automaton) p ≡ 0 = eqb-true (acceptOf (P .automaton) p) 0 k in
           let q = s .has-state p h in
           any-in (isSame P Q p) (states-in (Q .automaton .size) (q .0) (q .1)) (same-in p (q .0) (q .2) (λ a. absurd (omega arith)))
       by-word false k =
-          let n : acceptOf P p ≡ 0 → ⊥ = eqb-false (acceptOf P p) 0 k in
+          let n : acceptOf (P .automaton) p ≡ 0 → ⊥ = eqb-false (acceptOf (P .automaton) p) 0 k in
           let q = s .accepting p h (omega arith) in
           any-in (isSame P Q p) (states-in (Q .automaton .size) (q .0) (q .1)) (same-in p (q .0) (q .2) (λ a. q .3))
 

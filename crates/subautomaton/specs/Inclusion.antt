@@ -7,19 +7,16 @@ use mathlib.Core.Path.{_≡_}
 use lib.Dec.{eqb, leb, ltb}
 use lib.ListN.{getD}
 use Rattle.lists.specs.Lists.{_∈_, any, all}
-use Rattle.automata.specs.Automaton.{Transition, states}
+use Rattle.automata.specs.Automaton.{Transition, acceptOf, states}
 use Rattle.labels.specs.Labels.{sameLabel}
 use Rattle.output.specs.Output.{Pattern}
 
 abbrev pub labelOf : Pattern → ℕ → List ℕ
 labelOf P q = getD (P .labels) q []
 
-abbrev pub acceptOf : Pattern → ℕ → ℕ
-acceptOf P q = getD (P .automaton .accept) q 0
-
 -- q has the label of p, and accepts if p does
 unfoldable pub isSame : Pattern → Pattern → ℕ → ℕ → Bool
-isSame P Q p q = sameLabel (labelOf P p) (labelOf Q q) && (eqb (acceptOf P p) 0 || ltb 0 (acceptOf Q q))
+isSame P Q p q = sameLabel (labelOf P p) (labelOf Q q) && (eqb (acceptOf (P .automaton) p) 0 || ltb 0 (acceptOf (Q .automaton) q))
 
 -- the state p of P is one of Q
 unfoldable pub hasState : Pattern → Pattern → ℕ → Bool
@@ -51,6 +48,6 @@ pub record Covers (P Q : Pattern) (d e : Transition) : Type 0 where
 
 pub record Sub (P Q : Pattern) : Type 0 where
   pub has-state : (p : ℕ) → p < P .automaton .size → (q : ℕ) × (q < Q .automaton .size) × (labelOf P p ≡ labelOf Q q)
-  pub accepting : (p : ℕ) → p < P .automaton .size → 0 < acceptOf P p → (q : ℕ) × (q < Q .automaton .size) × (labelOf P p ≡ labelOf Q q) × (0 < acceptOf Q q)
+  pub accepting : (p : ℕ) → p < P .automaton .size → 0 < acceptOf (P .automaton) p → (q : ℕ) × (q < Q .automaton .size) × (labelOf P p ≡ labelOf Q q) × (0 < acceptOf (Q .automaton) q)
   pub start : labelOf P (P .automaton .start) ≡ labelOf Q (Q .automaton .start)
   pub transitions : (d : Transition) → d ∈ P .automaton .transitions → (e : Transition) × e ∈ Q .automaton .transitions × Covers P Q d e

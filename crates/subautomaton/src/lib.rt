@@ -13,7 +13,7 @@ ghost use Rattle.refusal.specs.Decision.{decisionOf};
 ghost use Rattle.sheets.specs.inner.Accepted.{Accepted};
 ghost use Rattle.sheets.specs.Sheet.{stateCount, read};
 ghost use Rattle.subautomaton.specs.Inclusion.{isSubautomaton};
-ghost use Rattle.sheets.specs.inner.Runs.{Named, Ready};
+ghost use Rattle.sheets.specs.inner.Runs.{Named, IndexedSheet};
 ghost use Rattle.subautomaton.specs.inner.Tables.{LabelTable, Numbered, isHeld, isHeldIn, fits, reaching, Ordered, fitsFrom, fitsIn, Inputs, Tabled};
 ghost use Rattle.subautomaton.specs.Answer.{patternOf, subautomatonAnswer};
 use refusal::Decision;
@@ -160,7 +160,7 @@ fn state_covers(
     to: u32,
     q: u32,
 ) -> bool
-    requires { ⌜ (length (now d) ≡ 5) × Ready (now b) (now starts) × (length (now cb) ≡ 256) × (q < stateCount (now b)) ⌝ }
+    requires { ⌜ (length (now d) ≡ 5) × IndexedSheet (now b) (now starts) × (length (now cb) ≡ 256) × (q < stateCount (now b)) ⌝ }
     ensures { λ r. ⌜ r ≡ fitsFrom (read (now (b .entry))) (now (cb .entry)) from to (recordAt (now (d .entry)) 0) q ⌝ }
 {
     if cb[q as usize] != from {
@@ -171,7 +171,7 @@ fn state_covers(
 
 // Whether some state does so for the record d of a.
 fn is_covered(d: &[u32], b: &[u32], starts: &[u32], ca: &[u32], cb: &[u32]) -> bool
-    requires { ⌜ (length (now d) ≡ 5) × Ready (now b) (now starts) × (length (now ca) ≡ 256) × (length (now cb) ≡ 256) × (recordAt (now d) 0 .from < 256) × (recordAt (now d) 0 .to < 256) ⌝ }
+    requires { ⌜ (length (now d) ≡ 5) × IndexedSheet (now b) (now starts) × (length (now ca) ≡ 256) × (length (now cb) ≡ 256) × (recordAt (now d) 0 .from < 256) × (recordAt (now d) 0 .to < 256) ⌝ }
     ensures { λ r. ⌜ r ≡ fitsIn (read (now (b .entry))) (now (ca .entry)) (now (cb .entry)) (recordAt (now (d .entry)) 0) ⌝ }
 {
     let from = ca[d[0] as usize];
@@ -189,7 +189,7 @@ fn is_covered(d: &[u32], b: &[u32], starts: &[u32], ca: &[u32], cb: &[u32]) -> b
 
 // Whether each of the records is covered.
 fn are_covered(records: &[u32], b: &[u32], starts: &[u32], ca: &[u32], cb: &[u32]) -> bool
-    requires { ⌜ Named (readRecords (now records)) × Ready (now b) (now starts) × (length (now ca) ≡ 256) × (length (now cb) ≡ 256) ⌝ }
+    requires { ⌜ Named (readRecords (now records)) × IndexedSheet (now b) (now starts) × (length (now ca) ≡ 256) × (length (now cb) ≡ 256) ⌝ }
     ensures { λ r. ⌜ r ≡ all (fitsIn (read (now (b .entry))) (now (ca .entry)) (now (cb .entry))) (readRecords (now (records .entry))) ⌝ }
 {
     let mut at: usize = 0;

@@ -8,7 +8,7 @@ use native.Mathlib.Omega.{arith}
 use lib.Dec.{eqb}
 use lib.ListN.{length, getD, drop, length-append}
 use Rattle.lists.specs.Lists.{_∈_}
-use Rattle.lists.proofs.Lists.{keep-in, keep-out}
+use Rattle.lists.proofs.Lists.{filter-in, filter-out}
 use Rattle.lists.proofs.Members.{ascending-by}
 use Rattle.lists.proofs.Tests.{and-both, and-parts}
 use Rattle.automata.specs.Automaton.{Transition}
@@ -98,7 +98,7 @@ timeline k s a S =
     let ts = read s .transitions in
     let ok = read-well s a .states in
     let out : (e : Transition) → e ∈ outgoing (read s) S → e ∈ ts × (eqb (e .kind) 1 ≡ true) × (has (e .from) S ≡ true) =
-    λ e m. let i = keep-out _ e ts m in let b = and-parts (eqb (e .kind) 1) _ (i .1) in (i .0, b .0, b .1) in
+    λ e m. let i = filter-out _ e ts m in let b = and-parts (eqb (e .kind) 1) _ (i .1) in (i .0, b .0, b .1) in
     let of : (v : Transition) → v ∈ inOrder (events k s) → (j : ℕ) × (j < 0 + recordCount s) × IsRange s j × (v ≡ eventAt k s j) =
     λ v m. events-out k s (recordCount s) 0 v (inOrder-out v (events k s) m) in
     let there : (v : Transition) (m : v ∈ inOrder (events k s)) → recordAt s (recordsAt s + 5 * of v m .0) ∈ ts =
@@ -115,7 +115,7 @@ timeline k s a S =
       only = λ v m h.
           let r = of v m in
           let f : v .first ≡ getD s (recordsAt s + 5 * r .0) 0 = ap (λ x. x .first) (r .3) in
-          (recordAt s (recordsAt s + 5 * r .0), keep-in _ (there v m) (and-both _ _ (r .2) (rw f at h)), r .0, r .3);
+          (recordAt s (recordsAt s + 5 * r .0), filter-in _ (there v m) (and-both _ _ (r .2) (rw f at h)), r .0, r .3);
       states = λ v m.
           let r = of v m in
           let f : v .first ≡ getD s (recordsAt s + 5 * r .0) 0 = ap (λ x. x .first) (r .3) in

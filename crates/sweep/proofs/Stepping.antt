@@ -9,7 +9,7 @@ use borrow.Author.Tests.{eq-eqb, eqb-true, ltb-true, ltb-false}
 use lib.Dec.{ltb}
 use lib.ListN.{getD}
 use Rattle.lists.specs.Lists.{_∈_, any}
-use Rattle.lists.proofs.Lists.{any-in, any-out, keep-out}
+use Rattle.lists.proofs.Lists.{any-in, any-out, filter-out}
 use Rattle.lists.proofs.Tests.{test, true-same, and-both, and-parts}
 use Rattle.automata.specs.Automaton.{Transition, Automaton, InBounds, holds}
 use Rattle.sets.specs.Sets.{Set, has}
@@ -27,7 +27,7 @@ module _ (A : Automaton) (ok : InBounds A) (few : A .size ≤ 256) (S : Set) {U 
     (rows : (q : ℕ) → q < A .size → C q ≡ closure A q) (p : Passes (outgoing A S) S U W Q R a r C (leaf t)) (far : Ahead 0 S Q a) (ahead : Ahead 1 S R a) where
   target-in : (e : Transition) → e ∈ outgoing A S → e .to < A .size
   unfolding outgoing
-  target-in e m = ok .tos e (keep-out _ e (A .transitions) m .0)
+  target-in e m = ok .tos e (filter-out _ e (A .transitions) m .0)
 
   root-leads : (x : ℕ) → has x (setAt t 4) ≡ any (λ e. holds a e && has x (closure A (e .to))) (outgoing A S)
   root-leads x =

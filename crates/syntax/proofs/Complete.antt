@@ -11,7 +11,7 @@ use lib.ListN.{length, getD, drop, length-drop, length-append}
 use lib.Seq.{drop-drop, drop-append-seam, take-append-seam, getD-drop}
 use Rattle.decimal.specs.Decimal.{value}
 use Rattle.grammar.specs.Bytes.{isSpace, isLetter, isDigit, isNameByte}
-use Rattle.grammar.specs.Grammar.{Found, nothing, found, follow, mark, run, space, neededSpace, begins, token, name, number, Ends, ends, range, target, transition, initial, nextName, Items, transitions, nextNames, accepting, heading, ending, wholeText}
+use Rattle.grammar.specs.Grammar.{ReadResult, nothing, found, follow, mark, run, space, neededSpace, begins, token, name, number, Ends, ends, range, target, transition, initial, nextName, Items, transitions, nextNames, accepting, heading, ending, wholeText}
 use Rattle.grammar.specs.Places.{spelled}
 use Rattle.grammar.proofs.Letters.{letter-named}
 use Rattle.grammar.specs.declared.tokens.NamePiece.the-variants.{Read as NameRead, Nothing as NoName}
@@ -29,7 +29,7 @@ module _ (t : List ℕ) where
     pub inside : p ≤ length t
 
   -- a piece finds what says y, and l stands behind it
-  pub record Finds {X Y : Type 0} (say : X → Y) (r : Found X) (y : Y) (l : List ℕ) : Type 0 where
+  pub record Finds {X Y : Type 0} (say : X → Y) (r : ReadResult X) (y : Y) (l : List ℕ) : Type 0 where
     pub what : X
     pub place : ℕ
     pub reads : r ≡ found what place
@@ -39,7 +39,7 @@ module _ (t : List ℕ) where
   abbrev itself : {X : Type 0} → X → X
   itself x = x
 
-  pub then : {X Y Z W : Type 0} {say : X → Y} {say′ : Z → W} {r : Found X} {f : X → ℕ → Found Z} {y : Y} {z : W} {l m : List ℕ}
+  pub then : {X Y Z W : Type 0} {say : X → Y} {say′ : Z → W} {r : ReadResult X} {f : X → ℕ → ReadResult Z} {y : Y} {z : W} {l m : List ℕ}
       → Finds say r y l → ((x : X) (b : ℕ) → say x ≡ y → At b l → Finds say′ (f x b) z m) → Finds say′ (follow r f) z m
   unfolding follow
   then a g =

@@ -11,7 +11,7 @@ use lib.Seq.{drop-drop, getD-drop, length-take-le}
 use Rattle.decimal.specs.Decimal.{value}
 use Rattle.lists.proofs.Tests.{and-parts}
 use Rattle.grammar.specs.Bytes.{isSpace, isLetter, isDigit, isNameByte}
-use Rattle.grammar.specs.Grammar.{Found, nothing, found, follow, run, space, neededSpace, begins, token, name, number, ends, range, target, transition, initial, nextName, oneMore, many, transitions, nextNames, accepting, heading, ending, wholeText}
+use Rattle.grammar.specs.Grammar.{ReadResult, nothing, found, follow, run, space, neededSpace, begins, token, name, number, ends, range, target, transition, initial, nextName, oneMore, many, transitions, nextNames, accepting, heading, ending, wholeText}
 use Rattle.grammar.specs.Places.{spelled}
 use Rattle.grammar.proofs.Letters.{letter-named}
 use Rattle.grammar.proofs.Runs.{run-short}
@@ -22,22 +22,22 @@ use Rattle.syntax.specs.Spelled.{spellMove, spell}
 use Rattle.syntax.proofs.Runs.{each-run}
 
 -- what follows a piece that is made of pieces
-nest : {X Y Z : Type 0} {P : Z → ℕ → Type 0} (r : Found X) (f : X → ℕ → Found Y) (g : Y → ℕ → Found Z) → Holds P (follow r (λ x a. follow (f x a) g)) → Holds P (follow (follow r f) g)
+nest : {X Y Z : Type 0} {P : Z → ℕ → Type 0} (r : ReadResult X) (f : X → ℕ → ReadResult Y) (g : Y → ℕ → ReadResult Z) → Holds P (follow r (λ x a. follow (f x a) g)) → Holds P (follow (follow r f) g)
 unfolding follow
 nest nothing f g h = none
 nest (found x a) f g h = h
 
 -- the first of the pieces that a piece is made of
-inner : {X Y Z : Type 0} {Q : X → ℕ → Type 0} {P : Z → ℕ → Type 0} {r : Found X} (f : X → ℕ → Found Y) (g : Y → ℕ → Found Z)
+inner : {X Y Z : Type 0} {Q : X → ℕ → Type 0} {P : Z → ℕ → Type 0} {r : ReadResult X} (f : X → ℕ → ReadResult Y) (g : Y → ℕ → ReadResult Z)
     → Holds Q r → ((x : X) (a : ℕ) → Q x a → Holds P (follow (f x a) g)) → Holds P (follow (follow r f) g)
 inner f g h k = nest _ f g (holds-follow _ h k)
 
-when : {X Z : Type 0} {P : Z → ℕ → Type 0} (b : Bool) (x : X) (a : ℕ) (g : X → ℕ → Found Z) → (b ≡ true → Holds P (g x a)) → Holds P (follow (cond b (found x a) nothing) g)
+when : {X Z : Type 0} {P : Z → ℕ → Type 0} (b : Bool) (x : X) (a : ℕ) (g : X → ℕ → ReadResult Z) → (b ≡ true → Holds P (g x a)) → Holds P (follow (cond b (found x a) nothing) g)
 unfolding follow
 when true x a g h = h refl
 when false x a g h = none
 
-given : {X Z : Type 0} {P : Z → ℕ → Type 0} (x : X) (a : ℕ) (g : X → ℕ → Found Z) → Holds P (g x a) → Holds P (follow (found x a) g)
+given : {X Z : Type 0} {P : Z → ℕ → Type 0} (x : X) (a : ℕ) (g : X → ℕ → ReadResult Z) → Holds P (g x a) → Holds P (follow (found x a) g)
 unfolding follow
 given x a g h = h
 
@@ -141,14 +141,14 @@ module _ (t : List ℕ) where
       })))
 
   -- pieces one behind the other
-  all-pieces : {X : Type 0} (f : ℕ → Found X) (G : List ℕ → List X → Type 0) → G [] []
+  all-pieces : {X : Type 0} (f : ℕ → ReadResult X) (G : List ℕ → List X → Type 0) → G [] []
       → ((p : ℕ) → Holds (λ x b. Took p b (λ u. (v : List ℕ) (xs : List X) → G v xs → G (u ⨾ v) (x ∷ xs))) (f p))
       → (k p : ℕ) → Took p (many f k p .behind) (λ u. G u (many f k p .items))
   unfolding many
   all-pieces f G z h zero p = record { part = []; reads = record { bytes = refl }; holds = z }
   all-pieces {X = X} f G z h (suc k) p = go (f p) (h p) (all-pieces f G z h k)
     where
-      go : (r : Found X) → Holds (λ x b. Took p b (λ u. (v : List ℕ) (xs : List X) → G v xs → G (u ⨾ v) (x ∷ xs))) r
+      go : (r : ReadResult X) → Holds (λ x b. Took p b (λ u. (v : List ℕ) (xs : List X) → G v xs → G (u ⨾ v) (x ∷ xs))) r
           → ((p : ℕ) → Took p (many f k p .behind) (λ u. G u (many f k p .items))) → Took p (oneMore p r (many f k) .behind) (λ u. G u (oneMore p r (many f k) .items))
       go nothing none ih = record { part = []; reads = record { bytes = refl }; holds = z }
       go (found x b) (some i) ih = record { part = _; reads = i .reads ▸ ih b .reads; holds = i .holds _ _ (ih b .holds) }

@@ -11,7 +11,7 @@ use mathlib.Core.Path.{_≡_, refl, sym, _∙_, ap}
 use native.Mathlib.Omega.{arith}
 use lib.ListN.{length, take, drop, length-drop, length-append, take-append-drop}
 use lib.Seq.{take-append-seam, take-at, length-take-le}
-use Rattle.grammar.specs.Grammar.{Found, nothing, found, Told, wholeText}
+use Rattle.grammar.specs.Grammar.{ReadResult, nothing, found, TextParts, wholeText}
 use Rattle.grammar.proofs.Progress.{holds-found, text-inside}
 use Rattle.syntax.specs.Syntax.{Text, Said, BeginsWith}
 use Rattle.syntax.specs.Spelled.{spell}
@@ -19,7 +19,7 @@ use Rattle.syntax.proofs.Complete as Complete
 use Rattle.syntax.proofs.Sound as Sound
 
 -- what the reader takes is a text of the rules, and says what was found
-pub sound : (t : List ℕ) (g : Told) (n : ℕ) → wholeText t ≡ found g n → (n ≤ length t) × Text (take n t) (spell t g)
+pub sound : (t : List ℕ) (g : TextParts) (n : ℕ) → wholeText t ≡ found g n → (n ≤ length t) × Text (take n t) (spell t g)
 sound t g n e =
     let h = holds-found _ (Sound.a-text t) e in
     let i : n ≤ length t = holds-found _ (text-inside t) e in
@@ -31,7 +31,7 @@ sound t g n e =
     take-part u n l b = ap (take n) b ∙ take-at u (drop n t) n l
 
 -- a text of the rules is taken to its end, whatever stands behind it
-pub complete : {t u : List ℕ} {s : Said} → BeginsWith t u s → (g : Told) × (wholeText t ≡ found g (length u)) × (spell t g ≡ s)
+pub complete : {t u : List ℕ} {s : Said} → BeginsWith t u s → (g : TextParts) × (wholeText t ≡ found g (length u)) × (spell t g ≡ s)
 complete {t} {u} b =
     let f = Complete.a-text t (b .text) (record { here = b .whole; inside = omega arith }) in
     let e : f .place ≡ length u = omega (arith, f .behind .inside, ap length (f .behind .here), length-drop (f .place) t, ap length (b .whole), length-append u (b .rest)) in
@@ -42,7 +42,7 @@ pub front : (t : List ℕ) (n : ℕ) {s : Said} → Text (take n t) s → Begins
 front t n x = record { text = x; rest = drop n t; whole = sym (take-append-drop n t) }
 
 -- n bytes that say s are taken exactly where the first n bytes of t are a text that says s
-pub taken : (t : List ℕ) (n : ℕ) (s : Said) → ((g : Told) × (wholeText t ≡ found g n) × (spell t g ≡ s)) ↔ ((n ≤ length t) × Text (take n t) s)
+pub taken : (t : List ℕ) (n : ℕ) (s : Said) → ((g : TextParts) × (wholeText t ≡ found g n) × (spell t g ≡ s)) ↔ ((n ≤ length t) × Text (take n t) s)
 taken t n s = (
   λ h. let x = sound t (h .0) n (h .1) in (x .0, rw (← h .2) (x .1)),
   λ h. let c = complete (front t n (h .1)) in (c .0, c .1 ∙ ap (found (c .0)) (length-take-le n t (h .0)), c .2),
@@ -55,7 +55,7 @@ untaken t = (
   go (wholeText t) refl,
 )
   where
-    go : (f : Found Told) → wholeText t ≡ f → ((u : List ℕ) (s : Said) → BeginsWith t u s → ⊥) → wholeText t ≡ nothing
+    go : (f : ReadResult TextParts) → wholeText t ≡ f → ((u : List ℕ) (s : Said) → BeginsWith t u s → ⊥) → wholeText t ≡ nothing
     go nothing e n = e
     go (found g k) e n = absurd (n _ _ (front t k (sound t g k e .1)))
 

@@ -50,34 +50,34 @@ module _ (s b o l : List ℕ) (r : inputs.Inputs) (e : inputsOf r ≡ inputsFirs
   pub inputs-accepted : r ≡ input.Good → Accepted s × (labelsFault (stateCount s) b ≡ 0) × (10500 ≤ length o) × (16642 ≤ length l)
   inputs-accepted h = let p = passed-inputs s b o l passed r e h .0 in (p .sheet, p .label-list, p .words, p .bytes)
 
-  module _ (lo hi : ℕ) where
-    pub totalize-made : r ≡ input.Good → (m : Made) (o′ l′ : List ℕ) → outputOf m o′ l′ ≡ outputs o l (limited (turnedPattern false lo hi (read s) (readLabels b))) → outputOf m o′ l′ ≡ outputs o l (roomFirst o l (totalizeAnswer lo hi s b))
+  module _ (lower upper : ℕ) where
+    pub totalize-made : r ≡ input.Good → (m : Made) (o′ l′ : List ℕ) → outputOf m o′ l′ ≡ outputs o l (limited (turnedPattern false lower upper (read s) (readLabels b))) → outputOf m o′ l′ ≡ outputs o l (roomFirst o l (totalizeAnswer lower upper s b))
     unfolding totalizeAnswer inputsFirst totalPattern turnedPattern
-    totalize-made h m o′ l′ f = f ∙ ap (outputs o l) (sym (passed-inputs s b o l (limited (totalPattern lo hi (read s) (readLabels b))) r e h .1))
+    totalize-made h m o′ l′ f = f ∙ ap (outputs o l) (sym (passed-inputs s b o l (limited (totalPattern lower upper (read s) (readLabels b))) r e h .1))
 
-    pub totalize-refused : (x : Refusal) → r ≡ input.Refused x → outputOf (Refused x) o l ≡ outputs o l (roomFirst o l (totalizeAnswer lo hi s b))
+    pub totalize-refused : (x : Refusal) → r ≡ input.Refused x → outputOf (Refused x) o l ≡ outputs o l (roomFirst o l (totalizeAnswer lower upper s b))
     unfolding totalizeAnswer inputsFirst outputs
-    totalize-refused x h = ap (outputs o l) (sym (refused-inputs s b o l (limited (totalPattern lo hi (read s) (readLabels b))) r e x h))
+    totalize-refused x h = ap (outputs o l) (sym (refused-inputs s b o l (limited (totalPattern lower upper (read s) (readLabels b))) r e x h))
 
-    pub complement-made : r ≡ input.Good → (m : Made) (o′ l′ : List ℕ) → outputOf m o′ l′ ≡ outputs o l (limited (complementPattern lo hi (read s) (readLabels b))) → outputOf m o′ l′ ≡ outputs o l (roomFirst o l (complementAnswer lo hi s b))
+    pub complement-made : r ≡ input.Good → (m : Made) (o′ l′ : List ℕ) → outputOf m o′ l′ ≡ outputs o l (limited (complementPattern lower upper (read s) (readLabels b))) → outputOf m o′ l′ ≡ outputs o l (roomFirst o l (complementAnswer lower upper s b))
     unfolding complementAnswer inputsFirst
-    complement-made h m o′ l′ f = f ∙ ap (outputs o l) (sym (passed-inputs s b o l (limited (complementPattern lo hi (read s) (readLabels b))) r e h .1))
+    complement-made h m o′ l′ f = f ∙ ap (outputs o l) (sym (passed-inputs s b o l (limited (complementPattern lower upper (read s) (readLabels b))) r e h .1))
 
-    pub complement-refused : (x : Refusal) → r ≡ input.Refused x → outputOf (Refused x) o l ≡ outputs o l (roomFirst o l (complementAnswer lo hi s b))
+    pub complement-refused : (x : Refusal) → r ≡ input.Refused x → outputOf (Refused x) o l ≡ outputs o l (roomFirst o l (complementAnswer lower upper s b))
     unfolding complementAnswer inputsFirst outputs
-    complement-refused x h = ap (outputs o l) (sym (refused-inputs s b o l (limited (complementPattern lo hi (read s) (readLabels b))) r e x h))
+    complement-refused x h = ap (outputs o l) (sym (refused-inputs s b o l (limited (complementPattern lower upper (read s) (readLabels b))) r e x h))
 
 pub ruleset totalizeLaws = (inputs-accepted, totalize-made, totalize-refused, needs)
 
 pub ruleset complementedLaws = (inputs-accepted, complement-made, complement-refused, needs)
 
 -- the answer of `is_nfa`
-module _ (lo hi : ℕ) (s : List ℕ) (r : sheets.Checked) (e : checkedNumber r ≡ fault s) where
-  pub nfa-given : r ≡ sheet.Accepted → (b : Bool) → b ≡ isNfa lo hi (read s) → given b ≡ isNfaAnswer lo hi s
+module _ (lower upper : ℕ) (s : List ℕ) (r : sheets.Checked) (e : checkedNumber r ≡ fault s) where
+  pub nfa-given : r ≡ sheet.Accepted → (b : Bool) → b ≡ isNfa lower upper (read s) → given b ≡ isNfaAnswer lower upper s
   unfolding isNfaAnswer
   nfa-given h b f = ap given f ∙ sym (sheet-passed s _ r e h)
 
-  pub nfa-refused : (i : InputRefusal) → r ≡ sheet.Refused i → refused (inputNumber i) ≡ isNfaAnswer lo hi s
+  pub nfa-refused : (i : InputRefusal) → r ≡ sheet.Refused i → refused (inputNumber i) ≡ isNfaAnswer lower upper s
   unfolding isNfaAnswer
   nfa-refused i h = sym (sheet-refused s _ r e i h)
 

@@ -11,7 +11,7 @@ use borrow.Author.Tests.{eq-eqb, eqb-true, eqb-false, ltb-true, ltb-false}
 use lib.Dec.{ltb, eqb}
 use lib.ListN.{length, getD, drop}
 use lib.Seq.{getD-drop}
-use Rattle.lists.specs.Lists.{_∈_, any, keep}
+use Rattle.lists.specs.Lists.{_∈_, any, filter}
 use Rattle.lists.proofs.Tests.{test, and-both, and-parts, or-cases, or-false}
 use Rattle.lists.proofs.Lists.{any-in, any-out}
 use Rattle.automata.specs.Automaton.{Transition, Automaton, Accepts, Word, holds, carries, leaving, rangesOf, states, hasEpsilon, EpsilonFree}
@@ -37,35 +37,35 @@ none-long : {X : Type 0} (l : List X) → ltb 0 (length l) ≡ false → l ≡ [
 none-long [] h = refl
 none-long (x ∷ l) h = absurd (omega (arith, ltb-false 0 (suc (length l)) h))
 
-module _ (lo hi : ℕ) (A : Automaton) where
+module _ (lower upper : ℕ) (A : Automaton) where
   -- `is_nfa` is false exactly where this holds of every state
-  pub settled-exact : (isNfa lo hi A ≡ false) ↔ ((q : ℕ) → q < A .size → Settled lo hi (leaving A q))
+  pub settled-exact : (isNfa lower upper A ≡ false) ↔ ((q : ℕ) → q < A .size → Settled lower upper (leaving A q))
   unfolding isNfa isNfaIn isNfaAt
   settled-exact = (
     λ h q l.
-        let a = or-false (hasEpsilon (leaving A q)) _ (any-none (λ q. isNfaAt lo hi (leaving A q)) (states (A .size)) h q (states-in (A .size) q l)) in
+        let a = or-false (hasEpsilon (leaving A q)) _ (any-none (λ q. isNfaAt lower upper (leaving A q)) (states (A .size)) h q (states-in (A .size) q l)) in
         let b = or-false (overlapping (rangesOf (leaving A q))) _ (a .1) in
         record { no-epsilon = a .0; no-overlap = b .0; no-hole = none-long _ (b .1) },
     λ f.
         ⊎-elim
-        (λ (t : isNfa lo hi A ≡ true).
-        let (q, m, k) = any-out (λ q. isNfaAt lo hi (leaving A q)) (states (A .size)) t in
+        (λ (t : isNfa lower upper A ≡ true).
+        let (q, m, k) = any-out (λ q. isNfaAt lower upper (leaving A q)) (states (A .size)) t in
         let s = f q (states-out (A .size) q m) in
         absurd (false≢true (sym (settled-not q s) ∙ k)))
-        (λ t. t) (test (isNfa lo hi A)),
+        (λ t. t) (test (isNfa lower upper A)),
   )
     where
-      settled-not : (q : ℕ) → Settled lo hi (leaving A q) → isNfaAt lo hi (leaving A q) ≡ false
+      settled-not : (q : ℕ) → Settled lower upper (leaving A q) → isNfaAt lower upper (leaving A q) ≡ false
       settled-not q s = rw (s .no-epsilon, s .no-overlap, s .no-hole)
 
   module _ (v : WellFormed A) where
-    own-complete : isNfa lo hi A ≡ false → Complete lo hi A
+    own-complete : isNfa lower upper A ≡ false → Complete lower upper A
     own-complete n =
         record {
-          next = λ p x h l u. ⊎-elim (λ r. r) (λ (s, m, i). absurd (List·Memᴰ·not-nil (rw (settled-exact .0 n p h .no-hole) at m))) (held-or-free lo hi A v p x l u);
+          next = λ p x h l u. ⊎-elim (λ r. r) (λ (s, m, i). absurd (List·Memᴰ·not-nil (rw (settled-exact .0 n p h .no-hole) at m))) (held-or-free lower upper A v p x l u);
         }
 
-    no-unsettled : isNfa lo hi A ≡ false → Unsettled lo hi A → ⊥
+    no-unsettled : isNfa lower upper A ≡ false → Unsettled lower upper A → ⊥
     unfolding hasEpsilon carries
     no-unsettled n (epsilon e m k) = false≢true (sym (settled-exact .0 n (e .from) (v .states .froms e m) .no-epsilon) ∙ any-in (λ e. eqb (e .kind) 0) (leaving-in A (e .from) e m refl) (eq-eqb _ _ k))
     no-unsettled n (overlap q l s) = false≢true (sym (settled-exact .0 n q l .no-overlap) ∙ overlap-shared (rangesOf (leaving A q)) (leaving-sorted A q v) .1 s)
@@ -83,42 +83,42 @@ module _ (lo hi : ℕ) (A : Automaton) where
         absurd (false≢true (sym (free e (leaving-range A q e (leaving-in A q e m (eqb-true _ _ (p .0))) (eqb-true _ _ (r .0)))) ∙ r .1)))
         (λ t. t) (test (carries q x e))
 
-    first-hole : (q : ℕ) → q < A .size → (hs : List Span) → holesOf lo hi (leaving A q) ≡ hs → 0 < length hs → Unsettled lo hi A
+    first-hole : (q : ℕ) → q < A .size → (hs : List Span) → holesOf lower upper (leaving A q) ≡ hs → 0 < length hs → Unsettled lower upper A
     first-hole q l [] c n = absurd (omega arith)
     first-hole q l (h ∷ hs) c n =
-        let m : h ∈ holesOf lo hi (leaving A q) = rw c (List·Memᴰ·head refl) in
-        let (a, b, free) = state-holes A v q lo hi .exact (h .low) .0 (h, m, record { above = omega arith; below = state-holes A v q lo hi .full h m }) in
+        let m : h ∈ holesOf lower upper (leaving A q) = rw c (List·Memᴰ·head refl) in
+        let (a, b, free) = state-holes A v q lower upper .exact (h .low) .0 (h, m, record { above = omega arith; below = state-holes A v q lower upper .full h m }) in
         hole q (h .low) l a b (unheld q (h .low) free)
 
     -- `is_nfa` is true exactly where there is an epsilon, an overlap or a hole
-    pub unsettled-exact : (isNfa lo hi A ≡ true) ↔ Unsettled lo hi A
+    pub unsettled-exact : (isNfa lower upper A ≡ true) ↔ Unsettled lower upper A
     unfolding isNfa isNfaIn isNfaAt hasEpsilon
     unsettled-exact = (
       λ h.
-          let (q, m, k) = any-out (λ q. isNfaAt lo hi (leaving A q)) (states (A .size)) h in
+          let (q, m, k) = any-out (λ q. isNfaAt lower upper (leaving A q)) (states (A .size)) h in
           let l = states-out (A .size) q m in
           ⊎-elim (λ t. let (e, i, j) = any-out (λ e. eqb (e .kind) 0) (leaving A q) t in epsilon e (leaves A q e i .0) (eqb-true _ _ j))
           (λ t.
-          ⊎-elim (λ u. overlap q l (overlap-shared (rangesOf (leaving A q)) (leaving-sorted A q v) .0 u)) (λ u. first-hole q l (holesOf lo hi (leaving A q)) refl (ltb-true 0 _ u))
+          ⊎-elim (λ u. overlap q l (overlap-shared (rangesOf (leaving A q)) (leaving-sorted A q v) .0 u)) (λ u. first-hole q l (holesOf lower upper (leaving A q)) refl (ltb-true 0 _ u))
           (or-cases (overlapping (rangesOf (leaving A q))) _ t))
           (or-cases (hasEpsilon (leaving A q)) _ k),
-      λ u. ⊎-elim (λ t. t) (λ (n : isNfa lo hi A ≡ false). absurd (no-unsettled n u)) (test (isNfa lo hi A)),
+      λ u. ⊎-elim (λ t. t) (λ (n : isNfa lower upper A ≡ false). absurd (no-unsettled n u)) (test (isNfa lower upper A)),
     )
 
     -- where no epsilon and no overlap stood, the complement's words are the others
-    pub other-words : lo ≤ hi → EpsilonFree A → OverlapFree A → (w : List ℕ) → Word lo hi w → Accepts (complemented lo hi A) w ↔ (Accepts A w → ⊥)
+    pub other-words : lower ≤ upper → EpsilonFree A → OverlapFree A → (w : List ℕ) → Word lower upper w → Accepts (complemented lower upper A) w ↔ (Accepts A w → ⊥)
     unfolding complemented
-    other-words c ranges apart w i = go (isNfa lo hi A) refl
+    other-words c ranges apart w i = go (isNfa lower upper A) refl
       where
-        go : (b : Bool) → isNfa lo hi A ≡ b → Accepts (flipped (cond b (totalized lo hi A) A)) w ↔ (Accepts A w → ⊥)
+        go : (b : Bool) → isNfa lower upper A ≡ b → Accepts (flipped (cond b (totalized lower upper A) A)) w ↔ (Accepts A w → ⊥)
         go true e =
-            let f = flipped-words lo hi (totalized lo hi A) (totalized-well lo hi A v c) (total-complete lo hi A v) (total-functional lo hi A v ranges apart) w i in
-            (λ a n. f .0 a (words-kept lo hi A v w .1 n), λ n. f .1 (λ a. n (words-kept lo hi A v w .0 a)))
-        go false e = flipped-words lo hi A v (own-complete e) (overlap-functional A v ranges apart) w i
+            let f = flipped-words lower upper (totalized lower upper A) (totalized-well lower upper A v c) (total-complete lower upper A v) (total-functional lower upper A v ranges apart) w i in
+            (λ a n. f .0 a (words-kept lower upper A v w .1 n), λ n. f .1 (λ a. n (words-kept lower upper A v w .0 a)))
+        go false e = flipped-words lower upper A v (own-complete e) (overlap-functional A v ranges apart) w i
 
 -- the transitions under a symbol are the ranges of the state that hold it
-carried : (q x : ℕ) (ts : List Transition) → keep (carries q x) ts ≡ keep (holds x) (keep (λ e. eqb (e .kind) 1) (keep (λ e. eqb (e .from) q) ts))
-unfolding keep carries
+carried : (q x : ℕ) (ts : List Transition) → filter (carries q x) ts ≡ filter (holds x) (filter (λ e. eqb (e .kind) 1) (filter (λ e. eqb (e .from) q) ts))
+unfolding filter carries
 carried q x [] = refl
 carried q x (e ∷ ts) =
     let ih = carried q x ts in
@@ -127,36 +127,36 @@ carried q x (e ∷ ts) =
     (λ (t : eqb (e .from) q ≡ false). rw t ih)
     (test (eqb (e .from) q))
 
-module _ (lo hi : ℕ) (A : Automaton) (v : WellFormed A) (within : (e : Transition) → e ∈ A .transitions → e .kind ≡ 1 → (lo ≤ e .first) × (e .last ≤ hi)) where
-  each : (q : ℕ) → ((overlapping (rangesOf (leaving A q)) ≡ false) × (missing lo hi (rangesOf (leaving A q)) ≡ [])) ↔ ((x : ℕ) → lo ≤ x → x ≤ hi → (d : Transition) × (keep (holds x) (rangesOf (leaving A q)) ≡ d ∷ []))
-  each q = one-each lo hi (rangesOf (leaving A q)) (leaving-sorted A q v) (λ e m. let (i, c, k) = unranged lo hi A v q e m in within e i k)
+module _ (lower upper : ℕ) (A : Automaton) (v : WellFormed A) (within : (e : Transition) → e ∈ A .transitions → e .kind ≡ 1 → (lower ≤ e .first) × (e .last ≤ upper)) where
+  each : (q : ℕ) → ((overlapping (rangesOf (leaving A q)) ≡ false) × (missing lower upper (rangesOf (leaving A q)) ≡ [])) ↔ ((x : ℕ) → lower ≤ x → x ≤ upper → (d : Transition) × (filter (holds x) (rangesOf (leaving A q)) ≡ d ∷ []))
+  each q = one-each lower upper (rangesOf (leaving A q)) (leaving-sorted A q v) (λ e m. let (i, c, k) = unranged lower upper A v q e m in within e i k)
 
-  held-are : (q x : ℕ) → keep (carries q x) (A .transitions) ≡ keep (holds x) (rangesOf (leaving A q))
+  held-are : (q x : ℕ) → filter (carries q x) (A .transitions) ≡ filter (holds x) (rangesOf (leaving A q))
   unfolding rangesOf leaving
   held-are q x = carried q x (A .transitions)
 
   -- `is_nfa` is false exactly where every symbol has one transition in every state and no epsilon stands
-  pub deterministic-exact : (isNfa lo hi A ≡ false) ↔ Deterministic lo hi A
+  pub deterministic-exact : (isNfa lower upper A ≡ false) ↔ Deterministic lower upper A
   unfolding holesOf hasEpsilon
   deterministic-exact = (
     λ n. record {
       ranges = λ e m.
-          let s = settled-exact lo hi A .0 n (e .from) (v .states .froms e m) in
+          let s = settled-exact lower upper A .0 n (e .from) (v .states .froms e m) in
           let k = eqb-false (e .kind) 0 (any-none (λ e. eqb (e .kind) 0) (leaving A (e .from)) (s .no-epsilon) e (leaving-in A (e .from) e m refl)) in
           ⊎-elim (λ c. c) (λ (c : e .kind < 1). absurd (k (omega arith))) (eq-or-lt-of-le (v .sound e m .known));
       one = λ q x h l u.
-          let s = settled-exact lo hi A .0 n q h in
+          let s = settled-exact lower upper A .0 n q h in
           let (d, c) = each q .0 (s .no-overlap, s .no-hole) x l u in
           (d, held-are q x ∙ c);
     },
     λ d.
-        settled-exact lo hi A .1
+        settled-exact lower upper A .1
         (λ q h.
         let p = each q .1 (λ x l u. let (t, c) = d .one q x h l u in (t, sym (held-are q x) ∙ c)) in
         record { no-epsilon = silent d q; no-overlap = p .0; no-hole = p .1 }),
   )
     where
-      silent : Deterministic lo hi A → (q : ℕ) → any (λ e. eqb (e .kind) 0) (leaving A q) ≡ false
+      silent : Deterministic lower upper A → (q : ℕ) → any (λ e. eqb (e .kind) 0) (leaving A q) ≡ false
       silent d q =
           ⊎-elim
           (λ (t : any (λ e. eqb (e .kind) 0) (leaving A q) ≡ true).

@@ -98,95 +98,95 @@ with-sink : {ls : List (List ℕ)} → AllLabels ls → AllLabels (ls ++ sinkLab
 with-sink a = labels-append a (more {l = sinkLabel} (record { some = omega arith; short = omega arith }) none)
 
 -- an accepted sheet s, and its labels b
-module _ (lo hi : ℕ) (s b : List ℕ) (f : fault s ≡ 0) where
-  total-size : totalPattern lo hi (read s) (readLabels b) .automaton .size ≡ stateCount s + 1
+module _ (lower upper : ℕ) (s b : List ℕ) (f : fault s ≡ 0) where
+  total-size : totalPattern lower upper (read s) (readLabels b) .automaton .size ≡ stateCount s + 1
   unfolding totalPattern totalized
   total-size = refl
 
-  total-count : length (totalPattern lo hi (read s) (readLabels b) .automaton .transitions) ≡ transitionCount lo hi (read s)
+  total-count : length (totalPattern lower upper (read s) (readLabels b) .automaton .transitions) ≡ transitionCount lower upper (read s)
   unfolding totalPattern transitionCount
-  total-count = length-totalized lo hi (read s) (read-well s (accepted s f))
+  total-count = length-totalized lower upper (read s) (read-well s (accepted s f))
 
   -- totalizing has 21 exactly where there are 256 states, and 22 exactly where there are fewer and over 2,048 transitions
-  pub total-21 : (limited (totalPattern lo hi (read s) (readLabels b)) ≡ refused 21) ↔ (stateCount s ≡ 256)
+  pub total-21 : (limited (totalPattern lower upper (read s) (readLabels b)) ≡ refused 21) ↔ (stateCount s ≡ 256)
   total-21 =
-      let p = limited-21 (totalPattern lo hi (read s) (readLabels b)) in
+      let p = limited-21 (totalPattern lower upper (read s) (readLabels b)) in
       (λ e. omega (arith, accepted s f .few-states, total-size, p .0 e), λ c. p .1 (rw total-size (omega arith)))
 
-  pub total-22 : (limited (totalPattern lo hi (read s) (readLabels b)) ≡ refused 22) ↔ ((stateCount s < 256) × (2048 < transitionCount lo hi (read s)))
+  pub total-22 : (limited (totalPattern lower upper (read s) (readLabels b)) ≡ refused 22) ↔ ((stateCount s < 256) × (2048 < transitionCount lower upper (read s)))
   total-22 =
-      let p = limited-22 (totalPattern lo hi (read s) (readLabels b)) in (
+      let p = limited-22 (totalPattern lower upper (read s) (readLabels b)) in (
         λ e. let (h, l) = p .0 e in (omega (arith, total-size, h), omega (arith, total-count, l)),
         λ (h, l). p .1 (rw total-size (omega arith), rw total-count l),
       )
 
-  module _ (t : Bool) (e : isNfa lo hi (read s) ≡ t) where
-    complement-size : complementPattern lo hi (read s) (readLabels b) .automaton .size ≡ cond t (stateCount s + 1) (stateCount s)
+  module _ (t : Bool) (e : isNfa lower upper (read s) ≡ t) where
+    complement-size : complementPattern lower upper (read s) (readLabels b) .automaton .size ≡ cond t (stateCount s + 1) (stateCount s)
     unfolding complementPattern complemented flipped
     complement-size = rw e (go t)
       where
-        go : (t : Bool) → cond t (totalized lo hi (read s)) (read s) .size ≡ cond t (stateCount s + 1) (stateCount s)
+        go : (t : Bool) → cond t (totalized lower upper (read s)) (read s) .size ≡ cond t (stateCount s + 1) (stateCount s)
         go true = unfold totalized in refl
         go false = refl
 
-    complement-count : length (complementPattern lo hi (read s) (readLabels b) .automaton .transitions) ≡ cond t (transitionCount lo hi (read s)) (length (read s .transitions))
+    complement-count : length (complementPattern lower upper (read s) (readLabels b) .automaton .transitions) ≡ cond t (transitionCount lower upper (read s)) (length (read s .transitions))
     unfolding complementPattern complemented flipped
     complement-count = rw e (go t)
       where
-        go : (t : Bool) → length (cond t (totalized lo hi (read s)) (read s) .transitions) ≡ cond t (transitionCount lo hi (read s)) (length (read s .transitions))
-        go true = unfold transitionCount in length-totalized lo hi (read s) (read-well s (accepted s f))
+        go : (t : Bool) → length (cond t (totalized lower upper (read s)) (read s) .transitions) ≡ cond t (transitionCount lower upper (read s)) (length (read s .transitions))
+        go true = unfold transitionCount in length-totalized lower upper (read s) (read-well s (accepted s f))
         go false = refl
 
   -- the complement has 21 and 22 only where it totalizes
-  pub complemented-21 : (limited (complementPattern lo hi (read s) (readLabels b)) ≡ refused 21) ↔ ((isNfa lo hi (read s) ≡ true) × (stateCount s ≡ 256))
+  pub complemented-21 : (limited (complementPattern lower upper (read s) (readLabels b)) ≡ refused 21) ↔ ((isNfa lower upper (read s) ≡ true) × (stateCount s ≡ 256))
   complemented-21 =
-      let P = complementPattern lo hi (read s) (readLabels b) in
+      let P = complementPattern lower upper (read s) (readLabels b) in
       let few = accepted s f .few-states in (
         λ e.
             let p = limited-21 P .0 e in
-            ⊎-elim (λ t. (t, omega (arith, few, p, complement-size true t))) (λ t. absurd (omega (arith, few, p, complement-size false t))) (test (isNfa lo hi (read s))),
+            ⊎-elim (λ t. (t, omega (arith, few, p, complement-size true t))) (λ t. absurd (omega (arith, few, p, complement-size false t))) (test (isNfa lower upper (read s))),
         λ (t, c). limited-21 P .1 (rw (complement-size true t) (omega arith)),
       )
 
-  pub complemented-22 : (limited (complementPattern lo hi (read s) (readLabels b)) ≡ refused 22) ↔ ((isNfa lo hi (read s) ≡ true) × (stateCount s < 256) × (2048 < transitionCount lo hi (read s)))
+  pub complemented-22 : (limited (complementPattern lower upper (read s) (readLabels b)) ≡ refused 22) ↔ ((isNfa lower upper (read s) ≡ true) × (stateCount s < 256) × (2048 < transitionCount lower upper (read s)))
   complemented-22 =
-      let P = complementPattern lo hi (read s) (readLabels b) in
+      let P = complementPattern lower upper (read s) (readLabels b) in
       let few = read-fits s (accepted s f) .few-transitions in (
         λ e.
             let p = limited-22 P .0 e in
-            ⊎-elim (λ t. (t, omega (arith, p .0, complement-size true t), omega (arith, p .1, complement-count true t))) (λ t. absurd (omega (arith, few, p .1, complement-count false t))) (test (isNfa lo hi (read s))),
+            ⊎-elim (λ t. (t, omega (arith, p .0, complement-size true t), omega (arith, p .1, complement-count true t))) (λ t. absurd (omega (arith, few, p .1, complement-count false t))) (test (isNfa lower upper (read s))),
         λ (t, h, l). limited-22 P .1 (rw (complement-size true t) (omega arith), rw (complement-count true t) l),
       )
 
   -- both can be written
-  module _ (c : lo ≤ hi) (g : labelsFault (stateCount s) b ≡ 0) where
+  module _ (c : lower ≤ upper) (g : labelsFault (stateCount s) b ≡ 0) where
     sink-each : length (readLabels b ++ sinkLabel ∷ []) ≡ stateCount s + 1
     sink-each = length-append (readLabels b) (sinkLabel ∷ []) ∙ ap (λ n. n + 1) (length-read (stateCount s) b g)
 
-    pub total-writable : Fits (totalPattern lo hi (read s) (readLabels b) .automaton) → Writable (totalPattern lo hi (read s) (readLabels b))
+    pub total-writable : Fits (totalPattern lower upper (read s) (readLabels b) .automaton) → Writable (totalPattern lower upper (read s) (readLabels b))
     unfolding totalPattern
     total-writable h =
         record {
-          well = totalized-well lo hi (read s) (read-well s (accepted s f)) c;
+          well = totalized-well lower upper (read s) (read-well s (accepted s f)) c;
           fits = h;
           labels = with-sink (labels-read (stateCount s) b g);
           each = unfold totalized in sink-each;
         }
 
-    pub complement-writable : Fits (complementPattern lo hi (read s) (readLabels b) .automaton) → Writable (complementPattern lo hi (read s) (readLabels b))
+    pub complement-writable : Fits (complementPattern lower upper (read s) (readLabels b) .automaton) → Writable (complementPattern lower upper (read s) (readLabels b))
     unfolding complementPattern
     complement-writable h =
         record {
-          well = complemented-well lo hi (read s) c (read-well s (accepted s f));
+          well = complemented-well lower upper (read s) c (read-well s (accepted s f));
           fits = h;
-          labels = all (isNfa lo hi (read s));
-          each = each (isNfa lo hi (read s)) refl;
+          labels = all (isNfa lower upper (read s));
+          each = each (isNfa lower upper (read s)) refl;
         }
       where
         all : (t : Bool) → AllLabels (cond t (readLabels b ++ sinkLabel ∷ []) (readLabels b))
         all true = with-sink (labels-read (stateCount s) b g)
         all false = labels-read (stateCount s) b g
 
-        each : (t : Bool) → isNfa lo hi (read s) ≡ t → length (cond t (readLabels b ++ sinkLabel ∷ []) (readLabels b)) ≡ complemented lo hi (read s) .size
+        each : (t : Bool) → isNfa lower upper (read s) ≡ t → length (cond t (readLabels b ++ sinkLabel ∷ []) (readLabels b)) ≡ complemented lower upper (read s) .size
         each true e = sink-each ∙ sym (complement-size true e)
         each false e = length-read (stateCount s) b g ∙ sym (complement-size false e)

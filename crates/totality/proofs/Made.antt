@@ -35,7 +35,7 @@ use Rattle.sheets.specs.Sheet.{stateCount, recordsAt, read, write}
 use Rattle.sheets.proofs.Meaning.{read-well, read-fits, write-read-sheet}
 use Rattle.totality.specs.Answers.{limited, complementPattern}
 use Rattle.totality.specs.inner.Answers.{turnedPattern, flippedPattern}
-use Rattle.totality.specs.inner.Merging.{turned, headWords, Small, Ready}
+use Rattle.totality.specs.inner.Merging.{turned, headWords, Small, HolesInputs}
 use Rattle.totality.specs.Totality.{isNfa, flipped, totalized, complemented, holesIn, transitionCount}
 use Rattle.totality.proofs.Rows.{length-totalized}
 use Rattle.totality.proofs.States.{holes-bound}
@@ -54,50 +54,50 @@ turned-transitions true A = refl
 turned-transitions false A = refl
 
 -- a table of holes that was written to is one still
-pub ready-again : (s starts h h′ : List ℕ) → Ready s starts h → length h′ ≡ length h → Ready s starts h′
+pub ready-again : (s starts h h′ : List ℕ) → HolesInputs s starts h → length h′ ≡ length h → HolesInputs s starts h′
 ready-again s starts h h′ r e = record { accepted = r .accepted; indexed = r .indexed; long = e ∙ r .long }
 
 -- the count of the totalized sheet's transitions
-module _ (lo hi : ℕ) (s starts holes : List ℕ) (r : Ready s starts holes) (k : ℕ) (e : k ≡ length (holesIn lo hi (read s) (states (stateCount s)))) where
-  count-is : recordCount s + k + 1 ≡ transitionCount lo hi (read s)
+module _ (lower upper : ℕ) (s starts holes : List ℕ) (r : HolesInputs s starts holes) (k : ℕ) (e : k ≡ length (holesIn lower upper (read s) (states (stateCount s)))) where
+  count-is : recordCount s + k + 1 ≡ transitionCount lower upper (read s)
   unfolding transitionCount
   count-is = omega (arith, e, length-read (recordCount s) (drop (recordsAt s) s) (simp length-drop (omega (arith, r .accepted .whole))))
 
   pub count-fits : Fits w64 (recordCount s + k)
-  count-fits = record { fits = omega (arith, e, holes-bound lo hi s starts holes r, r .accepted .few-records) }
+  count-fits = record { fits = omega (arith, e, holes-bound lower upper s starts holes r, r .accepted .few-records) }
 
   pub total-fits : Fits w64 (recordCount s + k + 1)
-  total-fits = record { fits = omega (arith, e, holes-bound lo hi s starts holes r, r .accepted .few-records) }
+  total-fits = record { fits = omega (arith, e, holes-bound lower upper s starts holes r, r .accepted .few-records) }
 
-  pub total-small : (o : List ℕ) → stateCount s ≤ 255 → recordCount s + k + 1 ≤ 2048 → 10500 ≤ length o → Small lo hi s o (recordCount s + k + 1)
+  pub total-small : (o : List ℕ) → stateCount s ≤ 255 → recordCount s + k + 1 ≤ 2048 → 10500 ≤ length o → Small lower upper s o (recordCount s + k + 1)
   total-small o h m g = record { few-states = omega arith; few-transitions = m; counted = count-is; room = g }
 
 -- the totalized sheet
-module _ (b : Bool) (lo hi : ℕ) (s : List ℕ) (ls : List (List ℕ)) (o l : List ℕ) where
-  size-is : turnedPattern b lo hi (read s) ls .automaton .size ≡ stateCount s + 1
+module _ (b : Bool) (lower upper : ℕ) (s : List ℕ) (ls : List (List ℕ)) (o l : List ℕ) where
+  size-is : turnedPattern b lower upper (read s) ls .automaton .size ≡ stateCount s + 1
   unfolding turnedPattern totalized
-  size-is = turned-size b (totalized lo hi (read s))
+  size-is = turned-size b (totalized lower upper (read s))
 
-  pub total-states : 255 < stateCount s → outputOf (Refused (State States)) o l ≡ outputs o l (limited (turnedPattern b lo hi (read s) ls))
+  pub total-states : 255 < stateCount s → outputOf (Refused (State States)) o l ≡ outputs o l (limited (turnedPattern b lower upper (read s) ls))
   unfolding outputs
-  total-states h = ap (outputs o l) (sym (limited-states (turnedPattern b lo hi (read s) ls) (rw size-is (omega arith))))
+  total-states h = ap (outputs o l) (sym (limited-states (turnedPattern b lower upper (read s) ls) (rw size-is (omega arith))))
 
-  module _ (starts holes : List ℕ) (r : Ready s starts holes) (k : ℕ) (e : k ≡ length (holesIn lo hi (read s) (states (stateCount s)))) (h : stateCount s ≤ 255) where
-    transitions-are : length (turnedPattern b lo hi (read s) ls .automaton .transitions) ≡ recordCount s + k + 1
+  module _ (starts holes : List ℕ) (r : HolesInputs s starts holes) (k : ℕ) (e : k ≡ length (holesIn lower upper (read s) (states (stateCount s)))) (h : stateCount s ≤ 255) where
+    transitions-are : length (turnedPattern b lower upper (read s) ls .automaton .transitions) ≡ recordCount s + k + 1
     unfolding turnedPattern transitionCount
     transitions-are =
-        ap length (turned-transitions b (totalized lo hi (read s))) ∙ length-totalized lo hi (read s) (read-well s (r .accepted)) ∙ sym (count-is lo hi s starts holes r k e)
+        ap length (turned-transitions b (totalized lower upper (read s))) ∙ length-totalized lower upper (read s) (read-well s (r .accepted)) ∙ sym (count-is lower upper s starts holes r k e)
 
-    pub total-transitions : 2048 < recordCount s + k + 1 → outputOf (Refused (State Transitions)) o l ≡ outputs o l (limited (turnedPattern b lo hi (read s) ls))
+    pub total-transitions : 2048 < recordCount s + k + 1 → outputOf (Refused (State Transitions)) o l ≡ outputs o l (limited (turnedPattern b lower upper (read s) ls))
     unfolding outputs
-    total-transitions g = ap (outputs o l) (sym (limited-transitions (turnedPattern b lo hi (read s) ls) (rw size-is (omega arith)) (rw transitions-are g)))
+    total-transitions g = ap (outputs o l) (sym (limited-transitions (turnedPattern b lower upper (read s) ls) (rw size-is (omega arith)) (rw transitions-are g)))
 
-    pub total-given : recordCount s + k + 1 ≤ 2048 → (o′ l′ : List ℕ) (w y : ℕ) → Written o 0 (write (turned b (totalized lo hi (read s)))) o′ w → Written l 0 (writeLabels (ls ++ sinkLabel ∷ [])) l′ y
-        → outputOf (Lengths w y) o′ l′ ≡ outputs o l (limited (turnedPattern b lo hi (read s) ls))
+    pub total-given : recordCount s + k + 1 ≤ 2048 → (o′ l′ : List ℕ) (w y : ℕ) → Written o 0 (write (turned b (totalized lower upper (read s)))) o′ w → Written l 0 (writeLabels (ls ++ sinkLabel ∷ [])) l′ y
+        → outputOf (Lengths w y) o′ l′ ≡ outputs o l (limited (turnedPattern b lower upper (read s) ls))
     unfolding turnedPattern
     total-given g o′ l′ w y p q =
-        made-given o l o′ l′ w y (turnedPattern b lo hi (read s) ls) p q
-        ∙ ap (outputs o l) (sym (limited-given (turnedPattern b lo hi (read s) ls) (rw size-is (omega arith)) (rw transitions-are g)))
+        made-given o l o′ l′ w y (turnedPattern b lower upper (read s) ls) p q
+        ∙ ap (outputs o l) (sym (limited-given (turnedPattern b lower upper (read s) ls) (rw size-is (omega arith)) (rw transitions-are g)))
 
 pub ruleset totalMadeLaws = (total-states, count-fits, total-fits, total-small, total-transitions, total-given, ready-again, needs)
 
@@ -130,21 +130,21 @@ labels-few s b a h = few-count (stateCount s) b h (a .few-states)
 pub ruleset flippedLaws = (rest-room, flipped-given, labels-few, label-list, needs)
 
 -- the tables of a sheet
-pub tables-ready : (s old starts holes : List ℕ) → Accepted s → starts ≡ sets old 0 (startsOf s) → length old ≡ 257 → length holes ≡ 4098 → Ready s starts holes
+pub tables-ready : (s old starts holes : List ℕ) → Accepted s → starts ≡ sets old 0 (startsOf s) → length old ≡ 257 → length holes ≡ 4098 → HolesInputs s starts holes
 tables-ready s old starts holes a e l m = record { accepted = a; indexed = starts-indexed s old starts e (omega (arith, a .few-states)); long = m }
 
 -- fresh ones
-pub fresh-ready : (s starts : List ℕ) → Accepted s → starts ≡ sets (replicate 257 0) 0 (startsOf s) → Ready s starts (replicate 4098 0)
+pub fresh-ready : (s starts : List ℕ) → Accepted s → starts ≡ sets (replicate 257 0) 0 (startsOf s) → HolesInputs s starts (replicate 4098 0)
 fresh-ready s starts a e = tables-ready s (replicate 257 0) starts (replicate 4098 0) a e (length-replicate {A = ℕ} 257 0) (length-replicate {A = ℕ} 4098 0)
 
 -- the results in the terms of the operations
-module _ (m : Made) (o l o′ l′ : List ℕ) (lo hi : ℕ) (s : List ℕ) (ls : List (List ℕ)) where
-  module _ (b : Bool) (f : b ≡ isNfa lo hi (read s)) where
-    pub complement-totalized : b ≡ true → outputOf m o′ l′ ≡ outputs o l (limited (turnedPattern true lo hi (read s) ls)) → outputOf m o′ l′ ≡ outputs o l (limited (complementPattern lo hi (read s) ls))
+module _ (m : Made) (o l o′ l′ : List ℕ) (lower upper : ℕ) (s : List ℕ) (ls : List (List ℕ)) where
+  module _ (b : Bool) (f : b ≡ isNfa lower upper (read s)) where
+    pub complement-totalized : b ≡ true → outputOf m o′ l′ ≡ outputs o l (limited (turnedPattern true lower upper (read s) ls)) → outputOf m o′ l′ ≡ outputs o l (limited (complementPattern lower upper (read s) ls))
     unfolding turnedPattern complementPattern complemented
     complement-totalized h e = rw (← f, h) e
 
-    pub complement-flipped : b ≡ false → Accepted s → outputOf m o′ l′ ≡ outputs o l (given (flippedPattern (read s) ls)) → outputOf m o′ l′ ≡ outputs o l (limited (complementPattern lo hi (read s) ls))
+    pub complement-flipped : b ≡ false → Accepted s → outputOf m o′ l′ ≡ outputs o l (given (flippedPattern (read s) ls)) → outputOf m o′ l′ ≡ outputs o l (limited (complementPattern lower upper (read s) ls))
     unfolding flippedPattern complementPattern complemented flipped
     complement-flipped h a e =
         let r = read-fits s a in

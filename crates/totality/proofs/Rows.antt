@@ -10,11 +10,11 @@ use borrow.Author.Needs.{needs}
 use borrow.Author.Tests.{ltb-true, ltb-false, eqb-true, eqb-false, ne-eqb, lt-ltb, le-ltb}
 use lib.Dec.{ltb, eqb}
 use lib.ListN.{length, take, drop, length-append, take-append-drop}
-use Rattle.lists.specs.Lists.{_∈_, keep, tabulate, Ascending, none, more}
+use Rattle.lists.specs.Lists.{_∈_, filter, tabulate, Ascending, none, more}
 use Rattle.lists.specs.Written.{Written}
 use Rattle.lists.proofs.Tests.{test}
-use Rattle.lists.proofs.Lists.{keep-all, keep-none, tabulate-end}
-use Rattle.lists.proofs.Members.{ascending-keep}
+use Rattle.lists.proofs.Lists.{filter-all, filter-none, tabulate-end}
+use Rattle.lists.proofs.Members.{ascending-filter}
 use Rattle.automata.specs.Automaton.{Transition, Automaton, leaving, rangesOf, states}
 use Rattle.automata.specs.Ordered.{inOrder}
 use Rattle.automata.specs.Records.{readRecords, writeRecords}
@@ -22,14 +22,14 @@ use Rattle.automata.specs.WellFormed.{here, later, Before, WellFormed}
 use Rattle.automata.proofs.Leaving.{leaves, leaving-range}
 use Rattle.automata.proofs.Ordered.{inOrder-same}
 use Rattle.automata.proofs.Records.{read-write, length-write, write-append}
-use Rattle.ranges.specs.Missing.{Holes, Apart}
+use Rattle.ranges.specs.Missing.{Holes, SpansApart}
 use Rattle.ranges.specs.Span.{Span}
 use Rattle.ranges.proofs.Missing.{missing-holes}
 use Rattle.ranges.proofs.Held.{held}
 use Rattle.ranges.proofs.Sorting.{leaving-sorted}
 use Rattle.sheets.specs.Sheet.{stateCount, read}
 use Rattle.sheets.proofs.Meaning.{read-well}
-use Rattle.totality.specs.inner.Merging.{leading, Mergeable, Fillable, Ready}
+use Rattle.totality.specs.inner.Merging.{leading, Mergeable, Fillable, HolesInputs}
 use Rattle.totality.specs.Totality.{holesOf, holeTo, filled, filledIn, totalized, holesIn}
 use Rattle.lists.proofs.Left.{Left, left-start, left-done, left-room, left-next}
 use Rattle.totality.proofs.Merging.{merge-hole, drop-records, less-holes}
@@ -38,14 +38,14 @@ use Rattle.totality.proofs.States.{run-records, run-sorted, run-room, r
 
 -- the transitions of one state
 module _ (A : Automaton) (w : WellFormed A) (q : ℕ) where
-  module _ (lo hi : ℕ) where
+  module _ (lower upper : ℕ) where
     -- its holes are the maximal runs of symbols that none of its ranges holds
-    pub state-holes : Holes lo hi (rangesOf (leaving A q)) (holesOf lo hi (leaving A q))
+    pub state-holes : Holes lower upper (rangesOf (leaving A q)) (holesOf lower upper (leaving A q))
     unfolding holesOf
-    state-holes = missing-holes lo hi (rangesOf (leaving A q)) (leaving-sorted A q w .full)
+    state-holes = missing-holes lower upper (rangesOf (leaving A q)) (leaving-sorted A q w .full)
 
     module _ (sink : ℕ) where
-      holes-ascend : {hs : List Span} → Ascending Apart hs → ((h : Span) → h ∈ hs → h .low ≤ h .high) → Ascending Before (map (holeTo sink q) hs)
+      holes-ascend : {hs : List Span} → Ascending SpansApart hs → ((h : Span) → h ∈ hs → h .low ≤ h .high) → Ascending Before (map (holeTo sink q) hs)
       holes-ascend none f = none
       holes-ascend (more {x = s} {l = hs} g a) f =
           more
@@ -56,10 +56,10 @@ module _ (A : Automaton) (w : WellFormed A) (q : ℕ) where
           (holes-ascend a (λ h m. f h (List·Memᴰ·tail m)))
 
       -- and they can be merged with its transitions
-      pub state-mergeable : Mergeable sink q (leaving A q) (holesOf lo hi (leaving A q))
+      pub state-mergeable : Mergeable sink q (leaving A q) (holesOf lower upper (leaving A q))
       state-mergeable =
           record {
-            records = unfold leaving in ascending-keep (λ e. eqb (e .from) q) (w .ascends);
+            records = unfold leaving in ascending-filter (λ e. eqb (e .from) q) (w .ascends);
             holes = holes-ascend (state-holes .ascends) (state-holes .full);
             later = λ e h m n l. hole-first e h m l (range-kind e m l);
             sooner = λ e h m n l. ⊎-elim (λ k. epsilon-first e h m k) (λ k. range-first e h m k (below-low e h m n l k)) (kinds e m);
@@ -79,7 +79,7 @@ module _ (A : Automaton) (w : WellFormed A) (q : ℕ) where
           epsilon-first : (e : Transition) (h : Span) → e ∈ leaving A q → e .kind ≡ 0 → Before e (holeTo sink q h)
           epsilon-first e h m k = let l : e .kind < 1 = omega arith in later (leaves A q e m .1) (here l)
 
-          below-low : (e : Transition) (h : Span) → e ∈ leaving A q → h ∈ holesOf lo hi (leaving A q) → e .first ≤ h .low → e .kind ≡ 1 → e .first < h .low
+          below-low : (e : Transition) (h : Span) → e ∈ leaving A q → h ∈ holesOf lower upper (leaving A q) → e .first ≤ h .low → e .kind ≡ 1 → e .first < h .low
           below-low e h m n l k =
               let free = state-holes .exact (h .low) .0 (h, n, record { above = omega arith; below = state-holes .full h n }) .2 in
               ⊎-elim
@@ -106,11 +106,11 @@ flatMap-end f [] q = ap length (append-nil (f q)) ∙ omega arith
 flatMap-end f (p ∷ qs) q = omega (arith, length-append (f p) (flatMap f (qs ++ q ∷ [])), length-append (f p) (flatMap f qs), flatMap-end f qs q)
 
 -- one state more
-kept-more : (n : ℕ) (ts : List Transition) → length (keep (λ e. ltb (e .from) (suc n)) ts) ≡ length (keep (λ e. ltb (e .from) n) ts) + length (keep (λ e. eqb (e .from) n) ts)
-unfolding keep
+kept-more : (n : ℕ) (ts : List Transition) → length (filter (λ e. ltb (e .from) (suc n)) ts) ≡ length (filter (λ e. ltb (e .from) n) ts) + length (filter (λ e. eqb (e .from) n) ts)
+unfolding filter
 kept-more n [] = refl
 kept-more n (e ∷ ts) =
-    let ih : length (keep (λ e. ltb (e .from) (suc n)) ts) ≡ length (keep (λ e. ltb (e .from) n) ts) + length (keep (λ e. eqb (e .from) n) ts) = kept-more n ts in
+    let ih : length (filter (λ e. ltb (e .from) (suc n)) ts) ≡ length (filter (λ e. ltb (e .from) n) ts) + length (filter (λ e. eqb (e .from) n) ts) = kept-more n ts in
     ⊎-elim
     (λ (t : ltb (e .from) n ≡ true).
     let l : e .from < n = ltb-true _ _ t in
@@ -123,65 +123,65 @@ kept-more n (e ∷ ts) =
     (test (eqb (e .from) n)))
     (test (ltb (e .from) n))
 
-module _ (lo hi : ℕ) (A : Automaton) (w : WellFormed A) where
-  length-filled : (sink q : ℕ) → length (filled lo hi sink q (leaving A q)) ≡ length (leaving A q) + length (holesOf lo hi (leaving A q))
+module _ (lower upper : ℕ) (A : Automaton) (w : WellFormed A) where
+  length-filled : (sink q : ℕ) → length (filled lower upper sink q (leaving A q)) ≡ length (leaving A q) + length (holesOf lower upper (leaving A q))
   unfolding filled
-  length-filled sink q = length-merged sink q (leaving A q) (holesOf lo hi (leaving A q)) (state-mergeable A w q lo hi sink)
+  length-filled sink q = length-merged sink q (leaving A q) (holesOf lower upper (leaving A q)) (state-mergeable A w q lower upper sink)
 
   -- of the states below n
-  length-below : (n : ℕ) → length (filledIn lo hi A (states n)) ≡ length (keep (λ e. ltb (e .from) n) (A .transitions)) + length (holesIn lo hi A (states n))
+  length-below : (n : ℕ) → length (filledIn lower upper A (states n)) ≡ length (filter (λ e. ltb (e .from) n) (A .transitions)) + length (holesIn lower upper A (states n))
   unfolding filledIn holesIn states tabulate flatMap leaving
-  length-below zero = sym (ap (λ l. length l + 0) (keep-none (λ e. ltb (e .from) 0) (A .transitions) (λ e m. le-ltb (e .from) 0 (omega arith))))
+  length-below zero = sym (ap (λ l. length l + 0) (filter-none (λ e. ltb (e .from) 0) (A .transitions) (λ e m. le-ltb (e .from) 0 (omega arith))))
   length-below (suc n) =
       omega (
         arith,
         length-below n,
-        ap (λ l. length (filledIn lo hi A l)) (tabulate-end n (λ q. q)),
-        ap (λ l. length (holesIn lo hi A l)) (tabulate-end n (λ q. q)),
-        flatMap-end (λ q. filled lo hi (A .size) q (leaving A q)) (states n) n,
-        flatMap-end (λ q. holesOf lo hi (leaving A q)) (states n) n,
+        ap (λ l. length (filledIn lower upper A l)) (tabulate-end n (λ q. q)),
+        ap (λ l. length (holesIn lower upper A l)) (tabulate-end n (λ q. q)),
+        flatMap-end (λ q. filled lower upper (A .size) q (leaving A q)) (states n) n,
+        flatMap-end (λ q. holesOf lower upper (leaving A q)) (states n) n,
         length-filled (A .size) n,
         kept-more n (A .transitions),
       )
 
   -- the records kept and the holes
-  pub length-all : length (filledIn lo hi A (states (A .size))) ≡ length (A .transitions) + length (holesIn lo hi A (states (A .size)))
-  length-all = length-below (A .size) ∙ ap (λ l. length l + length (holesIn lo hi A (states (A .size)))) (keep-all (λ e. ltb (e .from) (A .size)) (A .transitions) (λ e m. lt-ltb (e .from) (A .size) (w .states .froms e m)))
+  pub length-all : length (filledIn lower upper A (states (A .size))) ≡ length (A .transitions) + length (holesIn lower upper A (states (A .size)))
+  length-all = length-below (A .size) ∙ ap (λ l. length l + length (holesIn lower upper A (states (A .size)))) (filter-all (λ e. ltb (e .from) (A .size)) (A .transitions) (λ e m. lt-ltb (e .from) (A .size) (w .states .froms e m)))
 
   -- and the sink's loop
-  pub length-totalized : length (totalized lo hi A .transitions) ≡ length (A .transitions) + length (holesIn lo hi A (states (A .size))) + 1
+  pub length-totalized : length (totalized lower upper A .transitions) ≡ length (A .transitions) + length (holesIn lower upper A (states (A .size))) + 1
   unfolding totalized
-  length-totalized = length-append (filledIn lo hi A (states (A .size))) _ ∙ ap (λ n. n + 1) length-all
+  length-totalized = length-append (filledIn lower upper A (states (A .size))) _ ∙ ap (λ n. n + 1) length-all
 
 -- the run of a state of a sheet
-module _ (s starts holes : List ℕ) (r : Ready s starts holes) (q : ℕ) (run : List ℕ) (e : run ≡ writeRecords (leaving (read s) q)) (lo hi : ℕ) where
-  pub run-fillable : (h : List ℕ) → length h ≡ length holes → Fillable lo hi (stateCount s) q run h
+module _ (s starts holes : List ℕ) (r : HolesInputs s starts holes) (q : ℕ) (run : List ℕ) (e : run ≡ writeRecords (leaving (read s) q)) (lower upper : ℕ) where
+  pub run-fillable : (h : List ℕ) → length h ≡ length holes → Fillable lower upper (stateCount s) q run h
   run-fillable h l =
       record {
         sorted = run-sorted s starts holes r q run e;
-        mergeable = rw (run-records s starts holes r q run e) (state-mergeable (read s) (read-well s (r .accepted)) q lo hi (stateCount s));
+        mergeable = rw (run-records s starts holes r q run e) (state-mergeable (read s) (read-well s (r .accepted)) q lower upper (stateCount s));
         whole = ap length e ∙ length-write (leaving (read s) q) ∙ ap (λ l. 5 * length l) (sym (run-records s starts holes r q run e));
         room = run-room s starts holes r q run e h l;
       }
 
 -- the states from q on are left to write
-module _ (o₀ : List ℕ) (at : ℕ) (all o : List ℕ) (end lo hi : ℕ) (s : List ℕ) (q : ℕ) (l : Left o₀ at all o end (writeRecords (filledIn lo hi (read s) (drop q (states (stateCount s)))))) where
+module _ (o₀ : List ℕ) (at : ℕ) (all o : List ℕ) (end lower upper : ℕ) (s : List ℕ) (q : ℕ) (l : Left o₀ at all o end (writeRecords (filledIn lower upper (read s) (drop q (states (stateCount s)))))) where
   pub rows-done : stateCount s ≤ q → Written o₀ at all o end
   unfolding filledIn flatMap writeRecords
   rows-done h = left-done o₀ at all o end _ l (rw (states-end (stateCount s) q h))
 
   module _ (h : q < stateCount s) (run : List ℕ) (e : run ≡ writeRecords (leaving (read s) q)) where
-    rows-at : writeRecords (filledIn lo hi (read s) (drop q (states (stateCount s)))) ≡ writeRecords (filled lo hi (stateCount s) q (readRecords run)) ++ writeRecords (filledIn lo hi (read s) (drop (q + 1) (states (stateCount s))))
+    rows-at : writeRecords (filledIn lower upper (read s) (drop q (states (stateCount s)))) ≡ writeRecords (filled lower upper (stateCount s) q (readRecords run)) ++ writeRecords (filledIn lower upper (read s) (drop (q + 1) (states (stateCount s))))
     unfolding filledIn flatMap
     rows-at =
         rw (states-at (stateCount s) q h, e, read-write (leaving (read s) q))
-        (write-append (filled lo hi (stateCount s) q (leaving (read s) q)) (filledIn lo hi (read s) (drop (q + 1) (states (stateCount s)))))
+        (write-append (filled lower upper (stateCount s) q (leaving (read s) q)) (filledIn lower upper (read s) (drop (q + 1) (states (stateCount s)))))
 
-    pub rows-room : at + length all ≤ length o₀ → end + length (writeRecords (filled lo hi (stateCount s) q (readRecords run))) ≤ length o
-    rows-room r = left-room o₀ at all o end _ l (writeRecords (filled lo hi (stateCount s) q (readRecords run))) _ rows-at r
+    pub rows-room : at + length all ≤ length o₀ → end + length (writeRecords (filled lower upper (stateCount s) q (readRecords run))) ≤ length o
+    rows-room r = left-room o₀ at all o end _ l (writeRecords (filled lower upper (stateCount s) q (readRecords run))) _ rows-at r
 
-    pub rows-next : (o′ : List ℕ) (end′ : ℕ) → Written o end (writeRecords (filled lo hi (stateCount s) q (readRecords run))) o′ end′
-        → Left o₀ at all o′ end′ (writeRecords (filledIn lo hi (read s) (drop (q + 1) (states (stateCount s)))))
-    rows-next o′ end′ v = left-next o₀ at all o end _ l (writeRecords (filled lo hi (stateCount s) q (readRecords run))) _ rows-at o′ end′ v
+    pub rows-next : (o′ : List ℕ) (end′ : ℕ) → Written o end (writeRecords (filled lower upper (stateCount s) q (readRecords run))) o′ end′
+        → Left o₀ at all o′ end′ (writeRecords (filledIn lower upper (read s) (drop (q + 1) (states (stateCount s)))))
+    rows-next o′ end′ v = left-next o₀ at all o end _ l (writeRecords (filled lower upper (stateCount s) q (readRecords run))) _ rows-at o′ end′ v
 
 pub ruleset rowsLaws = (left-start, rows-done, rows-room, rows-next, run-fillable, ready-run, needs)

@@ -33,17 +33,17 @@ module _ (s : List ℕ) (at : ℕ) (e : hasEpsilon (readRecords s) ≡ hasEpsilo
 pub ruleset epsilonLaws = (epsilon-ended, epsilon-found, epsilon-next, needs)
 
 -- the three tests of one state's records
-module _ (lo hi : ℕ) (run : List ℕ) (a : Bool) (e : a ≡ hasEpsilon (readRecords run)) where
-  pub nfa-epsilon : a ≡ true → true ≡ isNfaAt lo hi (readRecords run)
+module _ (lower upper : ℕ) (run : List ℕ) (a : Bool) (e : a ≡ hasEpsilon (readRecords run)) where
+  pub nfa-epsilon : a ≡ true → true ≡ isNfaAt lower upper (readRecords run)
   unfolding isNfaAt
   nfa-epsilon h = rw (← e, h)
 
   module _ (f : a ≡ false) (b : Bool) (g : b ≡ overlapping (rangesOf (readRecords run))) where
-    pub nfa-overlap : b ≡ true → true ≡ isNfaAt lo hi (readRecords run)
+    pub nfa-overlap : b ≡ true → true ≡ isNfaAt lower upper (readRecords run)
     unfolding isNfaAt
     nfa-overlap h = rw (← e, f, ← g, h)
 
-    pub nfa-hole : b ≡ false → (k : ℕ) → k ≡ length (missing lo hi (rangesOf (readRecords run))) → ltb 0 k ≡ isNfaAt lo hi (readRecords run)
+    pub nfa-hole : b ≡ false → (k : ℕ) → k ≡ length (missing lower upper (rangesOf (readRecords run))) → ltb 0 k ≡ isNfaAt lower upper (readRecords run)
     unfolding isNfaAt holesOf
     nfa-hole h k p = rw (← e, f, ← g, h, p)
 

@@ -13,14 +13,14 @@ use lib.ListN.{length, take, drop, length-append}
 use lib.Seq.{take-at, length-take-le, sets, sets-eq, length-sets}
 use Rattle.lists.specs.Written.{Written}
 use Rattle.lists.specs.Lists.{any}
-use Rattle.lists.proofs.Lists.{length-keep}
+use Rattle.lists.proofs.Lists.{length-filter}
 use Rattle.automata.specs.Automaton.{Transition, Automaton, leaving, rangesOf, states}
 use Rattle.automata.specs.Records.{readRecords, writeRecords}
 use Rattle.automata.proofs.States.{length-states, states-at, states-end}
 use Rattle.automata.proofs.Records.{read-write, length-write}
 use Rattle.automata.specs.WellFormed.{WellFormed}
 use Rattle.ranges.specs.Span.{Span}
-use Rattle.ranges.specs.Missing.{Sorted, missing}
+use Rattle.ranges.specs.Missing.{SortedRanges, missing}
 use Rattle.ranges.specs.inner.Missing.{gap, scan, spanWords}
 use Rattle.ranges.proofs.Missing.{missing-scan}
 use Rattle.ranges.proofs.Writing.{words-length, gap-short}
@@ -30,10 +30,10 @@ use Rattle.sheets.specs.Sheet.{stateCount, read}
 use Rattle.sheets.proofs.Meaning.{read-well, read-fits}
 use Rattle.sheets.proofs.Runs.{run-at}
 use Rattle.totality.specs.Totality.{holesOf, isNfaAt, isNfaIn, isNfa, filled, holesIn}
-use Rattle.totality.specs.inner.Merging.{readSpans, Mergeable, merged, Fillable, Ready}
+use Rattle.totality.specs.inner.Merging.{readSpans, Mergeable, merged, Fillable, HolesInputs}
 
 -- the run of a state of a sheet
-module _ (s starts holes : List ℕ) (r : Ready s starts holes) where
+module _ (s starts holes : List ℕ) (r : HolesInputs s starts holes) where
   pub ready-run : (q : ℕ) → q < stateCount s → RunAt s starts q
   ready-run q h = run-at s (r .accepted) starts q (r .indexed) h
 
@@ -41,12 +41,12 @@ module _ (s starts holes : List ℕ) (r : Ready s starts holes) where
     pub run-records : readRecords run ≡ leaving (read s) q
     run-records = ap readRecords e ∙ read-write (leaving (read s) q)
 
-    pub run-sorted : Sorted (rangesOf (readRecords run))
+    pub run-sorted : SortedRanges (rangesOf (readRecords run))
     run-sorted = rw run-records (leaving-sorted (read s) q (read-well s (r .accepted)))
 
     run-few : length (readRecords run) ≤ 2048
     unfolding leaving
-    run-few = omega (arith, ap length run-records, length-keep (λ e. eqb (e .from) q) (read s .transitions), read-fits s (r .accepted) .few-transitions)
+    run-few = omega (arith, ap length run-records, length-filter (λ e. eqb (e .from) q) (read s .transitions), read-fits s (r .accepted) .few-transitions)
 
     run-short : length run ≤ 10240
     run-short = omega (arith, ap length e, length-write (leaving (read s) q), ap length run-records, run-few)
@@ -55,84 +55,84 @@ module _ (s starts holes : List ℕ) (r : Ready s starts holes) where
     run-room h l = omega (arith, run-short, r .long)
 
 -- the states from q on decide
-pub nfa-start : (lo hi : ℕ) (A : Automaton) → isNfa lo hi A ≡ isNfaIn lo hi A (drop 0 (states (A .size)))
+pub nfa-start : (lower upper : ℕ) (A : Automaton) → isNfa lower upper A ≡ isNfaIn lower upper A (drop 0 (states (A .size)))
 unfolding isNfa
-nfa-start lo hi A = refl
+nfa-start lower upper A = refl
 
-module _ (lo hi : ℕ) (s : List ℕ) (q : ℕ) (e : isNfa lo hi (read s) ≡ isNfaIn lo hi (read s) (drop q (states (stateCount s)))) where
-  pub nfa-ended : stateCount s ≤ q → false ≡ isNfa lo hi (read s)
+module _ (lower upper : ℕ) (s : List ℕ) (q : ℕ) (e : isNfa lower upper (read s) ≡ isNfaIn lower upper (read s) (drop q (states (stateCount s)))) where
+  pub nfa-ended : stateCount s ≤ q → false ≡ isNfa lower upper (read s)
   unfolding isNfaIn any
   nfa-ended h = sym (e ∙ rw (states-end (stateCount s) q h))
 
-  module _ (h : q < stateCount s) (run : List ℕ) (w : run ≡ writeRecords (leaving (read s) q)) (b : Bool) (f : b ≡ isNfaAt lo hi (readRecords run)) where
-    nfa-at : isNfa lo hi (read s) ≡ (b || isNfaIn lo hi (read s) (drop (q + 1) (states (stateCount s))))
+  module _ (h : q < stateCount s) (run : List ℕ) (w : run ≡ writeRecords (leaving (read s) q)) (b : Bool) (f : b ≡ isNfaAt lower upper (readRecords run)) where
+    nfa-at : isNfa lower upper (read s) ≡ (b || isNfaIn lower upper (read s) (drop (q + 1) (states (stateCount s))))
     unfolding isNfaIn any
     nfa-at =
-        let g : b ≡ isNfaAt lo hi (leaving (read s) q) = f ∙ ap (λ l. isNfaAt lo hi (readRecords l)) w ∙ ap (isNfaAt lo hi) (read-write (leaving (read s) q)) in
+        let g : b ≡ isNfaAt lower upper (leaving (read s) q) = f ∙ ap (λ l. isNfaAt lower upper (readRecords l)) w ∙ ap (isNfaAt lower upper) (read-write (leaving (read s) q)) in
         e ∙ rw (states-at (stateCount s) q h, ← g)
 
-    pub nfa-found : b ≡ true → true ≡ isNfa lo hi (read s)
+    pub nfa-found : b ≡ true → true ≡ isNfa lower upper (read s)
     nfa-found p = sym (nfa-at ∙ rw p)
 
-    pub nfa-next : b ≡ false → isNfa lo hi (read s) ≡ isNfaIn lo hi (read s) (drop (q + 1) (states (stateCount s)))
+    pub nfa-next : b ≡ false → isNfa lower upper (read s) ≡ isNfaIn lower upper (read s) (drop (q + 1) (states (stateCount s)))
     nfa-next p = nfa-at ∙ rw p
 
 pub ruleset sheetLaws = (nfa-start, nfa-ended, nfa-found, nfa-next, ready-run, run-sorted, run-room, needs)
 
 -- sorted ranges leave at most one hole more than they are
-scan-short : (c hi : ℕ) (es : List Transition) → length (scan c hi es) ≤ suc (length es)
+scan-short : (c upper : ℕ) (es : List Transition) → length (scan c upper es) ≤ suc (length es)
 unfolding scan
-scan-short c hi [] = gap-short c (suc hi)
-scan-short c hi (e ∷ es) =
-    let b = min (e .first) (suc hi) in
+scan-short c upper [] = gap-short c (suc upper)
+scan-short c upper (e ∷ es) =
+    let b = min (e .first) (suc upper) in
     let d = max c (suc (e .last)) in
-    omega (arith, length-append (gap c b) (scan d hi es), gap-short c b, scan-short d hi es)
+    omega (arith, length-append (gap c b) (scan d upper es), gap-short c b, scan-short d upper es)
 
 -- a state has at most one hole more than its automaton has transitions
-holes-few : (lo hi : ℕ) (A : Automaton) → WellFormed A → (qs : List ℕ) → length (holesIn lo hi A qs) ≤ length qs * suc (length (A .transitions))
+holes-few : (lower upper : ℕ) (A : Automaton) → WellFormed A → (qs : List ℕ) → length (holesIn lower upper A qs) ≤ length qs * suc (length (A .transitions))
 unfolding holesIn flatMap holesOf
-holes-few lo hi A w [] = omega arith
-holes-few lo hi A w (q ∷ qs) =
+holes-few lower upper A w [] = omega arith
+holes-few lower upper A w (q ∷ qs) =
     let es = rangesOf (leaving A q) in
     omega (
       arith,
-      length-append (missing lo hi es) (holesIn lo hi A qs),
-      holes-few lo hi A w qs,
-      ap length (missing-scan lo hi es (leaving-sorted A q w)),
-      scan-short lo hi es,
+      length-append (missing lower upper es) (holesIn lower upper A qs),
+      holes-few lower upper A w qs,
+      ap length (missing-scan lower upper es (leaving-sorted A q w)),
+      scan-short lower upper es,
       ranges-few,
       suc-mul (length qs) (suc (length (A .transitions))),
     )
   where
     ranges-few : length (rangesOf (leaving A q)) ≤ length (A .transitions)
-    ranges-few = unfold rangesOf leaving in omega (arith, length-keep (λ e. eqb (e .kind) 1) (leaving A q), length-keep (λ e. eqb (e .from) q) (A .transitions))
+    ranges-few = unfold rangesOf leaving in omega (arith, length-filter (λ e. eqb (e .kind) 1) (leaving A q), length-filter (λ e. eqb (e .from) q) (A .transitions))
 
 -- the holes of a sheet
-pub holes-bound : (lo hi : ℕ) (s starts holes : List ℕ) → Ready s starts holes → length (holesIn lo hi (read s) (states (stateCount s))) ≤ 256 * 2049
-holes-bound lo hi s starts holes r =
+pub holes-bound : (lower upper : ℕ) (s starts holes : List ℕ) → HolesInputs s starts holes → length (holesIn lower upper (read s) (states (stateCount s))) ≤ 256 * 2049
+holes-bound lower upper s starts holes r =
     let n : length (states (stateCount s)) ≤ 256 = rw (length-states (stateCount s)) (r .accepted .few-states) in
     let few = mul-le-mul {n₁ = length (states (stateCount s))} {m₁ = suc (length (read s .transitions))} {n₂ = 256} {m₂ = 2049} n (suc-le-suc-iff .1 (read-fits s (r .accepted) .few-transitions)) in
-    omega (arith, few, holes-few lo hi (read s) (read-well s (r .accepted)) (states (stateCount s)))
+    omega (arith, few, holes-few lower upper (read s) (read-well s (r .accepted)) (states (stateCount s)))
 
 -- the holes of the states below q are counted
-pub count-start : (lo hi : ℕ) (A : Automaton) → 0 + length (holesIn lo hi A (drop 0 (states (A .size)))) ≡ length (holesIn lo hi A (states (A .size)))
-count-start lo hi A = omega arith
+pub count-start : (lower upper : ℕ) (A : Automaton) → 0 + length (holesIn lower upper A (drop 0 (states (A .size)))) ≡ length (holesIn lower upper A (states (A .size)))
+count-start lower upper A = omega arith
 
-module _ (lo hi : ℕ) (s : List ℕ) (count q : ℕ) (e : count + length (holesIn lo hi (read s) (drop q (states (stateCount s)))) ≡ length (holesIn lo hi (read s) (states (stateCount s)))) where
-  pub count-ended : stateCount s ≤ q → count ≡ length (holesIn lo hi (read s) (states (stateCount s)))
+module _ (lower upper : ℕ) (s : List ℕ) (count q : ℕ) (e : count + length (holesIn lower upper (read s) (drop q (states (stateCount s)))) ≡ length (holesIn lower upper (read s) (states (stateCount s)))) where
+  pub count-ended : stateCount s ≤ q → count ≡ length (holesIn lower upper (read s) (states (stateCount s)))
   unfolding holesIn flatMap
-  count-ended h = let z : length (holesIn lo hi (read s) (drop q (states (stateCount s)))) ≡ 0 = rw (states-end (stateCount s) q h) in omega arith
+  count-ended h = let z : length (holesIn lower upper (read s) (drop q (states (stateCount s)))) ≡ 0 = rw (states-end (stateCount s) q h) in omega arith
 
-  module _ (h : q < stateCount s) (run : List ℕ) (w : run ≡ writeRecords (leaving (read s) q)) (k : ℕ) (f : k ≡ length (missing lo hi (rangesOf (readRecords run)))) where
-    pub count-next : count + k + length (holesIn lo hi (read s) (drop (q + 1) (states (stateCount s)))) ≡ length (holesIn lo hi (read s) (states (stateCount s)))
+  module _ (h : q < stateCount s) (run : List ℕ) (w : run ≡ writeRecords (leaving (read s) q)) (k : ℕ) (f : k ≡ length (missing lower upper (rangesOf (readRecords run)))) where
+    pub count-next : count + k + length (holesIn lower upper (read s) (drop (q + 1) (states (stateCount s)))) ≡ length (holesIn lower upper (read s) (states (stateCount s)))
     unfolding holesIn flatMap holesOf
     count-next =
-        let g : k ≡ length (missing lo hi (rangesOf (leaving (read s) q))) = f ∙ ap (λ l. length (missing lo hi (rangesOf (readRecords l)))) w ∙ ap (λ l. length (missing lo hi (rangesOf l))) (read-write (leaving (read s) q)) in
-        let m = ap (λ l. length (holesIn lo hi (read s) l)) (states-at (stateCount s) q h) in
-        omega (arith, m, length-append (missing lo hi (rangesOf (leaving (read s) q))) (holesIn lo hi (read s) (drop (q + 1) (states (stateCount s)))))
+        let g : k ≡ length (missing lower upper (rangesOf (leaving (read s) q))) = f ∙ ap (λ l. length (missing lower upper (rangesOf (readRecords l)))) w ∙ ap (λ l. length (missing lower upper (rangesOf l))) (read-write (leaving (read s) q)) in
+        let m = ap (λ l. length (holesIn lower upper (read s) l)) (states-at (stateCount s) q h) in
+        omega (arith, m, length-append (missing lower upper (rangesOf (leaving (read s) q))) (holesIn lower upper (read s) (drop (q + 1) (states (stateCount s)))))
 
-    pub count-fits : (starts holes : List ℕ) → Ready s starts holes → Fits w64 (count + k)
-    count-fits starts holes r = record { fits = omega (arith, count-next, holes-bound lo hi s starts holes r) }
+    pub count-fits : (starts holes : List ℕ) → HolesInputs s starts holes → Fits w64 (count + k)
+    count-fits starts holes r = record { fits = omega (arith, count-next, holes-bound lower upper s starts holes r) }
 
 pub ruleset countLaws = (count-start, count-ended, count-next, count-fits, ready-run, run-sorted, run-room, needs)
 
@@ -143,10 +143,10 @@ read-spans [] = refl
 read-spans (s ∷ hs) = ap (λ l. s ∷ l) (read-spans hs)
 
 -- the holes of a run are found and stand at the front of h′
-module _ (lo hi sink q : ℕ) (run h h′ : List ℕ) (f : Fillable lo hi sink q run h) (k : ℕ) (e : k ≡ length (missing lo hi (rangesOf (readRecords run))))
-    (w : h′ ≡ sets h 0 (spanWords (missing lo hi (rangesOf (readRecords run))))) where
+module _ (lower upper sink q : ℕ) (run h h′ : List ℕ) (f : Fillable lower upper sink q run h) (k : ℕ) (e : k ≡ length (missing lower upper (rangesOf (readRecords run))))
+    (w : h′ ≡ sets h 0 (spanWords (missing lower upper (rangesOf (readRecords run))))) where
   hs : List Span
-  hs = missing lo hi (rangesOf (readRecords run))
+  hs = missing lower upper (rangesOf (readRecords run))
 
   half-room : 2 * k ≤ length h
   unfolding rangesOf
@@ -156,13 +156,13 @@ module _ (lo hi sink q : ℕ) (run h h′ : List ℕ) (f : Fillable lo hi sink q
         f .room,
         f .whole,
         e,
-        ap length (missing-scan lo hi (rangesOf (readRecords run)) (f .sorted)),
-        scan-short lo hi (rangesOf (readRecords run)),
-        length-keep (λ e. eqb (e .kind) 1) (readRecords run),
+        ap length (missing-scan lower upper (rangesOf (readRecords run)) (f .sorted)),
+        scan-short lower upper (rangesOf (readRecords run)),
+        length-filter (λ e. eqb (e .kind) 1) (readRecords run),
       )
 
   pub half-within : 2 * k ≤ length h′
-  half-within = omega (arith, half-room, ap length w, length-sets h 0 (spanWords (missing lo hi (rangesOf (readRecords run)))))
+  half-within = omega (arith, half-room, ap length w, length-sets h 0 (spanWords (missing lower upper (rangesOf (readRecords run)))))
 
   pub half-fits : length h < 2 ^ 64 → Fits w64 (2 * k)
   half-fits l = record { fits = omega (arith, half-room) }
@@ -176,21 +176,21 @@ module _ (lo hi sink q : ℕ) (run h h′ : List ℕ) (f : Fillable lo hi sink q
       let n : length (spanWords hs) ≡ 2 * k = omega (arith, words-length hs, e) in
       rw (w, sets-eq (spanWords hs) h 0 (omega (arith, half-room)), append-assoc [] (spanWords hs) (drop (0 + length (spanWords hs)) h)) (take-at (spanWords hs) _ (2 * k) n)
 
-  half-spans : readSpans (take (2 * k) h′) ≡ holesOf lo hi (readRecords run)
+  half-spans : readSpans (take (2 * k) h′) ≡ holesOf lower upper (readRecords run)
   unfolding hs holesOf
   half-spans = rw half-words (read-spans hs)
 
   pub half-mergeable : Mergeable sink q (readRecords run) (readSpans (take (2 * k) h′))
   half-mergeable = rw half-spans (f .mergeable)
 
-  half-merged : merged sink q run (take (2 * k) h′) ≡ filled lo hi sink q (readRecords run)
+  half-merged : merged sink q run (take (2 * k) h′) ≡ filled lower upper sink q (readRecords run)
   unfolding merged filled
   half-merged = rw half-spans
 
-  pub half-room-out : (o : List ℕ) (at : ℕ) → at + length (writeRecords (filled lo hi sink q (readRecords run))) ≤ length o → at + length (writeRecords (merged sink q run (take (2 * k) h′))) ≤ length o
+  pub half-room-out : (o : List ℕ) (at : ℕ) → at + length (writeRecords (filled lower upper sink q (readRecords run))) ≤ length o → at + length (writeRecords (merged sink q run (take (2 * k) h′))) ≤ length o
   half-room-out o at r = rw half-merged r
 
-  pub half-written : (o o′ : List ℕ) (at end : ℕ) → Written o at (writeRecords (merged sink q run (take (2 * k) h′))) o′ end → Written o at (writeRecords (filled lo hi sink q (readRecords run))) o′ end
+  pub half-written : (o o′ : List ℕ) (at end : ℕ) → Written o at (writeRecords (merged sink q run (take (2 * k) h′))) o′ end → Written o at (writeRecords (filled lower upper sink q (readRecords run))) o′ end
   half-written o o′ at end v = rw half-merged at v
 
 pub ruleset filledLaws = (half-within, half-fits, half-length, half-mergeable, half-room-out, half-written, needs)

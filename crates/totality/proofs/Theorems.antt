@@ -1,6 +1,6 @@
 -- What is proved of `is_nfa`, `totalize` and `complement` (document 01, "Product, totality, complement, emptiness").
 --
--- Of a well-formed automaton, as an accepted sheet reads; `lo` and `hi` are the least and the greatest symbol:
+-- Of a well-formed automaton, as an accepted sheet reads; `lower` and `upper` are the least and the greatest symbol:
 --   nfa-settled            `is_nfa` is false exactly where no state has an epsilon, an overlap or a hole
 --   nfa-unsettled          and true exactly where there is one of them
 --   nfa-exact              it is false exactly where every symbol has one transition in every state and no epsilon stands
@@ -62,31 +62,31 @@ use Rattle.totality.proofs.Deterministic.{settled-exact, unsettled-exac
 use Rattle.totality.proofs.Limits.{made-lengths, made-20, made-fault, made-10, made-limit, made-accepted, made-leaves, total-21, total-22, complemented-21, complemented-22, total-writable, complement-writable}
 use Rattle.totality.proofs.Words.{words-kept, total-complete}
 
-module _ (lo hi : ℕ) (A : Automaton) where
+module _ (lower upper : ℕ) (A : Automaton) where
   -- `is_nfa` is false exactly where no state has an epsilon, an overlap or a hole
-  pub nfa-settled : (isNfa lo hi A ≡ false) ↔ ((q : ℕ) → q < A .size → Settled lo hi (leaving A q))
-  nfa-settled = settled-exact lo hi A
+  pub nfa-settled : (isNfa lower upper A ≡ false) ↔ ((q : ℕ) → q < A .size → Settled lower upper (leaving A q))
+  nfa-settled = settled-exact lower upper A
 
   module _ (v : WellFormed A) where
     -- and true exactly where there is one of them
-    pub nfa-unsettled : (isNfa lo hi A ≡ true) ↔ Unsettled lo hi A
-    nfa-unsettled = unsettled-exact lo hi A v
+    pub nfa-unsettled : (isNfa lower upper A ≡ true) ↔ Unsettled lower upper A
+    nfa-unsettled = unsettled-exact lower upper A v
 
     -- it is false exactly where every symbol has one transition in every state and no epsilon stands
-    pub nfa-exact : ((e : Transition) → e ∈ A .transitions → e .kind ≡ 1 → (lo ≤ e .first) × (e .last ≤ hi)) → (isNfa lo hi A ≡ false) ↔ Deterministic lo hi A
-    nfa-exact = deterministic-exact lo hi A v
+    pub nfa-exact : ((e : Transition) → e ∈ A .transitions → e .kind ≡ 1 → (lower ≤ e .first) × (e .last ≤ upper)) → (isNfa lower upper A ≡ false) ↔ Deterministic lower upper A
+    nfa-exact = deterministic-exact lower upper A v
 
     -- totalizing keeps the words
-    pub totalize-words : (w : List ℕ) → Accepts (totalized lo hi A) w ↔ Accepts A w
-    totalize-words = words-kept lo hi A v
+    pub totalize-words : (w : List ℕ) → Accepts (totalized lower upper A) w ↔ Accepts A w
+    totalize-words = words-kept lower upper A v
 
     -- and then every symbol has a transition in every state
-    pub totalize-total : Complete lo hi (totalized lo hi A)
-    totalize-total = total-complete lo hi A v
+    pub totalize-total : Complete lower upper (totalized lower upper A)
+    totalize-total = total-complete lower upper A v
 
     -- where no epsilon and no overlap stood, the complement accepts the other words
-    pub complement-words : lo ≤ hi → EpsilonFree A → OverlapFree A → (w : List ℕ) → Word lo hi w → Accepts (complemented lo hi A) w ↔ (Accepts A w → ⊥)
-    complement-words = other-words lo hi A v
+    pub complement-words : lower ≤ upper → EpsilonFree A → OverlapFree A → (w : List ℕ) → Word lower upper w → Accepts (complemented lower upper A) w ↔ (Accepts A w → ⊥)
+    complement-words = other-words lower upper A v
 
 -- of a sheet of 32-bit words `is_nfa` is false exactly where every symbol has one transition in every state and no epsilon stands
 pub nfa-sheet : (s : List ℕ) → fault s ≡ 0 → ((i : ℕ) → getD s i 0 ≤ lastSymbol) → (isNfa 0 lastSymbol (read s) ≡ false) ↔ Deterministic 0 lastSymbol (read s)

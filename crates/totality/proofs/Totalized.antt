@@ -22,39 +22,39 @@ use Rattle.lists.proofs.Members.{ascending-append}
 use Rattle.automata.proofs.States.{states-in, states-out, states-ascend}
 
 -- a transition of the totalized automaton is one that was there, a hole that is led to the sink, or the sink's loop
-pub data Origin (lo hi : ℕ) (A : Automaton) (e : Transition) : Type 0 where
-  kept : e ∈ A .transitions → Origin lo hi A e
-  hole : (q : ℕ) (h : Span) → q < A .size → h ∈ holesOf lo hi (leaving A q) → e ≡ holeTo (A .size) q h → Origin lo hi A e
-  loop : e ≡ loopOn lo hi (A .size) → Origin lo hi A e
+pub data Origin (lower upper : ℕ) (A : Automaton) (e : Transition) : Type 0 where
+  kept : e ∈ A .transitions → Origin lower upper A e
+  hole : (q : ℕ) (h : Span) → q < A .size → h ∈ holesOf lower upper (leaving A q) → e ≡ holeTo (A .size) q h → Origin lower upper A e
+  loop : e ≡ loopOn lower upper (A .size) → Origin lower upper A e
 
-module _ (lo hi : ℕ) (A : Automaton) (w : WellFormed A) where
-  pub origin : (e : Transition) → e ∈ totalized lo hi A .transitions → Origin lo hi A e
+module _ (lower upper : ℕ) (A : Automaton) (w : WellFormed A) where
+  pub origin : (e : Transition) → e ∈ totalized lower upper A .transitions → Origin lower upper A e
   unfolding totalized filledIn filled
-  origin e m = ⊎-elim inside (λ k. loop (List·Memᴰ·eq-of-singleton k)) (List·Memᴰ·append-cases (filledIn lo hi A (states (A .size))) m)
+  origin e m = ⊎-elim inside (λ k. loop (List·Memᴰ·eq-of-singleton k)) (List·Memᴰ·append-cases (filledIn lower upper A (states (A .size))) m)
     where
-      inside : e ∈ filledIn lo hi A (states (A .size)) → Origin lo hi A e
+      inside : e ∈ filledIn lower upper A (states (A .size)) → Origin lower upper A e
       inside k =
-          let (q, i, j) = flat-out (λ q. filled lo hi (A .size) q (leaving A q)) e (states (A .size)) k in
-          ⊎-elim (λ l. kept (leaves A q e l .0)) (λ l. let (h, n, c) = Memᴰ·of-map (holeTo (A .size) q) (holesOf lo hi (leaving A q)) l in hole q h (states-out (A .size) q i) n (sym c))
-          (List·Memᴰ·append-cases (leaving A q) (inOrder-out e (leaving A q ++ map (holeTo (A .size) q) (holesOf lo hi (leaving A q))) j))
+          let (q, i, j) = flat-out (λ q. filled lower upper (A .size) q (leaving A q)) e (states (A .size)) k in
+          ⊎-elim (λ l. kept (leaves A q e l .0)) (λ l. let (h, n, c) = Memᴰ·of-map (holeTo (A .size) q) (holesOf lower upper (leaving A q)) l in hole q h (states-out (A .size) q i) n (sym c))
+          (List·Memᴰ·append-cases (leaving A q) (inOrder-out e (leaving A q ++ map (holeTo (A .size) q) (holesOf lower upper (leaving A q))) j))
 
   -- every transition is kept, every hole is there, and so is the loop
-  pub kept-in : {e : Transition} → e ∈ A .transitions → e ∈ totalized lo hi A .transitions
+  pub kept-in : {e : Transition} → e ∈ A .transitions → e ∈ totalized lower upper A .transitions
   unfolding totalized filledIn filled
   kept-in {e} m =
       Memᴰ·append-left _
-      (flat-in (λ q. filled lo hi (A .size) q (leaving A q)) (states-in (A .size) (e .from) (w .states .froms e m))
+      (flat-in (λ q. filled lower upper (A .size) q (leaving A q)) (states-in (A .size) (e .from) (w .states .froms e m))
       (inOrder-in (Memᴰ·append-left _ (leaving-in A (e .from) e m refl))))
 
-  pub hole-in : (q : ℕ) (h : Span) → q < A .size → h ∈ holesOf lo hi (leaving A q) → holeTo (A .size) q h ∈ totalized lo hi A .transitions
+  pub hole-in : (q : ℕ) (h : Span) → q < A .size → h ∈ holesOf lower upper (leaving A q) → holeTo (A .size) q h ∈ totalized lower upper A .transitions
   unfolding totalized filledIn filled
   hole-in q h l m =
       Memᴰ·append-left _
-      (flat-in (λ q. filled lo hi (A .size) q (leaving A q)) (states-in (A .size) q l) (inOrder-in (Memᴰ·append-right (leaving A q) (Memᴰ·map (holeTo (A .size) q) m))))
+      (flat-in (λ q. filled lower upper (A .size) q (leaving A q)) (states-in (A .size) q l) (inOrder-in (Memᴰ·append-right (leaving A q) (Memᴰ·map (holeTo (A .size) q) m))))
 
-  pub loop-in : loopOn lo hi (A .size) ∈ totalized lo hi A .transitions
+  pub loop-in : loopOn lower upper (A .size) ∈ totalized lower upper A .transitions
   unfolding totalized
-  loop-in = Memᴰ·append-right (filledIn lo hi A (states (A .size))) (List·Memᴰ·head refl)
+  loop-in = Memᴰ·append-right (filledIn lower upper A (states (A .size))) (List·Memᴰ·head refl)
 
 -- transitions of ascending states, those of each in order
 rows-ascend : (f : ℕ → List Transition) {qs : List ℕ} → Ascending _<_ qs → ((q : ℕ) → Ascending Before (f q)) → ((q : ℕ) (e : Transition) → e ∈ f q → e .from ≡ q) → Ascending Before (flatMap f qs)
@@ -78,31 +78,31 @@ module _ (l : List ℕ) where
       go (x ∷ l) zero h = absurd (omega arith)
       go (x ∷ l) (suc q) h = go l q (omega arith)
 
-module _ (lo hi : ℕ) (A : Automaton) (w : WellFormed A) (c : lo ≤ hi) where
-  pub totalized-well : WellFormed (totalized lo hi A)
+module _ (lower upper : ℕ) (A : Automaton) (w : WellFormed A) (c : lower ≤ upper) where
+  pub totalized-well : WellFormed (totalized lower upper A)
   unfolding totalized filledIn filled states
   totalized-well =
       record {
-        states = record { starts = omega (arith, w .states .starts); froms = λ e m. from-in e (origin lo hi A w e m); tos = λ e m. to-in e (origin lo hi A w e m) };
+        states = record { starts = omega (arith, w .states .starts); froms = λ e m. from-in e (origin lower upper A w e m); tos = λ e m. to-in e (origin lower upper A w e m) };
         accepts = omega (arith, length-append (A .accept) (0 ∷ []), w .accepts);
         accept-words = words;
-        sound = λ e m. is-sound e (origin lo hi A w e m);
+        sound = λ e m. is-sound e (origin lower upper A w e m);
         ascends = rises;
       }
     where
-      from-in : (e : Transition) → Origin lo hi A e → e .from < totalized lo hi A .size
+      from-in : (e : Transition) → Origin lower upper A e → e .from < totalized lower upper A .size
       from-in e (kept m) = omega (arith, w .states .froms e m)
       from-in e (hole q h l m c) = rw c (omega arith)
       from-in e (loop c) = rw c (omega arith)
 
-      to-in : (e : Transition) → Origin lo hi A e → e .to < totalized lo hi A .size
+      to-in : (e : Transition) → Origin lower upper A e → e .to < totalized lower upper A .size
       to-in e (kept m) = omega (arith, w .states .tos e m)
       to-in e (hole q h l m c) = rw c (omega arith)
       to-in e (loop c) = rw c (omega arith)
 
-      is-sound : (e : Transition) → Origin lo hi A e → Sound e
+      is-sound : (e : Transition) → Origin lower upper A e → Sound e
       is-sound e (kept m) = w .sound e m
-      is-sound e (hole q h l m c) = rw c (record { known = omega arith; full = state-holes A w q lo hi .full h m; blank = λ z. absurd (omega arith) })
+      is-sound e (hole q h l m c) = rw c (record { known = omega arith; full = state-holes A w q lower upper .full h m; blank = λ z. absurd (omega arith) })
       is-sound e (loop d) = rw d (record { known = omega arith; full = c; blank = λ z. absurd (omega arith) })
 
       words : (q : ℕ) → getD (A .accept ++ 0 ∷ []) q 0 ≤ 1
@@ -111,18 +111,18 @@ module _ (lo hi : ℕ) (A : Automaton) (w : WellFormed A) (c : lo ≤ hi) where
           (test (ltb q (length (A .accept))))
 
       fill : ℕ → List Transition
-      fill q = filled lo hi (A .size) q (leaving A q)
+      fill q = filled lower upper (A .size) q (leaving A q)
 
       fill-from : (q : ℕ) (e : Transition) → e ∈ fill q → e .from ≡ q
       fill-from q e m =
-          ⊎-elim (λ k. leaves A q e k .1) (λ k. let (h, n, c) = Memᴰ·of-map (holeTo (A .size) q) (holesOf lo hi (leaving A q)) k in rw (← c))
-          (List·Memᴰ·append-cases (leaving A q) (inOrder-out e (leaving A q ++ map (holeTo (A .size) q) (holesOf lo hi (leaving A q))) m))
+          ⊎-elim (λ k. leaves A q e k .1) (λ k. let (h, n, c) = Memᴰ·of-map (holeTo (A .size) q) (holesOf lower upper (leaving A q)) k in rw (← c))
+          (List·Memᴰ·append-cases (leaving A q) (inOrder-out e (leaving A q ++ map (holeTo (A .size) q) (holesOf lower upper (leaving A q))) m))
 
-      rises : Ascending Before (filledIn lo hi A (states (A .size)) ++ loopOn lo hi (A .size) ∷ [])
+      rises : Ascending Before (filledIn lower upper A (states (A .size)) ++ loopOn lower upper (A .size) ∷ [])
       rises =
           ascending-append
           (rows-ascend fill (states-ascend (A .size))
-          (λ q. inOrder-ascending (leaving A q ++ map (holeTo (A .size) q) (holesOf lo hi (leaving A q)))) fill-from)
+          (λ q. inOrder-ascending (leaving A q ++ map (holeTo (A .size) q) (holesOf lower upper (leaving A q)))) fill-from)
           (more (λ y m. absurd (List·Memᴰ·not-nil m)) none)
           (λ x y m n.
           let (q, i, j) = flat-out fill x (states (A .size)) m in
@@ -158,10 +158,10 @@ flipped-well A w =
     words (x ∷ l) zero = other-small x
     words (x ∷ l) (suc q) = words l q
 
-pub complemented-well : (lo hi : ℕ) (A : Automaton) → lo ≤ hi → WellFormed A → WellFormed (complemented lo hi A)
+pub complemented-well : (lower upper : ℕ) (A : Automaton) → lower ≤ upper → WellFormed A → WellFormed (complemented lower upper A)
 unfolding complemented
-complemented-well lo hi A c w = go (isNfa lo hi A)
+complemented-well lower upper A c w = go (isNfa lower upper A)
   where
-    go : (b : Bool) → WellFormed (flipped (cond b (totalized lo hi A) A))
-    go true = flipped-well (totalized lo hi A) (totalized-well lo hi A w c)
+    go : (b : Bool) → WellFormed (flipped (cond b (totalized lower upper A) A))
+    go true = flipped-well (totalized lower upper A) (totalized-well lower upper A w c)
     go false = flipped-well A w

@@ -17,7 +17,7 @@ use Rattle.automata.proofs.Records.{length-write, write-append}
 use Rattle.sheets.specs.inner.Accepted.{Accepted}
 use Rattle.sheets.specs.Sheet.{stateCount, read, write}
 use Rattle.sheets.proofs.Meaning.{read-well}
-use Rattle.totality.specs.inner.Merging.{acceptWord, turned, headWords, frontWords, Small, Ready}
+use Rattle.totality.specs.inner.Merging.{acceptWord, turned, headWords, frontWords, Small, HolesInputs}
 use Rattle.totality.proofs.Rows.{length-all, length-totalized}
 use Rattle.totality.specs.Totality.{filledIn, loopOn, flipped, totalized, transitionCount}
 
@@ -88,19 +88,19 @@ write-turned true A = refl
 write-turned false A = rw (map-id (A .accept))
 
 -- the totalized sheet, piece by piece
-module _ (s starts holes : List ℕ) (ready : Ready s starts holes) (lo hi : ℕ) (o : List ℕ) (count : ℕ) (small : Small lo hi s o count) where
+module _ (s starts holes : List ℕ) (ready : HolesInputs s starts holes) (lower upper : ℕ) (o : List ℕ) (count : ℕ) (small : Small lower upper s o count) where
   pub total-few : (stateCount s < 256) × (10500 ≤ length o)
   total-few = (small .few-states, small .room)
 
-  rows-length : length (writeRecords (filledIn lo hi (read s) (states (stateCount s)))) + 5 ≡ 5 * count
+  rows-length : length (writeRecords (filledIn lower upper (read s) (states (stateCount s)))) + 5 ≡ 5 * count
   unfolding transitionCount
-  rows-length = omega (arith, small .counted, length-write (filledIn lo hi (read s) (states (stateCount s))), length-all lo hi (read s) (read-well s (ready .accepted)))
+  rows-length = omega (arith, small .counted, length-write (filledIn lower upper (read s) (states (stateCount s))), length-all lower upper (read s) (read-well s (ready .accepted)))
 
   module _ (b : Bool) (o₁ : List ℕ) (e₁ : ℕ) (front : Written o 0 (frontWords b s count) o₁ e₁) where
-    pub rows-room : e₁ + length (writeRecords (filledIn lo hi (read s) (states (stateCount s)))) ≤ length o₁
+    pub rows-room : e₁ + length (writeRecords (filledIn lower upper (read s) (states (stateCount s)))) ≤ length o₁
     rows-room = omega (arith, front .behind, front-length s (ready .accepted) b count, written-length o o₁ _ 0 e₁ front, rows-length, small .few-states, small .few-transitions, small .room)
 
-    module _ (o₂ : List ℕ) (e₂ : ℕ) (filled : Written o₁ e₁ (writeRecords (filledIn lo hi (read s) (states (stateCount s)))) o₂ e₂) where
+    module _ (o₂ : List ℕ) (e₂ : ℕ) (filled : Written o₁ e₁ (writeRecords (filledIn lower upper (read s) (states (stateCount s)))) o₂ e₂) where
       pub loop-room : e₂ + 5 ≤ length o₂
       loop-room =
           omega (
@@ -116,15 +116,15 @@ module _ (s starts holes : List ℕ) (ready : Ready s starts holes) (lo hi : ℕ
             small .room,
           )
 
-      pub total-written : (o₃ : List ℕ) (e₃ : ℕ) → Written o₂ e₂ (stateCount s ∷ 1 ∷ lo ∷ hi ∷ stateCount s ∷ []) o₃ e₃ → Written o 0 (write (turned b (totalized lo hi (read s)))) o₃ e₃
+      pub total-written : (o₃ : List ℕ) (e₃ : ℕ) → Written o₂ e₂ (stateCount s ∷ 1 ∷ lower ∷ upper ∷ stateCount s ∷ []) o₃ e₃ → Written o 0 (write (turned b (totalized lower upper (read s)))) o₃ e₃
       unfolding totalized frontWords headWords transitionCount writeRecords
       total-written o₃ e₃ last =
-          let F = filledIn lo hi (read s) (states (stateCount s)) in
-          let l = loopOn lo hi (stateCount s) in
-          let m : length (F ++ l ∷ []) ≡ count = length-totalized lo hi (read s) (read-well s (ready .accepted)) ∙ sym (small .counted) in
+          let F = filledIn lower upper (read s) (states (stateCount s)) in
+          let l = loopOn lower upper (stateCount s) in
+          let m : length (F ++ l ∷ []) ≡ count = length-totalized lower upper (read s) (read-well s (ready .accepted)) ∙ sym (small .counted) in
           let all = written-append o o₂ o₃ _ _ 0 e₂ e₃ (written-append o o₁ o₂ _ _ 0 e₁ e₂ front filled) last in
-          let e : write (turned b (totalized lo hi (read s))) ≡ (frontWords b s count ++ writeRecords F) ++ writeRecords (l ∷ []) =
-          write-turned b (totalized lo hi (read s)) ∙ rw (map-append (acceptWord b) (read s .accept) (0 ∷ []), m, write-append F (l ∷ [])) (simp append-assoc refl) in
+          let e : write (turned b (totalized lower upper (read s))) ≡ (frontWords b s count ++ writeRecords F) ++ writeRecords (l ∷ []) =
+          write-turned b (totalized lower upper (read s)) ∙ rw (map-append (acceptWord b) (read s .accept) (0 ∷ []), m, write-append F (l ∷ [])) (simp append-assoc refl) in
           rw e all
 
 pub ruleset totalLaws = (total-few, rows-room, loop-room, total-written, needs)

@@ -16,18 +16,18 @@ unfoldable pub limited : Pattern → Answer Pattern
 limited P = statesFirst (P .automaton) (transitionsFirst (P .automaton) (given P))
 
 unfoldable pub isNfaAnswer : ℕ → ℕ → List ℕ → Answer Bool
-isNfaAnswer lo hi s = sheetFirst s (given (isNfa lo hi (read s)))
+isNfaAnswer lower upper s = sheetFirst s (given (isNfa lower upper (read s)))
 
 -- the totalized automaton, and `sink` behind the labels
 unfoldable pub totalPattern : ℕ → ℕ → Automaton → List (List ℕ) → Pattern
-totalPattern lo hi A ls = record { automaton = totalized lo hi A; labels = ls ++ sinkLabel ∷ [] }
+totalPattern lower upper A ls = record { automaton = totalized lower upper A; labels = ls ++ sinkLabel ∷ [] }
 
 unfoldable pub totalizeAnswer : ℕ → ℕ → List ℕ → List ℕ → Answer Pattern
-totalizeAnswer lo hi s b = sheetFirst s (labelsFirst (stateCount s) b (limited (totalPattern lo hi (read s) (readLabels b))))
+totalizeAnswer lower upper s b = sheetFirst s (labelsFirst (stateCount s) b (limited (totalPattern lower upper (read s) (readLabels b))))
 
 -- the complement, and `sink` behind the labels where it totalizes
 unfoldable pub complementPattern : ℕ → ℕ → Automaton → List (List ℕ) → Pattern
-complementPattern lo hi A ls = record { automaton = complemented lo hi A; labels = cond (isNfa lo hi A) (ls ++ sinkLabel ∷ []) ls }
+complementPattern lower upper A ls = record { automaton = complemented lower upper A; labels = cond (isNfa lower upper A) (ls ++ sinkLabel ∷ []) ls }
 
 unfoldable pub complementAnswer : ℕ → ℕ → List ℕ → List ℕ → Answer Pattern
-complementAnswer lo hi s b = sheetFirst s (labelsFirst (stateCount s) b (limited (complementPattern lo hi (read s) (readLabels b))))
+complementAnswer lower upper s b = sheetFirst s (labelsFirst (stateCount s) b (limited (complementPattern lower upper (read s) (readLabels b))))

@@ -11,7 +11,7 @@ ghost use Rattle.refusal.specs.Decision.{decisionOf};
 ghost use Rattle.sheets.specs.inner.Accepted.{Accepted};
 ghost use Rattle.sheets.specs.Sheet.{stateCount, read};
 ghost use Rattle.totality.specs.Totality.{isNfa};
-ghost use Rattle.totality.specs.inner.Merging.{Ready};
+ghost use Rattle.totality.specs.inner.Merging.{HolesInputs};
 ghost use Rattle.totality.specs.Answers.{isNfaAnswer, limited, complementPattern, totalizeAnswer, complementAnswer};
 ghost use Rattle.totality.specs.inner.Answers.{inputsFirst, inputsOf, passed, turnedPattern, flippedPattern};
 use output::Made;
@@ -40,7 +40,7 @@ fn make_total(
     out: &mut [u32],
     names: &mut [u8],
 ) -> Made
-    requires { ⌜ Ready (now s) (now starts) (now holes) ⌝ }
+    requires { ⌜ HolesInputs (now s) (now starts) (now holes) ⌝ }
     requires { ⌜ (labelsFault (stateCount (now s)) (now labels) ≡ 0) × (10500 ≤ length (now out)) × (16642 ≤ length (now names)) ⌝ }
     ensures { λ r. ⌜ outputOf r (now (out .exit)) (now (names .exit)) ≡ outputs (now (out .entry)) (now (names .entry)) (limited (turnedPattern flip lower upper (read (now (s .entry))) (readLabels (now (labels .entry))))) ⌝ }
 {

@@ -4,10 +4,10 @@ ghost use Prim.Native.Nat.{_+_, _*_, _≤_, _<_};
 ghost use lib.ListN.{length};
 ghost use Rattle.automata.specs.Automaton.{states, rangesOf, hasEpsilon};
 ghost use Rattle.automata.specs.Records.{readRecords};
-ghost use Rattle.ranges.specs.Missing.{Sorted};
+ghost use Rattle.ranges.specs.Missing.{SortedRanges};
 ghost use Rattle.sheets.specs.Sheet.{stateCount, read};
 ghost use Rattle.totality.specs.Totality.{isNfaAt, isNfa, holesIn};
-ghost use Rattle.totality.specs.inner.Merging.{Ready};
+ghost use Rattle.totality.specs.inner.Merging.{HolesInputs};
 
 // Whether an epsilon stands in the run.
 fn has_epsilon(run: &[u32]) -> bool
@@ -25,7 +25,7 @@ fn has_epsilon(run: &[u32]) -> bool
 
 // Whether the records of one state have an epsilon, an overlap or a hole from lower to upper.
 fn is_nfa_run(run: &[u32], lower: u32, upper: u32, holes: &mut [u32]) -> bool
-    requires { ⌜ Sorted (rangesOf (readRecords (now run))) × (2 * length (now run) + 10 ≤ 5 * length (now holes)) ⌝ }
+    requires { ⌜ SortedRanges (rangesOf (readRecords (now run))) × (2 * length (now run) + 10 ≤ 5 * length (now holes)) ⌝ }
     ensures { λ r. ⌜ r ≡ isNfaAt lower upper (readRecords (now (run .entry))) ⌝ }
 {
     if has_epsilon(run) {
@@ -39,7 +39,7 @@ fn is_nfa_run(run: &[u32], lower: u32, upper: u32, holes: &mut [u32]) -> bool
 
 // Whether some state has an epsilon, an overlap or a hole from lower to upper.
 pub fn is_nfa_sheet(s: &[u32], starts: &[u32], lower: u32, upper: u32, holes: &mut [u32]) -> bool
-    requires { ⌜ Ready (now s) (now starts) (now holes) ⌝ }
+    requires { ⌜ HolesInputs (now s) (now starts) (now holes) ⌝ }
     ensures { λ r. ⌜ r ≡ isNfa lower upper (read (now (s .entry))) ⌝ }
 {
     let n = s[2];
@@ -55,7 +55,7 @@ pub fn is_nfa_sheet(s: &[u32], starts: &[u32], lower: u32, upper: u32, holes: &m
 
 // The number of holes of all states.
 pub fn count_holes(s: &[u32], starts: &[u32], lower: u32, upper: u32, holes: &mut [u32]) -> usize
-    requires { ⌜ Ready (now s) (now starts) (now holes) ⌝ }
+    requires { ⌜ HolesInputs (now s) (now starts) (now holes) ⌝ }
     ensures { λ r. ⌜ r ≡ length (holesIn lower upper (read (now (s .entry))) (states (stateCount (now (s .entry))))) ⌝ }
 {
     let n = s[2];

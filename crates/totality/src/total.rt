@@ -9,7 +9,7 @@ ghost use Rattle.automata.specs.Records.{readRecords, writeRecords};
 ghost use Rattle.sheets.specs.inner.Accepted.{Accepted};
 ghost use Rattle.sheets.specs.Sheet.{stateCount, read, write};
 ghost use Rattle.totality.specs.Totality.{filled, filledIn, totalized};
-ghost use Rattle.totality.specs.inner.Merging.{readSpans, leading, Mergeable, merged, Whole, Fillable, acceptWord, turned, headWords, frontWords, Small, Ready};
+ghost use Rattle.totality.specs.inner.Merging.{readSpans, leading, Mergeable, merged, Whole, Fillable, acceptWord, turned, headWords, frontWords, Small, HolesInputs};
 
 // The place behind the records from i on that come before a hole that begins at low.
 fn records_before(run: &[u32], i: usize, low: u32) -> usize
@@ -75,7 +75,7 @@ fn put_rows(
     out: &mut [u32],
     at: usize,
 ) -> usize
-    requires { ⌜ Ready (now s) (now starts) (now holes) ⌝ }
+    requires { ⌜ HolesInputs (now s) (now starts) (now holes) ⌝ }
     requires { ⌜ at + length (writeRecords (filledIn lower upper (read (now s)) (states (stateCount (now s))))) ≤ length (now out) ⌝ }
     ensures { λ r. ⌜ Written (now (out .entry)) at (writeRecords (filledIn lower upper (read (now (s .entry))) (states (stateCount (now (s .entry)))))) (now (out .exit)) r ⌝ }
 {
@@ -149,7 +149,7 @@ pub fn put_total(
     holes: &mut [u32],
     out: &mut [u32],
 ) -> usize
-    requires { ⌜ Ready (now s) (now starts) (now holes) × Small lower upper (now s) (now out) count ⌝ }
+    requires { ⌜ HolesInputs (now s) (now starts) (now holes) × Small lower upper (now s) (now out) count ⌝ }
     ensures { λ r. ⌜ Written (now (out .entry)) 0 (write (turned flip (totalized lower upper (read (now (s .entry)))))) (now (out .exit)) r ⌝ }
 {
     let n = s[2];

@@ -10,7 +10,7 @@ use lib.Dec.{ltb}
 use lib.ListN.{length, take, drop}
 use lib.Seq.{length-take-le}
 use Rattle.automata.specs.Automaton.{Automaton}
-use Rattle.grammar.specs.Grammar.{Found, nothing, found, Mark}
+use Rattle.grammar.specs.Grammar.{ReadResult, nothing, found, Mark}
 use Rattle.lists.specs.Written.{Written}
 use Rattle.lists.proofs.Parts.{part-all}
 use Rattle.lists.proofs.Written.{written-length}
@@ -24,19 +24,19 @@ use Rattle.sheets.specs.Fault.{fault}
 use Rattle.sheets.specs.Sheet.{read}
 use Rattle.determinize.specs.Determinize.{determinize}
 use Rattle.determinize.proofs.Theorems.{determinize-fits}
-use Rattle.parser.specs.Pattern.{Reading, parse}
+use Rattle.parser.specs.Pattern.{Reading, parseAnswer}
 use Rattle.parser.specs.declared.Parsed.{Parsed}
 use Rattle.parser.specs.declared.Parsed.the-variants.{Read}
 use Rattle.parser.proofs.Outcomes.{answers-given}
-use Rattle.equality.specs.Forced.{Two, states}
+use Rattle.equality.specs.Forced.{Two, totalSize}
 use Rattle.equality.specs.Verdict.{Decided}
-use Rattle.equality.specs.Equality.{withSecond, withFirst, determinized, compared, Judged}
+use Rattle.equality.specs.Equality.{withSecond, withFirst, determinized, equalityAnswer, Judged}
 use Rattle.equality.specs.declared.Verdict.{Verdict}
 use Rattle.equality.specs.declared.Verdict.the-variants.{Same, Different, Refused}
 use Rattle.verdict_line.specs.declared.Second.{Second}
 use Rattle.verdict_line.specs.declared.Second.the-variants.{At, Outside}
-use Rattle.verdict_line.specs.Texts.{twoTexts, withSecondText, withFirstText, onTexts, comparedTexts}
-use Rattle.verdict_line.specs.Line.{Line, refuses, same, differs, Printed, short, printed}
+use Rattle.verdict_line.specs.Texts.{twoTexts, withSecondText, withFirstText, onTexts, verdictAnswer}
+use Rattle.verdict_line.specs.Line.{VerdictLine, refuses, same, differs, Printed, short, printed}
 use Rattle.verdict_line.specs.inner.Code.{secondOf, SheetRead, lineOf, Short}
 use Rattle.verdict_line.proofs.Reading.{IsSheet, two-inside, sheet-refused, sheet-inside, sheet-is}
 
@@ -45,53 +45,53 @@ judged-refused : (a : Answer Two) (o : List ℕ) (r : Refusal) → a ≡ refused
 unfolding Judged
 judged-refused a o r e = subst (λ (x : Answer Two). Judged x o o (Refused r)) (sym e) (refl, refl)
 
-module _ (low high : ℕ) (o : List ℕ) where
+module _ (lower upper : ℕ) (o : List ℕ) where
   -- the second text
   module _ (a t : List ℕ) where
-    pub second-refuses : (r : Refusal) → parse t ≡ refused (numberOf r) → Judged (withSecondText low high (read a) (parse t)) o o (Refused r)
+    pub second-refuses : (r : Refusal) → parseAnswer t ≡ refused (numberOf r) → Judged (withSecondText lower upper (read a) (parseAnswer t)) o o (Refused r)
     unfolding withSecondText
-    second-refuses r e = judged-refused _ o r (ap (withSecondText low high (read a)) e)
+    second-refuses r e = judged-refused _ o r (ap (withSecondText lower upper (read a)) e)
 
-    pub second-judged : (b : List ℕ) → fault a ≡ 0 → IsSheet t b → 510 ≤ length o → (o′ : List ℕ) (v : Verdict) → Judged (compared low high a b o) o o′ v → Judged (withSecondText low high (read a) (parse t)) o o′ v
-    unfolding withSecondText compared sheetFirst
+    pub second-judged : (b : List ℕ) → fault a ≡ 0 → IsSheet t b → 510 ≤ length o → (o′ : List ℕ) (v : Verdict) → Judged (equalityAnswer lower upper a b o) o o′ v → Judged (withSecondText lower upper (read a) (parseAnswer t)) o o′ v
+    unfolding withSecondText equalityAnswer sheetFirst
     second-judged b f s room o′ v j =
-        let z : compared low high a b o ≡ determinized low high (read a) (read b) = rw (le-ltb (length o) 510 room, f, s .accepted) refl in
-        let y : withSecondText low high (read a) (parse t) ≡ determinized low high (read a) (read b) = ap (withSecondText low high (read a)) (s .is-reading) ∙ ap (determinized low high (read a)) (sym (s .is)) in
+        let z : equalityAnswer lower upper a b o ≡ determinized lower upper (read a) (read b) = rw (le-ltb (length o) 510 room, f, s .accepted) refl in
+        let y : withSecondText lower upper (read a) (parseAnswer t) ≡ determinized lower upper (read a) (read b) = ap (withSecondText lower upper (read a)) (s .is-reading) ∙ ap (determinized lower upper (read a)) (sym (s .is)) in
         subst (λ (x : Answer Two). Judged x o o′ v) (z ∙ sym y) j
 
   -- the first text
   module _ (t : List ℕ) (b : Answer Reading) where
-    pub first-refuses : (r : Refusal) → parse t ≡ refused (numberOf r) → Judged (withFirstText low high (parse t) b) o o (Refused r)
+    pub first-refuses : (r : Refusal) → parseAnswer t ≡ refused (numberOf r) → Judged (withFirstText lower upper (parseAnswer t) b) o o (Refused r)
     unfolding withFirstText
-    first-refuses r e = judged-refused _ o r (ap (λ (x : Answer Reading). withFirstText low high x b) e)
+    first-refuses r e = judged-refused _ o r (ap (λ (x : Answer Reading). withFirstText lower upper x b) e)
 
-    pub first-judged : (a : List ℕ) → IsSheet t a → (o′ : List ℕ) (v : Verdict) → Judged (withSecondText low high (read a) b) o o′ v → Judged (withFirstText low high (parse t) b) o o′ v
+    pub first-judged : (a : List ℕ) → IsSheet t a → (o′ : List ℕ) (v : Verdict) → Judged (withSecondText lower upper (read a) b) o o′ v → Judged (withFirstText lower upper (parseAnswer t) b) o o′ v
     unfolding withFirstText
     first-judged a s o′ v j =
-        let y : withFirstText low high (parse t) b ≡ withSecondText low high (read a) b = ap (λ (x : Answer Reading). withFirstText low high x b) (s .is-reading) ∙ ap (λ (A : Automaton). withSecondText low high A b) (sym (s .is)) in
+        let y : withFirstText lower upper (parseAnswer t) b ≡ withSecondText lower upper (read a) b = ap (λ (x : Answer Reading). withFirstText lower upper x b) (s .is-reading) ∙ ap (λ (A : Automaton). withSecondText lower upper A b) (sym (s .is)) in
         subst (λ (x : Answer Two). Judged x o o′ v) (sym y) j
 
   -- the input
   module _ (t : List ℕ) where
-    pub input-long : 65536 < length t → Judged (comparedTexts low high t) o o (Refused (Input Grammar))
-    unfolding comparedTexts
+    pub input-long : 65536 < length t → Judged (verdictAnswer lower upper t) o o (Refused (Input Grammar))
+    unfolding verdictAnswer
     input-long h = judged-refused _ o (Input Grammar) (rw (lt-ltb 65536 (length t) h) refl)
 
     module _ (s : Second) (e : secondOf s ≡ twoTexts t) (h : length t ≤ 65536) where
-      is-compared : comparedTexts low high t ≡ onTexts low high t (secondOf s)
-      unfolding comparedTexts
-      is-compared = rw (le-ltb 65536 (length t) h) (ap (onTexts low high t) (sym e))
+      is-compared : verdictAnswer lower upper t ≡ onTexts lower upper t (secondOf s)
+      unfolding verdictAnswer
+      is-compared = rw (le-ltb 65536 (length t) h) (ap (onTexts lower upper t) (sym e))
 
-      pub input-outside : s ≡ Outside → Judged (comparedTexts low high t) o o (Refused (Input Grammar))
-      input-outside f = judged-refused _ o (Input Grammar) (is-compared ∙ ap (λ (x : Second). onTexts low high t (secondOf x)) f)
+      pub input-outside : s ≡ Outside → Judged (verdictAnswer lower upper t) o o (Refused (Input Grammar))
+      input-outside f = judged-refused _ o (Input Grammar) (is-compared ∙ ap (λ (x : Second). onTexts lower upper t (secondOf x)) f)
 
-      pub input-judged : (at : ℕ) → s ≡ At at → (o′ : List ℕ) (v : Verdict) → Judged (withFirstText low high (parse t) (parse (take (length t - at) (drop at t)))) o o′ v → Judged (comparedTexts low high t) o o′ v
+      pub input-judged : (at : ℕ) → s ≡ At at → (o′ : List ℕ) (v : Verdict) → Judged (withFirstText lower upper (parseAnswer t) (parseAnswer (take (length t - at) (drop at t)))) o o′ v → Judged (verdictAnswer lower upper t) o o′ v
       input-judged at f o′ v j =
-          let z : comparedTexts low high t ≡ withFirstText low high (parse t) (parse (take (length t - at) (drop at t))) = is-compared ∙ ap (λ (x : Second). onTexts low high t (secondOf x)) f ∙ ap (λ (x : List ℕ). withFirstText low high (parse t) (parse x)) (sym (part-all at t)) in
+          let z : verdictAnswer lower upper t ≡ withFirstText lower upper (parseAnswer t) (parseAnswer (take (length t - at) (drop at t))) = is-compared ∙ ap (λ (x : Second). onTexts lower upper t (secondOf x)) f ∙ ap (λ (x : List ℕ). withFirstText lower upper (parseAnswer t) (parseAnswer x)) (sym (part-all at t)) in
           subst (λ (x : Answer Two). Judged x o o′ v) (sym z) j
 
 -- the sheet of a text has no fault
-pub sheet-accepted : (t o : List ℕ) (p : Parsed) (m n b : ℕ) → SheetRead (parse t) o p → p ≡ Read m n b → fault (take (n - 0) o) ≡ 0
+pub sheet-accepted : (t o : List ℕ) (p : Parsed) (m n b : ℕ) → SheetRead (parseAnswer t) o p → p ≡ Read m n b → fault (take (n - 0) o) ≡ 0
 sheet-accepted t o p m n b s e = sheet-is t o p m n b s e .accepted
 
 pub at-inside : (t : List ℕ) (s : Second) (at : ℕ) → secondOf s ≡ twoTexts t → s ≡ At at → at ≤ length t
@@ -102,38 +102,38 @@ pub ruleset textLaws = (second-refuses, second-judged, first-refuses, first-judg
 pub ruleset inputLaws = (input-long, input-outside, input-judged, at-inside, needs)
 
 -- both determinizations have at most 256 states
-module _ (low high : ℕ) where
-  two-few : (x y : Answer Automaton) (w : Two) → ((D : Automaton) → x ≡ given D → D .size ≤ 256) → ((E : Automaton) → y ≡ given E → E .size ≤ 256) → withFirst low high x y ≡ given w → states w ≤ 512
+module _ (lower upper : ℕ) where
+  two-few : (x y : Answer Automaton) (w : Two) → ((D : Automaton) → x ≡ given D → D .size ≤ 256) → ((E : Automaton) → y ≡ given E → E .size ≤ 256) → withFirst lower upper x y ≡ given w → totalSize w ≤ 512
   unfolding withFirst withSecond
   two-few (refused n) y w f g e = absurd (let z : _≡_ {A = ℕ} 0 1 = cc in omega arith)
   two-few (given D) (refused n) w f g e = absurd (let z : _≡_ {A = ℕ} 0 1 = cc in omega arith)
   two-few (given D) (given E) w f g e =
-      let z : _≡_ {A = Two} (record { one = D; two = E; low = low; high = high }) w = cc in
+      let z : _≡_ {A = Two} (record { one = D; two = E; lower = lower; upper = upper }) w = cc in
       omega (arith, f D refl, g E refl, ap (λ (x : Two). x .one .size) z, ap (λ (x : Two). x .two .size) z)
 
-  texts-few : (t s : List ℕ) (w : Two) → withFirstText low high (parse t) (parse s) ≡ given w → states w ≤ 512
+  texts-few : (t s : List ℕ) (w : Two) → withFirstText lower upper (parseAnswer t) (parseAnswer s) ≡ given w → totalSize w ≤ 512
   unfolding withFirstText withSecondText determinized
-  texts-few t s w e = by-answers (parse t) (parse s) refl refl e
+  texts-few t s w e = by-answers (parseAnswer t) (parseAnswer s) refl refl e
     where
-      by-answers : (x y : Answer Reading) → parse t ≡ x → parse s ≡ y → withFirstText low high x y ≡ given w → states w ≤ 512
+      by-answers : (x y : Answer Reading) → parseAnswer t ≡ x → parseAnswer s ≡ y → withFirstText lower upper x y ≡ given w → totalSize w ≤ 512
       by-answers (refused n) y p q h = absurd (let z : _≡_ {A = ℕ} 0 1 = cc in omega arith)
       by-answers (given R) (refused n) p q h = absurd (let z : _≡_ {A = ℕ} 0 1 = cc in omega arith)
       by-answers (given R) (given S) p q h =
-          two-few (determinize low high (R .pattern .automaton)) (determinize low high (S .pattern .automaton)) w
-          (λ D d. determinize-fits low high _ (answers-given t R p .writable .well .states) D d .few-states)
-          (λ E d. determinize-fits low high _ (answers-given s S q .writable .well .states) E d .few-states) h
+          two-few (determinize lower upper (R .pattern .automaton)) (determinize lower upper (S .pattern .automaton)) w
+          (λ D d. determinize-fits lower upper _ (answers-given t R p .writable .well .states) D d .few-states)
+          (λ E d. determinize-fits lower upper _ (answers-given s S q .writable .well .states) E d .few-states) h
 
-  compared-few : (t : List ℕ) (w : Two) → comparedTexts low high t ≡ given w → states w ≤ 512
-  unfolding comparedTexts
+  compared-few : (t : List ℕ) (w : Two) → verdictAnswer lower upper t ≡ given w → totalSize w ≤ 512
+  unfolding verdictAnswer
   compared-few t w e = by-size (ltb 65536 (length t)) (twoTexts t) e
     where
-      by-size : (b : Bool) (f : Found Mark) → cond b (refused 8) (onTexts low high t f) ≡ given w → states w ≤ 512
+      by-size : (b : Bool) (f : ReadResult Mark) → cond b (refused 8) (onTexts lower upper t f) ≡ given w → totalSize w ≤ 512
       by-size true f h = absurd (let z : _≡_ {A = ℕ} 0 1 = cc in omega arith)
       by-size false nothing h = absurd (let z : _≡_ {A = ℕ} 0 1 = cc in omega arith)
       by-size false (found _ at) h = texts-few t (drop at t) w h
 
 -- the line of a verdict is short, and a line of the answer
-line-short : (a : Answer Two) (o o′ : List ℕ) (v : Verdict) → ((w : Two) → a ≡ given w → states w ≤ 512) → Judged a o o′ v → Short v o′
+line-short : (a : Answer Two) (o o′ : List ℕ) (v : Verdict) → ((w : Two) → a ≡ given w → totalSize w ≤ 512) → Judged a o o′ v → Short v o′
 unfolding Judged Decided Short
 line-short (refused n) o o′ (Same j) few h = absurd h
 line-short (refused n) o o′ (Different m) few h = absurd h
@@ -142,11 +142,11 @@ line-short (given w) o o′ (Same j) few h = omega (arith, few w refl, h .0 .joi
 line-short (given w) o o′ (Different m) few h = (omega (arith, few w refl, h .0 .short, length-take-le m o′ (h .1)), h .1)
 line-short (given w) o o′ (Refused r) few h = absurd h
 
-line-given : (a : Answer Two) (o o′ : List ℕ) (v : Verdict) → Judged a o o′ v → Line a (lineOf v o′)
+line-given : (a : Answer Two) (o o′ : List ℕ) (v : Verdict) → Judged a o o′ v → VerdictLine a (lineOf v o′)
 unfolding Judged Decided lineOf
 line-given (refused n) o o′ (Same j) h = absurd h
 line-given (refused n) o o′ (Different m) h = absurd h
-line-given (refused n) o o′ (Refused r) h = subst (λ (k : ℕ). Line (refused k) (lineOf (Refused r) o′)) (h .0) (refuses (numberOf r))
+line-given (refused n) o o′ (Refused r) h = subst (λ (k : ℕ). VerdictLine (refused k) (lineOf (Refused r) o′)) (h .0) (refuses (numberOf r))
 line-given (given w) o o′ (Same j) h = same w j (h .0)
 line-given (given w) o o′ (Different m) h = differs w (take m o′) (h .0)
 line-given (given w) o o′ (Refused r) h = absurd h
@@ -155,11 +155,11 @@ line-given (given w) o o′ (Refused r) h = absurd h
 pub printed-nothing : (a : Answer Two) (o : List ℕ) → length o < 5617 → Printed a o o 0
 printed-nothing a o h = short h refl refl
 
-module _ (low high : ℕ) (t w w′ : List ℕ) (v : Verdict) (j : Judged (comparedTexts low high t) w w′ v) where
+module _ (lower upper : ℕ) (t w w′ : List ℕ) (v : Verdict) (j : Judged (verdictAnswer lower upper t) w w′ v) where
   pub printed-short : Short v w′
-  printed-short = line-short _ w w′ v (compared-few low high t) j
+  printed-short = line-short _ w w′ v (compared-few lower upper t) j
 
-  pub printed-line : (o o′ : List ℕ) (n : ℕ) → 5617 ≤ length o → Written o 0 (lineOf v w′) o′ n → n ≤ 5617 → Printed (comparedTexts low high t) o o′ n
+  pub printed-line : (o o′ : List ℕ) (n : ℕ) → 5617 ≤ length o → Written o 0 (lineOf v w′) o′ n → n ≤ 5617 → Printed (verdictAnswer lower upper t) o o′ n
   printed-line o o′ n h p k = printed h (lineOf v w′) (line-given _ w w′ v j) p k
 
 -- the line ends within the buffer

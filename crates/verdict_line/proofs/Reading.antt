@@ -11,7 +11,7 @@ use borrow.Author.Tests.{lt-ltb, le-ltb}
 use lib.Dec.{ltb}
 use lib.ListN.{length, take, drop, length-drop}
 use lib.Seq.{sets, sets-eq, length-sets, take-append-seam}
-use Rattle.grammar.specs.Grammar.{nothing, found, follow, Mark, mark, Told, space, wholeText}
+use Rattle.grammar.specs.Grammar.{nothing, found, follow, Mark, mark, TextParts, space, wholeText}
 use Rattle.grammar.specs.Places.{toldAt}
 use Rattle.grammar.specs.Pieces.{textOf}
 use Rattle.grammar.specs.declared.tokens.Cursor.{Cursor}
@@ -30,7 +30,7 @@ use Rattle.sheets.specs.Fault.{fault}
 use Rattle.sheets.specs.Sheet.{read, write}
 use Rattle.sheets.proofs.Meaning.{read-write-sheet, write-accepted, write-room}
 use Rattle.parser.specs.Parsed.{Lengths, Output, parsed, parsedOf}
-use Rattle.parser.specs.Pattern.{Reading, parse}
+use Rattle.parser.specs.Pattern.{Reading, parseAnswer}
 use Rattle.parser.specs.declared.Parsed.{Parsed}
 use Rattle.parser.specs.declared.Parsed.the-variants.{Read, Refused}
 use Rattle.parser.proofs.Outcomes.{answers-given}
@@ -97,28 +97,28 @@ two-inside t at e = holds-found (λ (_ : Mark) (b : ℕ). b ≤ length t) holds 
 
     holds : Holds (λ (_ : Mark) (b : ℕ). b ≤ length t) (twoTexts t)
     holds =
-        holds-follow (λ (_ : Told) (b : ℕ). b ≤ length t) (text-inside t) λ _ a h.
-        holds-follow (λ (_ : Told) (b : ℕ). b ≤ length (drop (space t a) t)) (text-inside (drop (space t a) t)) λ _ b g.
+        holds-follow (λ (_ : TextParts) (b : ℕ). b ≤ length t) (text-inside t) λ _ a h.
+        holds-follow (λ (_ : TextParts) (b : ℕ). b ≤ length (drop (space t a) t)) (text-inside (drop (space t a) t)) λ _ b g.
         last (ltb (space t (space t a + b)) (length t)) (space t a) (space-inside t a h)
 
 -- s is the sheet of the automaton of the text t
 pub record IsSheet (t s : List ℕ) : Type 0 where
   pub reading : Reading
-  pub is-reading : parse t ≡ given reading
+  pub is-reading : parseAnswer t ≡ given reading
   pub accepted : fault s ≡ 0
   pub is : read s ≡ reading .pattern .automaton
 
 -- the answer p of `parse_automaton` on buffers that have room
-module _ (t o n o′ n′ : List ℕ) (p : Parsed) (e : parsedOf p o′ n′ ≡ parsed o n (roomFirst o n (parse t))) (long : length o ≡ 10500) (longer : length n ≡ 16642) where
-  is-parsed : parsedOf p o′ n′ ≡ parsed o n (parse t)
+module _ (t o n o′ n′ : List ℕ) (p : Parsed) (e : parsedOf p o′ n′ ≡ parsed o n (roomFirst o n (parseAnswer t))) (long : length o ≡ 10500) (longer : length n ≡ 16642) where
+  is-parsed : parsedOf p o′ n′ ≡ parsed o n (parseAnswer t)
   unfolding roomFirst
   is-parsed = e ∙ ap (parsed o n) (rw (le-ltb (length o) 10500 (omega arith), le-ltb (length n) 16642 (omega arith)) refl)
 
-  pub sheet-read : SheetRead (parse t) o′ p
+  pub sheet-read : SheetRead (parseAnswer t) o′ p
   unfolding parsed
-  sheet-read = by-answer (parse t) p refl refl
+  sheet-read = by-answer (parseAnswer t) p refl refl
     where
-      by-answer : (a : Answer Reading) (q : Parsed) → parse t ≡ a → p ≡ q → SheetRead a o′ q
+      by-answer : (a : Answer Reading) (q : Parsed) → parseAnswer t ≡ a → p ≡ q → SheetRead a o′ q
       by-answer (refused k) (Refused r) h g =
           let z : parsedOf (Refused r) o′ n′ ≡ parsed o n (refused k) = ap (λ (x : Parsed). parsedOf x o′ n′) (sym g) ∙ is-parsed ∙ ap (parsed o n) h in
           let y = ap (λ (x : Output). x .answer) z in
@@ -148,25 +148,25 @@ pub ruleset readLaws = (sheet-read, needs)
 
 -- what the answer of `read_sheet` says
 module _ (t o : List ℕ) (p : Parsed) where
-  pub sheet-refused : (r : Refusal) → SheetRead (parse t) o p → p ≡ Refused r → parse t ≡ refused (numberOf r)
-  sheet-refused r s e = by-case (parse t) p s e
+  pub sheet-refused : (r : Refusal) → SheetRead (parseAnswer t) o p → p ≡ Refused r → parseAnswer t ≡ refused (numberOf r)
+  sheet-refused r s e = by-case (parseAnswer t) p s e
     where
       by-case : (a : Answer Reading) (q : Parsed) → SheetRead a o q → q ≡ Refused r → a ≡ refused (numberOf r)
       by-case a q (refuses x) h = let z : x ≡ r = cc in ap (λ (y : Refusal). refused (numberOf y)) z
       by-case a q (reads R m w b i g) h = absurd (let z : _≡_ {A = ℕ} 0 1 = cc in omega arith)
 
-  module _ (m n b : ℕ) (s : SheetRead (parse t) o p) (e : p ≡ Read m n b) where
+  module _ (m n b : ℕ) (s : SheetRead (parseAnswer t) o p) (e : p ≡ Read m n b) where
     pub sheet-inside : n ≤ length o
-    sheet-inside = by-case (parse t) p s e
+    sheet-inside = by-case (parseAnswer t) p s e
       where
         by-case : (a : Answer Reading) (q : Parsed) → SheetRead a o q → q ≡ Read m n b → n ≤ length o
         by-case a q (refuses x) h = absurd (let z : _≡_ {A = ℕ} 0 1 = cc in omega arith)
         by-case a q (reads R k w c i g) h = let z : w ≡ n = cc in omega arith
 
     pub sheet-is : IsSheet t (take (n - 0) o)
-    sheet-is = by-case (parse t) p refl s e
+    sheet-is = by-case (parseAnswer t) p refl s e
       where
-        by-case : (a : Answer Reading) (q : Parsed) → parse t ≡ a → SheetRead a o q → q ≡ Read m n b → IsSheet t (take (n - 0) o)
+        by-case : (a : Answer Reading) (q : Parsed) → parseAnswer t ≡ a → SheetRead a o q → q ≡ Read m n b → IsSheet t (take (n - 0) o)
         by-case a q f (refuses x) h = absurd (let z : _≡_ {A = ℕ} 0 1 = cc in omega arith)
         by-case a q f (reads R k w c i g) h =
             let z : w ≡ n - 0 = let y : w ≡ n = cc in omega arith in

@@ -12,45 +12,45 @@ use Rattle.automata.specs.WellFormed.{WellFormed}
 use Rattle.grammar.specs.Grammar.{found, mark}
 use Rattle.refusal.specs.Answer.{Answer, given}
 use Rattle.determinize.specs.Determinize.{determinize}
-use Rattle.parser.specs.Pattern.{Reading, parse}
+use Rattle.parser.specs.Pattern.{Reading, parseAnswer}
 use Rattle.parser.proofs.Outcomes.{answers-given}
-use Rattle.equality.specs.Forced.{Two, states}
+use Rattle.equality.specs.Forced.{Two, totalSize}
 use Rattle.equality.specs.Verdict.{Equal, Apart}
 use Rattle.equality.specs.Equality.{withFirst, withSecond, determinized}
 use Rattle.equality.proofs.Exact.{same-words, one-word, not-same}
-use Rattle.verdict_line.specs.Texts.{twoTexts, withFirstText, withSecondText, onTexts, comparedTexts}
-use Rattle.verdict_line.specs.Line.{Line, refuses, same, differs, sameLine, differLine}
+use Rattle.verdict_line.specs.Texts.{twoTexts, withFirstText, withSecondText, onTexts, verdictAnswer}
+use Rattle.verdict_line.specs.Line.{VerdictLine, refuses, same, differs, sameLine, differLine}
 use Rattle.verdict_line.specs.Says.{Says}
 
-module _ (low high : ℕ) (A B : Automaton) (well-a : WellFormed A) (well-b : WellFormed B) (D E : Automaton) (is-d : determinize low high A ≡ given D) (is-e : determinize low high B ≡ given E) where
+module _ (lower upper : ℕ) (A B : Automaton) (well-a : WellFormed A) (well-b : WellFormed B) (D E : Automaton) (is-d : determinize lower upper A ≡ given D) (is-e : determinize lower upper B ≡ given E) where
   abbrev two : Two
-  two = record { one = D; two = E; low = low; high = high }
+  two = record { one = D; two = E; lower = lower; upper = upper }
 
-  says-same : (joins : ℕ) → Equal two joins → Says low high A B (states two) (sameLine joins)
+  says-same : (joins : ℕ) → Equal two joins → Says lower upper A B (totalSize two) (sameLine joins)
   says-same joins e =
-      let s = same-words low high A B well-a well-b D E is-d is-e (e .words) in
+      let s = same-words lower upper A B well-a well-b D E is-d is-e (e .words) in
       record { alike = (λ _. s, λ _. (joins, refl)); different = λ n. absurd (n s) }
 
-  says-differ : (w : List ℕ) → Apart two w → Says low high A B (states two) (differLine w)
+  says-differ : (w : List ℕ) → Apart two w → Says lower upper A B (totalSize two) (differLine w)
   says-differ w a =
-      let one = one-word low high A B well-a well-b D E is-d is-e w (a .word) (a .differ) in
+      let one = one-word lower upper A B well-a well-b D E is-d is-e w (a .word) (a .differ) in
       record {
-        alike = (λ e. absurd (let q = e .1 in let z : _≡_ {A = ℕ} 100 115 = cc in omega arith), λ s. absurd (not-same low high A B well-a well-b D E is-d is-e w one (a .word) s));
+        alike = (λ e. absurd (let q = e .1 in let z : _≡_ {A = ℕ} 100 115 = cc in omega arith), λ s. absurd (not-same lower upper A B well-a well-b D E is-d is-e w one (a .word) s));
         different = λ n. (w, refl, a .word, one, a .short);
       }
 
-  line-says : (x : Answer Two) (bytes : List ℕ) → x ≡ given two → Line x bytes → Says low high A B (states two) bytes
+  line-says : (x : Answer Two) (bytes : List ℕ) → x ≡ given two → VerdictLine x bytes → Says lower upper A B (totalSize two) bytes
   line-says x bytes e (refuses n) = absurd (let z : _≡_ {A = ℕ} 0 1 = cc in omega arith)
   line-says x bytes e (same t joins h) = let z : t ≡ two = cc in says-same joins (subst (λ (u : Two). Equal u joins) z h)
   line-says x bytes e (differs t w h) = let z : t ≡ two = cc in says-differ w (subst (λ (u : Two). Apart u w) z h)
 
 -- an input of two texts that are read as the automata A and B, both within the limits of determinizing
-module _ (low high : ℕ) (t : List ℕ) (at : ℕ) (few : length t ≤ 65536) (texts : twoTexts t ≡ found mark at) (R S : Reading) (first : parse t ≡ given R) (second : parse (drop at t) ≡ given S)
-    (D E : Automaton) (is-d : determinize low high (R .pattern .automaton) ≡ given D) (is-e : determinize low high (S .pattern .automaton) ≡ given E) where
-  is-two : comparedTexts low high t ≡ given (record { one = D; two = E; low = low; high = high })
-  unfolding comparedTexts withFirstText withSecondText determinized withFirst withSecond
-  is-two = rw (le-ltb 65536 (length t) few) (ap (onTexts low high t) texts ∙ rw (first, second, is-d, is-e))
+module _ (lower upper : ℕ) (t : List ℕ) (at : ℕ) (few : length t ≤ 65536) (texts : twoTexts t ≡ found mark at) (R S : Reading) (first : parseAnswer t ≡ given R) (second : parseAnswer (drop at t) ≡ given S)
+    (D E : Automaton) (is-d : determinize lower upper (R .pattern .automaton) ≡ given D) (is-e : determinize lower upper (S .pattern .automaton) ≡ given E) where
+  is-two : verdictAnswer lower upper t ≡ given (record { one = D; two = E; lower = lower; upper = upper })
+  unfolding verdictAnswer withFirstText withSecondText determinized withFirst withSecond
+  is-two = rw (le-ltb 65536 (length t) few) (ap (onTexts lower upper t) texts ∙ rw (first, second, is-d, is-e))
 
-  pub verdict-says : (bytes : List ℕ) → Line (comparedTexts low high t) bytes → Says low high (R .pattern .automaton) (S .pattern .automaton) (D .size + E .size) bytes
+  pub verdict-says : (bytes : List ℕ) → VerdictLine (verdictAnswer lower upper t) bytes → Says lower upper (R .pattern .automaton) (S .pattern .automaton) (D .size + E .size) bytes
   verdict-says bytes l =
-      line-says low high (R .pattern .automaton) (S .pattern .automaton) (answers-given t R first .writable .well) (answers-given (drop at t) S second .writable .well) D E is-d is-e _ bytes is-two l
+      line-says lower upper (R .pattern .automaton) (S .pattern .automaton) (answers-given t R first .writable .well) (answers-given (drop at t) S second .writable .well) D E is-d is-e _ bytes is-two l

@@ -27,10 +27,10 @@ abbrev pub refusedLine : ℕ → List ℕ
 refusedLine n = 114 ∷ 101 ∷ 102 ∷ 117 ∷ 115 ∷ 101 ∷ 100 ∷ 32 ∷ (digits n ++ 10 ∷ [])
 
 -- the line of an answer; the word of `differ` is free within the rule of `Apart`
-pub data Line : Answer Two → List ℕ → Type 0 where
-  refuses : (n : ℕ) → Line (refused n) (refusedLine n)
-  same : (t : Two) (joins : ℕ) → Equal t joins → Line (given t) (sameLine joins)
-  differs : (t : Two) (w : List ℕ) → Apart t w → Line (given t) (differLine w)
+pub data VerdictLine : Answer Two → List ℕ → Type 0 where
+  refuses : (n : ℕ) → VerdictLine (refused n) (refusedLine n)
+  same : (t : Two) (joins : ℕ) → Equal t joins → VerdictLine (given t) (sameLine joins)
+  differs : (t : Two) (w : List ℕ) → Apart t w → VerdictLine (given t) (differLine w)
 
 -- the size of the longest line: `differ`, 510 symbols of ten digits, each behind a blank, and the line feed
 abbrev pub lineSize : ℕ
@@ -39,4 +39,4 @@ lineSize = 5617
 -- a buffer o that has room becomes o′, with a line of the answer a at its front, and n is the line's length; else nothing is written and n is 0
 pub data Printed (a : Answer Two) (o o′ : List ℕ) (n : ℕ) : Type 0 where
   short : length o < lineSize → o′ ≡ o → n ≡ 0 → Printed a o o′ n
-  printed : lineSize ≤ length o → (bytes : List ℕ) → Line a bytes → Written o 0 bytes o′ n → n ≤ lineSize → Printed a o o′ n
+  printed : lineSize ≤ length o → (bytes : List ℕ) → VerdictLine a bytes → Written o 0 bytes o′ n → n ≤ lineSize → Printed a o o′ n

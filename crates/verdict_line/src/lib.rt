@@ -5,9 +5,9 @@ ghost use lib.ListN.{length};
 ghost use Rattle.automata.specs.WellFormed.{lastSymbol};
 ghost use Rattle.sheets.specs.Fault.{fault};
 ghost use Rattle.sheets.specs.Sheet.{read};
-ghost use Rattle.parser.specs.Pattern.{parse};
+ghost use Rattle.parser.specs.Pattern.{parseAnswer};
 ghost use Rattle.equality.specs.Equality.{Judged};
-ghost use Rattle.verdict_line.specs.Texts.{twoTexts, withSecondText, withFirstText, comparedTexts};
+ghost use Rattle.verdict_line.specs.Texts.{twoTexts, withSecondText, withFirstText, verdictAnswer};
 ghost use Rattle.verdict_line.specs.Line.{Printed};
 ghost use Rattle.verdict_line.specs.inner.Code.{secondOf, SheetRead};
 use equality::Verdict;
@@ -47,7 +47,7 @@ fn second_text(input: &[u8]) -> Second
 // The sheet of a text at the front of out.
 fn read_sheet(text: &[u8], out: &mut [u32]) -> Parsed
     requires { ⌜ length (now out) ≡ 10500 ⌝ }
-    ensures { λ r. ⌜ SheetRead (parse (now (text .entry))) (now (out .exit)) r ⌝ }
+    ensures { λ r. ⌜ SheetRead (parseAnswer (now (text .entry))) (now (out .exit)) r ⌝ }
 {
     let mut names = [0u8; 16642];
     parser::parse_automaton(text, out, &mut names)
@@ -56,7 +56,7 @@ fn read_sheet(text: &[u8], out: &mut [u32]) -> Parsed
 // The sheet a against the second text.
 fn compare_second(a: &[u32], second: &[u8], word: &mut [u32]) -> Verdict
     requires { ⌜ (fault (now a) ≡ 0) × (510 ≤ length (now word)) ⌝ }
-    ensures { λ r. ⌜ Judged (withSecondText 0 lastSymbol (read (now (a .entry))) (parse (now (second .entry)))) (now (word .entry)) (now (word .exit)) r ⌝ }
+    ensures { λ r. ⌜ Judged (withSecondText 0 lastSymbol (read (now (a .entry))) (parseAnswer (now (second .entry)))) (now (word .entry)) (now (word .exit)) r ⌝ }
 {
     let mut b = [0u32; 10500];
     match read_sheet(second, &mut b) {
@@ -68,7 +68,7 @@ fn compare_second(a: &[u32], second: &[u8], word: &mut [u32]) -> Verdict
 // The first text against the second.
 fn compare_texts(first: &[u8], second: &[u8], word: &mut [u32]) -> Verdict
     requires { ⌜ 510 ≤ length (now word) ⌝ }
-    ensures { λ r. ⌜ Judged (withFirstText 0 lastSymbol (parse (now (first .entry))) (parse (now (second .entry)))) (now (word .entry)) (now (word .exit)) r ⌝ }
+    ensures { λ r. ⌜ Judged (withFirstText 0 lastSymbol (parseAnswer (now (first .entry))) (parseAnswer (now (second .entry)))) (now (word .entry)) (now (word .exit)) r ⌝ }
 {
     let mut a = [0u32; 10500];
     match read_sheet(first, &mut a) {
@@ -80,7 +80,7 @@ fn compare_texts(first: &[u8], second: &[u8], word: &mut [u32]) -> Verdict
 // The verdict on the two texts of an input.
 fn compare(input: &[u8], word: &mut [u32]) -> Verdict
     requires { ⌜ 510 ≤ length (now word) ⌝ }
-    ensures { λ r. ⌜ Judged (comparedTexts 0 lastSymbol (now (input .entry))) (now (word .entry)) (now (word .exit)) r ⌝ }
+    ensures { λ r. ⌜ Judged (verdictAnswer 0 lastSymbol (now (input .entry))) (now (word .entry)) (now (word .exit)) r ⌝ }
 {
     if 65536 < input.len() {
         return Verdict::Refused(Refusal::Input(InputRefusal::Grammar));
@@ -93,7 +93,7 @@ fn compare(input: &[u8], word: &mut [u32]) -> Verdict
 
 // The line for an input at the front of out, and its length; 0 where out has under 5,617 bytes.
 pub fn line(input: &[u8], out: &mut [u8]) -> usize
-    ensures { λ n. ⌜ Printed (comparedTexts 0 lastSymbol (now (input .entry))) (now (out .entry)) (now (out .exit)) n ⌝ }
+    ensures { λ n. ⌜ Printed (verdictAnswer 0 lastSymbol (now (input .entry))) (now (out .entry)) (now (out .exit)) n ⌝ }
 {
     if out.len() < 5617 {
         return 0;

@@ -29,7 +29,7 @@ use Rattle.utf8.proofs.Decode.{decode-end, end-decode, malformed-decode, point-
 use Rattle.utf8.proofs.Wellformed.{wellformed-points, point-wellformed}
 use Rattle.words.specs.Simulation.{step, simulate, startSet, kindOf, kind}
 use Rattle.words.specs.inner.Gather.{Tables}
-use Rattle.words.specs.Acceptance.{acceptsWords, textAnswer, acceptsText}
+use Rattle.words.specs.Acceptance.{acceptsWordsAnswer, textAnswer, acceptsTextAnswer}
 use Rattle.words.specs.inner.Acceptance.{pointsOf}
 use Rattle.words.proofs.Closures.{closure-canon}
 use Rattle.words.proofs.Epsilons.{fresh}
@@ -101,30 +101,30 @@ tables-accepted s starts c t = t .accepted
 pub ruleset wordLaws = (fresh, word-done, start-canon, end-canon, tables-accepted, needs)
 
 module _ (s w : List ℕ) (r : Checked) (e : checkedNumber r ≡ fault s) where
-  pub words-given : r ≡ Accepted → (k : ℕ) → k ≡ kind (read s) w → given k ≡ acceptsWords s w
-  unfolding acceptsWords
+  pub words-given : r ≡ Accepted → (k : ℕ) → k ≡ kind (read s) w → given k ≡ acceptsWordsAnswer s w
+  unfolding acceptsWordsAnswer
   words-given h k q = ap given q ∙ sym (sheet-passed s _ r e h)
 
-  pub words-refused : (i : InputRefusal) → r ≡ Refused i → refused (inputNumber i) ≡ acceptsWords s w
-  unfolding acceptsWords
+  pub words-refused : (i : InputRefusal) → r ≡ Refused i → refused (inputNumber i) ≡ acceptsWordsAnswer s w
+  unfolding acceptsWordsAnswer
   words-refused i h = sym (sheet-refused s _ r e i h)
 
-  pub text-given : r ≡ Accepted → (b : Bool) → b ≡ wellformed w → b ≡ true → (k : ℕ) → k ≡ kind (read s) (pointsOf (decode w)) → given k ≡ acceptsText s w
-  unfolding acceptsText textAnswer pointsOf
+  pub text-given : r ≡ Accepted → (b : Bool) → b ≡ wellformed w → b ≡ true → (k : ℕ) → k ≡ kind (read s) (pointsOf (decode w)) → given k ≡ acceptsTextAnswer s w
+  unfolding acceptsTextAnswer textAnswer pointsOf
   text-given h b f g k q =
       let p = wellformed-points w .0 (sym f ∙ g) in
       ap given (q ∙ ap (λ d. kind (read s) (pointsOf d)) (p .1)) ∙ ap (textAnswer (read s)) (sym (p .1)) ∙ sym (sheet-passed s _ r e h)
 
-  pub text-bad : r ≡ Accepted → (b : Bool) → b ≡ wellformed w → b ≡ false → refused 9 ≡ acceptsText s w
-  unfolding acceptsText textAnswer
+  pub text-bad : r ≡ Accepted → (b : Bool) → b ≡ wellformed w → b ≡ false → refused 9 ≡ acceptsTextAnswer s w
+  unfolding acceptsTextAnswer textAnswer
   text-bad h b f g = go (decode w) refl ∙ sym (sheet-passed s _ r e h)
     where
       go : (d : Decoded) → decode w ≡ d → refused 9 ≡ textAnswer (read s) (decode w)
       go malformed p = ap (textAnswer (read s)) (sym p)
       go (points ps) p = absurd (false≢true (sym g ∙ f ∙ wellformed-points w .1 (ps, p)))
 
-  pub text-refused : (i : InputRefusal) → r ≡ Refused i → refused (inputNumber i) ≡ acceptsText s w
-  unfolding acceptsText
+  pub text-refused : (i : InputRefusal) → r ≡ Refused i → refused (inputNumber i) ≡ acceptsTextAnswer s w
+  unfolding acceptsTextAnswer
   text-refused i h = sym (sheet-refused s _ r e i h)
 
 pub is-well : (t : List ℕ) (b : Bool) → b ≡ wellformed t → b ≡ true → wellformed t ≡ true

@@ -10,13 +10,13 @@ use borrow.Author.Tests.{eq-eqb, lt-leb, le-leb, ne-eqb}
 use lib.Dec.{eqb}
 use lib.ListN.{length, getD, drop}
 use Rattle.lists.specs.Lists.{_∈_, any}
-use Rattle.lists.proofs.Lists.{any-ext, keep-in}
+use Rattle.lists.proofs.Lists.{any-ext, filter-in}
 use Rattle.lists.proofs.Tests.{test}
 use Rattle.automata.specs.Automaton.{Transition, holds, rangesOf}
 use Rattle.automata.specs.Records.{readRecords}
 use Rattle.automata.specs.inner.Records.{recordAt}
 use Rattle.automata.proofs.Records.{records-at, records-end}
-use Rattle.ranges.specs.Missing.{Sorted}
+use Rattle.ranges.specs.Missing.{SortedRanges}
 use Rattle.ranges.proofs.Runs.{rangesIn, ranges-at}
 use Rattle.ranges.proofs.SortedCuts.{sorted-above}
 use Rattle.sets.specs.Sets.{Set, has, pick}
@@ -96,7 +96,7 @@ module _ (c : List ℕ) (a : ℕ) where
 takes-none : (a : ℕ) (es : List Transition) → ((d : Transition) → d ∈ rangesOf es → a < d .first) → (e : Transition) → e ∈ es → takes a e ≡ false
 unfolding takes rangesOf holds
 takes-none a es h e m =
-    ⊎-elim (λ (t : eqb (e .kind) 1 ≡ true). rw (t, lt-leb (e .first) a (h e (keep-in (λ e. eqb (e .kind) 1) m t)))) (λ (t : eqb (e .kind) 1 ≡ false). rw t)
+    ⊎-elim (λ (t : eqb (e .kind) 1 ≡ true). rw (t, lt-leb (e .first) a (h e (filter-in (λ e. eqb (e .kind) 1) m t)))) (λ (t : eqb (e .kind) 1 ≡ false). rw t)
     (test (eqb (e .kind) 1))
 
 -- the run of a state, from the record at a place on
@@ -125,11 +125,11 @@ module _ (old c : List ℕ) (a : ℕ) (run : List ℕ) (t : List ℕ) (at : ℕ)
           (ap (λ x. setAt x 0) q
           ∙ gather-take c a t (recordAt run at) (rw (eq-eqb (getD run (at + 1) 0) 1 k, le-leb (getD run (at + 2) 0) a l, le-leb a (getD run (at + 3) 0) g)) (omega arith))
 
-      pub run-above : Sorted (rangesIn (drop at run)) → a < getD run (at + 2) 0 → setAt t 0 ≡ gathered old c a (readRecords run)
+      pub run-above : SortedRanges (rangesIn (drop at run)) → a < getD run (at + 2) 0 → setAt t 0 ≡ gathered old c a (readRecords run)
       run-above s g =
           let r = ranges-at run at h k in
           let f : (d : Transition) → d ∈ rangesIn (drop at run) → a < d .first =
-          λ d m. sorted-above a (recordAt run at) (rangesIn (drop (at + 5) run)) (subst Sorted r s) g d (rw r at m) in
+          λ d m. sorted-above a (recordAt run at) (rangesIn (drop (at + 5) run)) (subst SortedRanges r s) g d (rw r at m) in
           gather-nothing c a t (readRecords (drop at run)) (takes-none a (readRecords (drop at run)) f) ∙ e
 
 -- the table of closures has a row for the target of the record at a place

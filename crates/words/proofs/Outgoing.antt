@@ -7,9 +7,9 @@ use mathlib.Core.Path.{_≡_, refl, sym, _∙_, ap}
 use native.Mathlib.Omega.{arith}
 use borrow.Author.Tests.{eqb-true, ne-eqb, leb-true}
 use lib.Dec.{eqb, leb}
-use Rattle.lists.specs.Lists.{any, keep}
-use Rattle.lists.proofs.Lists.{keep-ext, keep-and, keep-none, keep-out}
-use Rattle.lists.proofs.Members.{keep-either}
+use Rattle.lists.specs.Lists.{any, filter}
+use Rattle.lists.proofs.Lists.{filter-ext, filter-and, filter-none, filter-out}
+use Rattle.lists.proofs.Members.{filter-either}
 use Rattle.lists.proofs.Tests.{test, and-parts}
 use Rattle.automata.specs.Automaton.{Transition, Automaton, holds, leaving, rangesOf}
 use Rattle.automata.specs.Records.{readRecords, writeRecords}
@@ -31,7 +31,7 @@ module _ (A : Automaton) where
   -- no range leaves the empty set, and no symbol leads anywhere from it
   pub outgoing-nil : outgoing A [] ≡ []
   unfolding outgoing has
-  outgoing-nil = keep-none _ (A .transitions) (λ e m. and-false (eqb (e .kind) 1))
+  outgoing-nil = filter-none _ (A .transitions) (λ e m. and-false (eqb (e .kind) 1))
 
   pub step-nil : (a : ℕ) → step A [] a ≡ []
   unfolding step any
@@ -52,16 +52,16 @@ module _ (A : Automaton) (w : WellFormed A) where
   outgoing-cons q R h =
       let f : Transition → Bool = λ e. eqb (e .from) q && eqb (e .kind) 1 in
       let g : Transition → Bool = λ e. eqb (e .kind) 1 && has (e .from) R in
-      keep-ext (λ e. eqb (e .kind) 1 && (eqb (e .from) q || has (e .from) R)) (λ e. f e || g e) (A .transitions)
+      filter-ext (λ e. eqb (e .kind) 1 && (eqb (e .from) q || has (e .from) R)) (λ e. f e || g e) (A .transitions)
       (λ e m. split (eqb (e .kind) 1) (eqb (e .from) q) (has (e .from) R))
-      ∙ keep-either {R = Before} f g
+      ∙ filter-either {R = Before} f g
       (λ e p. apart e (eqb-true _ _ (and-parts (eqb (e .from) q) _ p .0)))
       (λ d e b p.
       let k = h (d .from) (and-parts (eqb (d .kind) 1) _ p .1) in
       let r = from-rises d e b in
       rw (ne-eqb (e .from) q (λ c. omega arith)))
       (w .ascends)
-      ∙ ap (λ l. l ++ keep g (A .transitions)) (keep-and (λ e. eqb (e .from) q) (λ e. eqb (e .kind) 1) (A .transitions))
+      ∙ ap (λ l. l ++ filter g (A .transitions)) (filter-and (λ e. eqb (e .from) q) (λ e. eqb (e .kind) 1) (A .transitions))
     where
       split : (k f r : Bool) → (k && (f || r)) ≡ ((f && k) || (k && r))
       split true true r = refl
@@ -86,7 +86,7 @@ module _ (A : Automaton) (w : WellFormed A) where
     member-cut-next q x found next run i h l k r e =
         let R = membersFrom x S in
         let u : q < x = omega (arith, k, next-above S c (q + 1) (omega arith)) in
-        let above : (y : ℕ) → has y R ≡ true → q < y = λ y m. let z = leb-true x y (keep-out (leb x) y S (has-mem y R m) .1) in omega arith in
+        let above : (y : ℕ) → has y R ≡ true → q < y = λ y m. let z = leb-true x y (filter-out (leb x) y S (has-mem y R m) .1) in omega arith in
         ap (λ t. nextCut a t (outgoing A R)) (e ∙ ap (λ v. nextCut a found (rangesOf (readRecords v))) r ∙ ap (λ es. nextCut a found (rangesOf es)) (read-write (leaving A q)))
         ∙ sym (next-append a found (rangesOf (leaving A q)) (outgoing A R))
         ∙ ap (nextCut a found) (sym (outgoing-cons q R above))

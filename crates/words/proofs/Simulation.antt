@@ -7,7 +7,7 @@ use mathlib.Core.Path.{_≡_, refl}
 use borrow.Author.Tests.{eq-eqb, eqb-true, le-leb, leb-true}
 use lib.Dec.{eqb, leb}
 use Rattle.lists.specs.Lists.{_∈_}
-use Rattle.lists.proofs.Lists.{any-out, any-in, keep-in, keep-out}
+use Rattle.lists.proofs.Lists.{any-out, any-in, filter-in, filter-out}
 use Rattle.lists.proofs.Tests.{and-both, and-parts}
 use Rattle.automata.specs.Automaton.{Transition, Automaton, Run, stay, skip, read, Accepts, InBounds, holds}
 use Rattle.sets.specs.Sets.{Set, has}
@@ -32,7 +32,7 @@ module _ (A : Automaton) (ok : InBounds A) where
   step-out S a q h =
       let r = any-out _ (outgoing A S) (pick-out 0 (A .size) _ q h .2) in
       let e = r .0 in
-      let k = keep-out _ e (A .transitions) (r .1) in
+      let k = filter-out _ e (A .transitions) (r .1) in
       let c = and-parts (holds a e) _ (r .2) in
       let i = and-parts (leb (e .first) a) _ (c .0) in
       let v = and-parts (eqb (e .kind) 1) _ (k .1) in
@@ -52,7 +52,7 @@ module _ (A : Automaton) (ok : InBounds A) where
       let t = ok .tos (s .edge) (s .in) in
       picked (A .size) _ q (run-bound A ok t (s .then))
       (any-in _
-      (keep-in _ (s .in) (and-both _ _ (eq-eqb _ _ (s .is-range)) (s .from-in)))
+      (filter-in _ (s .in) (and-both _ _ (eq-eqb _ _ (s .is-range)) (s .from-in)))
       (and-both _ _ (and-both _ _ (le-leb _ _ (s .low)) (le-leb _ _ (s .high))) (closure-complete A ok t (s .then))))
 
   -- epsilons lead nowhere new

@@ -10,13 +10,13 @@ use borrow.Author.Tests.{eq-eqb, eqb-true}
 use lib.Dec.{eqb}
 use lib.ListN.{length, getD}
 use Rattle.lists.specs.Lists.{any}
-use Rattle.lists.proofs.Lists.{any-in, any-out, any-ext, keep-in, keep-out}
+use Rattle.lists.proofs.Lists.{any-in, any-out, any-ext, filter-in, filter-out}
 use Rattle.lists.proofs.Tests.{test, true-same, and-both, and-parts}
 use Rattle.automata.specs.Automaton.{Automaton, InBounds, holds, leaving, rangesOf}
 use Rattle.automata.specs.Records.{readRecords, writeRecords}
 use Rattle.automata.proofs.Records.{read-write}
 use Rattle.ranges.specs.Cuts.{nextCut}
-use Rattle.ranges.specs.Missing.{Sorted}
+use Rattle.ranges.specs.Missing.{SortedRanges}
 use Rattle.ranges.proofs.Sorting.{leaving-sorted}
 use Rattle.sets.specs.Sets.{Set, has, pick}
 use Rattle.sets.specs.inner.Members.{Canon, membersFrom, nextMember}
@@ -48,20 +48,20 @@ module _ (A : Automaton) (ok : InBounds A) (a : ℕ) where
       (λ h.
       let x = any-out _ _ h in
       let e = x .0 in
-      let k = keep-out _ e (A .transitions) (x .1) in
+      let k = filter-out _ e (A .transitions) (x .1) in
       let v = and-parts (eqb (e .kind) 1) _ (k .1) in
       let w = and-parts (holds a e) _ (x .2) in
-      any-in _ (has-mem (e .from) S (v .1)) (any-in _ (keep-in _ (k .0) (eq-eqb (e .from) (e .from) refl)) (and-both _ _ (and-both _ _ (v .0) (w .0)) (w .1))))
+      any-in _ (has-mem (e .from) S (v .1)) (any-in _ (filter-in _ (k .0) (eq-eqb (e .from) (e .from) refl)) (and-both _ _ (and-both _ _ (v .0) (w .0)) (w .1))))
       (λ h.
       let x = any-out _ S h in
       let p = x .0 in
       let y = any-out _ _ (x .2) in
       let e = y .0 in
-      let k = keep-out _ e (A .transitions) (y .1) in
+      let k = filter-out _ e (A .transitions) (y .1) in
       let f : e .from ≡ p = eqb-true _ _ (k .1) in
       let v = and-parts (eqb (e .kind) 1 && holds a e) _ (y .2) in
       let w = and-parts (eqb (e .kind) 1) _ (v .0) in
-      any-in _ (keep-in _ (k .0) (and-both _ _ (w .0) (rw f (mem-has (x .1))))) (and-both _ _ (w .1) (v .1)))
+      any-in _ (filter-in _ (k .0) (and-both _ _ (w .0) (rw f (mem-has (x .1))))) (and-both _ _ (w .1) (v .1)))
 
   pub step-canon : (S : Set) → Canon (A .size) (step A S a)
   unfolding step
@@ -73,7 +73,7 @@ module _ (A : Automaton) (ok : InBounds A) (a : ℕ) where
   reaches-in r p h =
       let x = any-out _ _ h in
       let e = x .0 in
-      let t = ok .tos e (keep-out _ e (A .transitions) (x .1) .0) in
+      let t = ok .tos e (filter-out _ e (A .transitions) (x .1) .0) in
       run-bound A ok t (closure-sound A ok (e .to) r t (and-parts (takes a e) _ (x .2) .1))
 
   step-wide : (S : Set) → A .size ≤ 256 → pick 256 (λ r. any (reaches A a r) S) ≡ step A S a
@@ -98,15 +98,15 @@ module _ (s starts c : List ℕ) (t : Tables s starts c) (a : ℕ) where
   step-named = run-named s (t .accepted)
 
   -- and its ranges are sorted
-  pub step-sorted : (q : ℕ) (run : List ℕ) → run ≡ writeRecords (leaving (read s) q) → Sorted (rangesOf (readRecords run))
-  step-sorted q run e = subst (λ es. Sorted (rangesOf es)) (sym (ap readRecords e ∙ read-write (leaving (read s) q))) (leaving-sorted (read s) q (read-well s (t .accepted)))
+  pub step-sorted : (q : ℕ) (run : List ℕ) → run ≡ writeRecords (leaving (read s) q) → SortedRanges (rangesOf (readRecords run))
+  step-sorted q run e = subst (λ es. SortedRanges (rangesOf es)) (sym (ap readRecords e ∙ read-write (leaving (read s) q))) (leaving-sorted (read s) q (read-well s (t .accepted)))
 
   -- gathering the run of q adds what q reaches
   gathered-reached : (q : ℕ) (old : List ℕ) → gathered old c a (leaving (read s) q) ≡ withAll (setAt old 0) (reaches (read s) a) (q ∷ [])
   unfolding gathered reaches withAll leaving
   gathered-reached q old =
       pick-ext 0 256 _ _
-      (λ r l. ap (λ b. has r (setAt old 0) || b) (any-ext _ _ (leaving (read s) q) (λ d i. ap (λ T. takes a d && has r T) (row (d .to) (ok .tos d (keep-out _ d (read s .transitions) i .0))))))
+      (λ r l. ap (λ b. has r (setAt old 0) || b) (any-ext _ _ (leaving (read s) q) (λ d i. ap (λ T. takes a d && has r T) (row (d .to) (ok .tos d (filter-out _ d (read s .transitions) i .0))))))
       ∙ sym (all-one (reaches (read s) a) (setAt old 0) q)
 
   step-gather : (q : ℕ) (old u run : List ℕ) (R : Set) → run ≡ writeRecords (leaving (read s) q) → setAt u 0 ≡ gathered old c a (readRecords run)

@@ -29,7 +29,7 @@ use Rattle.utf8.specs.Utf8.{Decoded, malformed, points, decode}
 use Rattle.utf8.proofs.Exact.{decode-exact}
 use Rattle.words.specs.declared.Acceptance.{Acceptance}
 use Rattle.words.specs.declared.Acceptance.the-variants.{Kind, Refused}
-use Rattle.words.specs.Acceptance.{acceptsWords, textAnswer, acceptsText, answerOf, acceptanceNumber}
+use Rattle.words.specs.Acceptance.{acceptsWordsAnswer, textAnswer, acceptsTextAnswer, acceptanceOf, acceptanceNumber}
 use Rattle.words.specs.Kinds
 use Rattle.words.specs.Simulation.{closure, simulate, startSet, kindOf, kind}
 use Rattle.words.proofs.Closures.{join, closure-sound, closure-complete, closure-canon}
@@ -82,15 +82,15 @@ kind-most A well w = go (kindOf A (simulate A (startSet A) w)) refl
     go (suc k) e = let r = kindOf-some A (simulate A (startSet A) w) (rw e (omega arith)) in let b = well .accept-words (r .0) in omega (arith, r .2, b, e)
 
 -- the number of an answer as the model's
-number-refused : (r : Acceptance) (n : ℕ) → 0 < n → (acceptanceNumber r ≡ n) ↔ (answerOf r ≡ refused n)
+number-refused : (r : Acceptance) (n : ℕ) → 0 < n → (acceptanceNumber r ≡ n) ↔ (acceptanceOf r ≡ refused n)
 number-refused (Kind k) n l = (λ e. absurd (omega arith), λ e. let z : _≡_ {A = ℕ} 0 1 = cc in absurd (omega arith))
 number-refused (Refused i) n l = (λ e. ap refused e, λ e. cc)
 
-number-given : (r : Acceptance) → acceptanceNumber r ≡ 0 → (k : ℕ) × (answerOf r ≡ given k)
+number-given : (r : Acceptance) → acceptanceNumber r ≡ 0 → (k : ℕ) × (acceptanceOf r ≡ given k)
 number-given (Kind k) e = (k, refl)
 number-given (Refused i) e = absurd (refused-some i e)
 
-given-number : (r : Acceptance) (k : ℕ) → answerOf r ≡ given k → acceptanceNumber r ≡ 0
+given-number : (r : Acceptance) (k : ℕ) → acceptanceOf r ≡ given k → acceptanceNumber r ≡ 0
 given-number (Kind j) k e = refl
 given-number (Refused i) k e = let z : _≡_ {A = ℕ} 0 1 = cc in absurd (omega arith)
 
@@ -105,10 +105,10 @@ module _ (s w : List ℕ) (f : fault s ≡ 0) (k : ℕ) (e : kind (read s) w ≡
   kind-bit = subst (λ n. n ≤ 1) e (kind-most (read s) (read-well s (accepted s f)) w)
 
 -- the contract of `accepts_words`: r is its answer
-module _ (s w : List ℕ) (r : Acceptance) (call : answerOf r ≡ acceptsWords s w) where
+module _ (s w : List ℕ) (r : Acceptance) (call : acceptanceOf r ≡ acceptsWordsAnswer s w) where
   words-kind : (k : ℕ) → r ≡ Kind k → (fault s ≡ 0) × (kind (read s) w ≡ k)
-  unfolding acceptsWords
-  words-kind k h = let p = sheet-given s (given (kind (read s) w)) k .0 (sym call ∙ ap answerOf h) in (p .0, cc (p .1))
+  unfolding acceptsWordsAnswer
+  words-kind k h = let p = sheet-given s (given (kind (read s) w)) k .0 (sym call ∙ ap acceptanceOf h) in (p .0, cc (p .1))
 
   -- the kind that is answered is not 0 exactly where a run accepts the word
   pub accepts-words : (k : ℕ) → r ≡ Kind k → (0 < k) ↔ Accepts (read s) w
@@ -120,7 +120,7 @@ module _ (s w : List ℕ) (r : Acceptance) (call : answerOf r ≡ acceptsWords s
 
   -- a refusal's number is answered exactly where the sheet has that fault
   pub accepts-words-fault : (n : ℕ) → 0 < n → (acceptanceNumber r ≡ n) ↔ (fault s ≡ n)
-  unfolding acceptsWords
+  unfolding acceptsWordsAnswer
   accepts-words-fault n l =
       let p = sheet-fault s (given (kind (read s) w)) n l (λ e. let z : _≡_ {A = ℕ} 0 1 = cc in omega arith) in
       (λ e. p .0 (sym call ∙ number-refused r n l .0 e), λ e. number-refused r n l .1 (call ∙ p .1 e))
@@ -130,7 +130,7 @@ malformed-none : (t : List ℕ) → decode t ≡ malformed → (ps : List ℕ) �
 malformed-none t e ps c = let z : malformed ≡ points ps = sym e ∙ decode-exact t ps .1 c in let y : _≡_ {A = ℕ} 0 1 = cc in omega arith
 
 -- the contract of `accepts_text`: r is its answer
-module _ (s t : List ℕ) (r : Acceptance) (call : answerOf r ≡ acceptsText s t) where
+module _ (s t : List ℕ) (r : Acceptance) (call : acceptanceOf r ≡ acceptsTextAnswer s t) where
   -- the answer behind the sheet's faults, by what the text decodes to
   data Text : Type 0 where
     bad : textAnswer (read s) (decode t) ≡ refused 9 → ((ps : List ℕ) → Encoded t ps → ⊥) → Text
@@ -145,11 +145,11 @@ module _ (s t : List ℕ) (r : Acceptance) (call : answerOf r ≡ acceptsText s 
       go (points ps) e = good ps (ap (textAnswer (read s)) e) (decode-exact t ps .0 e)
 
   text-kind : (k : ℕ) → r ≡ Kind k → (fault s ≡ 0) × ((ps : List ℕ) × Encoded t ps × (kind (read s) ps ≡ k))
-  unfolding acceptsText
+  unfolding acceptsTextAnswer
   text-kind k h = go text
     where
       p : (fault s ≡ 0) × (textAnswer (read s) (decode t) ≡ given k)
-      p = sheet-given s (textAnswer (read s) (decode t)) k .0 (sym call ∙ ap answerOf h)
+      p = sheet-given s (textAnswer (read s) (decode t)) k .0 (sym call ∙ ap acceptanceOf h)
 
       go : Text → (fault s ≡ 0) × ((ps : List ℕ) × Encoded t ps × (kind (read s) ps ≡ k))
       go (bad e n) = let q : refused 9 ≡ given k = sym e ∙ p .1 in let z : _≡_ {A = ℕ} 0 1 = cc in absurd (omega arith)
@@ -165,7 +165,7 @@ module _ (s t : List ℕ) (r : Acceptance) (call : answerOf r ≡ acceptsText s 
 
   -- a kind is answered exactly where the sheet has no fault and the text encodes code points
   pub accepts-text-0 : (acceptanceNumber r ≡ 0) ↔ ((fault s ≡ 0) × ((ps : List ℕ) × Encoded t ps))
-  unfolding acceptsText
+  unfolding acceptsTextAnswer
   accepts-text-0 = (out text, λ (f, (ps, c)). into text f ps c)
     where
       out : Text → acceptanceNumber r ≡ 0 → (fault s ≡ 0) × ((ps : List ℕ) × Encoded t ps)
@@ -182,7 +182,7 @@ module _ (s t : List ℕ) (r : Acceptance) (call : answerOf r ≡ acceptsText s 
 
   -- 1 to 6 are answered exactly where the sheet has that fault
   pub accepts-text-fault : (n : ℕ) → 0 < n → n ≤ 6 → (acceptanceNumber r ≡ n) ↔ (fault s ≡ n)
-  unfolding acceptsText
+  unfolding acceptsTextAnswer
   accepts-text-fault n l m =
       let p = sheet-fault s (textAnswer (read s) (decode t)) n l (other text) in
       (λ e. p .0 (sym call ∙ number-refused r n l .0 e), λ e. number-refused r n l .1 (call ∙ p .1 e))
@@ -193,10 +193,10 @@ module _ (s t : List ℕ) (r : Acceptance) (call : answerOf r ≡ acceptsText s 
 
   -- 9 is answered exactly where the sheet has no fault and no code points encode to the text
   pub accepts-text-9 : (acceptanceNumber r ≡ 9) ↔ ((fault s ≡ 0) × ((ps : List ℕ) → Encoded t ps → ⊥))
-  unfolding acceptsText
+  unfolding acceptsTextAnswer
   accepts-text-9 = (out text, λ (f, n). into text f n)
     where
-      p : (acceptsText s t ≡ refused 9) ↔ ((fault s ≡ 0) × (textAnswer (read s) (decode t) ≡ refused 9))
+      p : (acceptsTextAnswer s t ≡ refused 9) ↔ ((fault s ≡ 0) × (textAnswer (read s) (decode t) ≡ refused 9))
       p = sheet-number s (textAnswer (read s) (decode t)) 9 (omega arith)
 
       out : Text → acceptanceNumber r ≡ 9 → (fault s ≡ 0) × ((ps : List ℕ) → Encoded t ps → ⊥)

@@ -13,21 +13,21 @@ use Rattle.words.specs.declared.Acceptance.the-variants.{Kind, Refused}
 use Rattle.words.specs.Simulation.{kind}
 
 -- a word is answered with its accept word
-unfoldable pub acceptsWords : List ℕ → List ℕ → Answer ℕ
-acceptsWords s w = sheetFirst s (given (kind (read s) w))
+unfoldable pub acceptsWordsAnswer : List ℕ → List ℕ → Answer ℕ
+acceptsWordsAnswer s w = sheetFirst s (given (kind (read s) w))
 
 unfoldable pub textAnswer : Automaton → Decoded → Answer ℕ
 textAnswer A malformed = refused 9
 textAnswer A (points w) = given (kind A w)
 
 -- a text stands for the word of its code points
-unfoldable pub acceptsText : List ℕ → List ℕ → Answer ℕ
-acceptsText s t = sheetFirst s (textAnswer (read s) (decode t))
+unfoldable pub acceptsTextAnswer : List ℕ → List ℕ → Answer ℕ
+acceptsTextAnswer s t = sheetFirst s (textAnswer (read s) (decode t))
 
 -- the answer that a value of the code stands for
-abbrev pub answerOf : Acceptance → Answer ℕ
-answerOf (Kind k) = given k
-answerOf (Refused r) = refused (inputNumber r)
+abbrev pub acceptanceOf : Acceptance → Answer ℕ
+acceptanceOf (Kind k) = given k
+acceptanceOf (Refused r) = refused (inputNumber r)
 
 -- document 01's number of an answer: 0 where nothing is refused
 abbrev pub acceptanceNumber : Acceptance → ℕ

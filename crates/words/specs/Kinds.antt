@@ -2,9 +2,8 @@
 use Prim.Native.Nat.{ℕ, _≤_, _<_}
 use mathlib.Core.List.{List}
 use mathlib.Core.Path.{_≡_}
-use lib.ListN.{getD}
-use Rattle.automata.specs.Automaton.{Automaton, Run}
+use Rattle.automata.specs.Automaton.{Automaton, Run, acceptOf}
 
 pub record Kind (A : Automaton) (w : List ℕ) (k : ℕ) : Type 0 where
-  pub some : 0 < k → (q : ℕ) × Run A (A .start) w q × (getD (A .accept) q 0 ≡ k)
-  pub least : (q : ℕ) → Run A (A .start) w q → 0 < getD (A .accept) q 0 → (0 < k) × (k ≤ getD (A .accept) q 0)
+  pub some : 0 < k → (q : ℕ) × Run A (A .start) w q × (acceptOf A q ≡ k)
+  pub least : (q : ℕ) → Run A (A .start) w q → 0 < acceptOf A q → (0 < k) × (k ≤ acceptOf A q)

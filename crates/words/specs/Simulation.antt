@@ -4,8 +4,8 @@ use mathlib.Core.Bool.{Bool, cond, _&&_, _||_}
 use mathlib.Core.List.{List, [], _∷_}
 use lib.Dec.{eqb, leb}
 use lib.ListN.{getD}
-use Rattle.lists.specs.Lists.{any, keep, tabulate}
-use Rattle.automata.specs.Automaton.{Transition, Automaton, holds}
+use Rattle.lists.specs.Lists.{any, filter, tabulate}
+use Rattle.automata.specs.Automaton.{Transition, Automaton, holds, acceptOf}
 use Rattle.sets.specs.Sets.{Set, has, pick}
 use Rattle.sets.specs.Closure.{closed}
 
@@ -26,7 +26,7 @@ closure A p = getD (closures A) p []
 
 -- the ranges that leave a state of the set
 unfoldable pub outgoing : Automaton → Set → List Transition
-outgoing A S = keep (λ e. eqb (e .kind) 1 && has (e .from) S) (A .transitions)
+outgoing A S = filter (λ e. eqb (e .kind) 1 && has (e .from) S) (A .transitions)
 
 -- the union of the closures of all targets whose range holds the symbol
 unfoldable pub step : Automaton → Set → ℕ → Set
@@ -47,7 +47,7 @@ least a b = cond (eqb a 0) b (cond (eqb b 0) a (cond (leb a b) a b))
 -- the least nonzero accept word among the states, or 0
 unfoldable pub kindOf : Automaton → Set → ℕ
 kindOf A [] = 0
-kindOf A (q ∷ S) = least (getD (A .accept) q 0) (kindOf A S)
+kindOf A (q ∷ S) = least (acceptOf A q) (kindOf A S)
 
 -- the accept word that the states at the word's end give it: 0 where none accepts
 unfoldable pub kind : Automaton → List ℕ → ℕ

@@ -10,7 +10,7 @@ ghost use Rattle.automata.specs.Automaton.{rangesOf};
 ghost use Rattle.automata.specs.Records.{readRecords};
 ghost use Rattle.automata.specs.inner.Records.{recordAt};
 ghost use Rattle.ranges.specs.Cuts.{nextCut};
-ghost use Rattle.ranges.specs.Missing.{Sorted};
+ghost use Rattle.ranges.specs.Missing.{SortedRanges};
 ghost use Rattle.sets.specs.inner.BitSet.{setAt, entries};
 ghost use Rattle.sets.specs.inner.Members.{Canon};
 ghost use Rattle.sets.specs.inner.Words.{unionAt};
@@ -22,7 +22,7 @@ ghost use Rattle.sheets.specs.inner.Accepted.{Accepted};
 ghost use Rattle.sheets.specs.inner.Runs.{Named};
 ghost use Rattle.utf8.specs.Utf8.{decode};
 ghost use Rattle.utf8.specs.inner.Steps.{wellformed};
-ghost use Rattle.words.specs.Acceptance.{acceptsWords, acceptsText, answerOf};
+ghost use Rattle.words.specs.Acceptance.{acceptsWordsAnswer, acceptsTextAnswer, acceptanceOf};
 ghost use Rattle.words.specs.inner.Acceptance.{pointsOf};
 use refusal::InputRefusal;
 use sheets::Checked;
@@ -84,7 +84,7 @@ fn take_closure(next: &mut [u64], closures: &[u64], state: u32)
 // next takes in the closures of the targets of the run whose range holds the symbol. Answers the least of top and the cuts above the symbol, which are
 // every first and every last plus 1. Behind a range that starts above the symbol no range holds it or is cut below that start.
 fn follow(run: &[u32], symbol: u32, closures: &[u64], next: &mut [u64], top: u64) -> u64
-    requires { ⌜ Named (readRecords (now run)) × (length (now closures) ≡ 1024) × Sorted (rangesOf (readRecords (now run))) × (4 ≤ length (now next)) ⌝ }
+    requires { ⌜ Named (readRecords (now run)) × (length (now closures) ≡ 1024) × SortedRanges (rangesOf (readRecords (now run))) × (4 ≤ length (now next)) ⌝ }
     ensures cut { λ r. ⌜ r ≡ nextCut symbol top (rangesOf (readRecords (now (run .entry)))) ⌝ }
     ensures reached { λ r. ⌜ setAt (now (next .exit)) 0 ≡ gathered (now (next .entry)) (now (closures .entry)) symbol (readRecords (now (run .entry))) ⌝ }
 {
@@ -260,7 +260,7 @@ pub enum Acceptance {
 
 // Whether a sheet accepts a word of u32 symbols.
 pub fn accepts_words(s: &[u32], word: &[u32]) -> Acceptance
-    ensures { λ r. ⌜ answerOf r ≡ acceptsWords (now (s .entry)) (now (word .entry)) ⌝ }
+    ensures { λ r. ⌜ acceptanceOf r ≡ acceptsWordsAnswer (now (s .entry)) (now (word .entry)) ⌝ }
 {
     match sheets::check(s) {
         Checked::Accepted => Acceptance::Kind(word_kind(s, word)),
@@ -270,7 +270,7 @@ pub fn accepts_words(s: &[u32], word: &[u32]) -> Acceptance
 
 // Whether a sheet accepts a text in UTF-8, as the word of its code points.
 pub fn accepts_text(s: &[u32], text: &[u8]) -> Acceptance
-    ensures { λ r. ⌜ answerOf r ≡ acceptsText (now (s .entry)) (now (text .entry)) ⌝ }
+    ensures { λ r. ⌜ acceptanceOf r ≡ acceptsTextAnswer (now (s .entry)) (now (text .entry)) ⌝ }
 {
     match sheets::check(s) {
         Checked::Accepted => {

@@ -26,19 +26,19 @@ recordsOf starts (q ∷ S) = runLength starts q + recordsOf starts S
 
 -- what a try to visit the spans of a state came to, with the table t as it was: an answer, or the first row of the table is as it was
 unfoldable pub SetTried : ℕ → ℕ → Automaton → Set → List Set → ℕ → List ℕ → ℕ → List ℕ → List ℕ → List ℕ → Exploration → Type 0
-SetTried lo hi A S T j before k t u after Unfinished = setAt u 0 ≡ setAt t 0
-SetTried lo hi A S T j before k t u after (Finished x) = SetVisited lo hi A S T j before k u after x
+SetTried lower upper A S T j before k t u after Unfinished = setAt u 0 ≡ setAt t 0
+SetTried lower upper A S T j before k t u after (Finished x) = SetVisited lower upper A S T j before k u after x
 
 -- the table and the notes that the first pass came to, from some memory for notes, which has room for them unless they are too many for a result
-pub record Complete (lo hi : ℕ) (A : Automaton) (t notes : List ℕ) (x : Progress) : Type 0 where
+pub record Complete (lower upper : ℕ) (A : Automaton) (t notes : List ℕ) (x : Progress) : Type 0 where
   pub before : List ℕ
-  pub explored : Explored lo hi A before t notes x
+  pub explored : Explored lower upper A before t notes x
   pub room : (n m : ℕ) → x ≡ Sets n m → m ≤ 2048 → 5 * m ≤ length before
 
 -- what the first pass came to: an answer, or the first row of the table is as it was
 unfoldable pub Attempted : ℕ → ℕ → Automaton → List ℕ → List ℕ → Exploration → Type 0
-Attempted lo hi A t notes Unfinished = setAt t 0 ≡ startSet A
-Attempted lo hi A t notes (Finished x) = Complete lo hi A t notes x
+Attempted lower upper A t notes Unfinished = setAt t 0 ≡ startSet A
+Attempted lower upper A t notes (Finished x) = Complete lower upper A t notes x
 
 -- j is the number of the set that stands there, if it is a place of the table
 pub record Numbered (T : List Set) (j : ℕ) : Type 0 where

@@ -22,7 +22,7 @@ use Rattle.ranges.specs.Span.{Span}
 use Rattle.ranges.specs.Cuts.{cutAll}
 use Rattle.determinize.specs.declared.Progress.{Progress}
 use Rattle.determinize.specs.declared.Progress.the-variants.{Sets, Over}
-use Rattle.determinize.specs.Determinize.{targets, someOf, table, states}
+use Rattle.determinize.specs.Determinize.{targets, someOf, table, setsAndSink}
 
 -- the table after some sets are met, one after the other: a nonempty set that it lacks goes to its end
 unfoldable pub meet : List Set → List Set → List Set
@@ -41,16 +41,16 @@ unfoldable pub noteOf : Automaton → List Set → ℕ → Set → Span → Tran
 noteOf A T j S s = record { from = j; kind = 1; first = s .low; last = s .high; to = number (step A S (s .low)) T }
 
 unfoldable pub notesOf : ℕ → ℕ → Automaton → List Set → ℕ → Set → List Transition
-notesOf lo hi A T j S = map (noteOf A T j S) (cutAll lo hi (outgoing A S))
+notesOf lower upper A T j S = map (noteOf A T j S) (cutAll lower upper (outgoing A S))
 
 -- the notes of the states from j on, which are the sets Ss
 unfoldable pub notesFrom : ℕ → ℕ → Automaton → List Set → ℕ → List Set → List Transition
-notesFrom lo hi A T j [] = []
-notesFrom lo hi A T j (S ∷ Ss) = notesOf lo hi A T j S ++ notesFrom lo hi A T (suc j) Ss
+notesFrom lower upper A T j [] = []
+notesFrom lower upper A T j (S ∷ Ss) = notesOf lower upper A T j S ++ notesFrom lower upper A T (suc j) Ss
 
 -- the notes of the sink, which has the number j: a loop, if there is a symbol
 unfoldable pub sinkNotes : ℕ → ℕ → ℕ → List Transition
-sinkNotes lo hi j = cond (leb lo hi) (record { from = j; kind = 1; first = lo; last = hi; to = mostStates } ∷ []) []
+sinkNotes lower upper j = cond (leb lower upper) (record { from = j; kind = 1; first = lower; last = upper; to = mostStates } ∷ []) []
 
 -- the transition that a note stands for, where the sink has the number n
 unfoldable pub settle : ℕ → Transition → Transition
@@ -74,26 +74,26 @@ pub record Visited (R : Set) (T : List Set) (j first last : ℕ) (before : List 
 
 -- all spans of state j, which is the set S, are visited, and the table of the sets T has met what they lead to: it is t, with n sets. Whatever sets
 -- it gets later, the notes of the spans stand behind the k notes before, and there are m notes in all.
-pub record SpansVisited (lo hi : ℕ) (A : Automaton) (S : Set) (T : List Set) (j : ℕ) (before : List ℕ) (k : ℕ) (t after : List ℕ) (n m : ℕ) : Type 0 where
-  pub met : entries t n ≡ meet (targets lo hi A S) T
+pub record SpansVisited (lower upper : ℕ) (A : Automaton) (S : Set) (T : List Set) (j : ℕ) (before : List ℕ) (k : ℕ) (t after : List ℕ) (n m : ℕ) : Type 0 where
+  pub met : entries t n ≡ meet (targets lower upper A S) T
   pub few : n < mostStates
   pub canonical : Canonical (A .size) (entries t n)
-  pub noted : (more : List Set) → Written before (5 * k) (writeRecords (notesOf lo hi A (entries t n ++ more) j S)) after (5 * m)
+  pub noted : (more : List Set) → Written before (5 * k) (writeRecords (notesOf lower upper A (entries t n ++ more) j S)) after (5 * m)
   pub bounded : m ≤ k + 4294967296
 
 -- what the answer of the code says of the spans of a state: they are visited, or they lead to more sets than the table may have
 unfoldable pub SetVisited : ℕ → ℕ → Automaton → Set → List Set → ℕ → List ℕ → ℕ → List ℕ → List ℕ → Progress → Type 0
-SetVisited lo hi A S T j before k t after Over = mostStates ≤ length (meet (targets lo hi A S) T)
-SetVisited lo hi A S T j before k t after (Sets n m) = SpansVisited lo hi A S T j before k t after n m
+SetVisited lower upper A S T j before k t after Over = mostStates ≤ length (meet (targets lower upper A S) T)
+SetVisited lower upper A S T j before k t after (Sets n m) = SpansVisited lower upper A S T j before k t after n m
 
 -- the table is finished with n sets, and the notes of all states, m of them, stand at the front of `after`
-pub record TableFinished (lo hi : ℕ) (A : Automaton) (before t after : List ℕ) (n m : ℕ) : Type 0 where
-  pub whole : table lo hi A ≡ found (entries t n)
+pub record TableFinished (lower upper : ℕ) (A : Automaton) (before t after : List ℕ) (n m : ℕ) : Type 0 where
+  pub whole : table lower upper A ≡ found (entries t n)
   pub few : n < mostStates
   pub canonical : Canonical (A .size) (entries t n)
-  pub noted : Written before 0 (writeRecords (notesFrom lo hi A (entries t n) 0 (states (entries t n)))) after (5 * m)
+  pub noted : Written before 0 (writeRecords (notesFrom lower upper A (entries t n) 0 (setsAndSink (entries t n)))) after (5 * m)
 
 -- what the answer of the code says of the table: it is finished, or there is none because it has too many sets
 unfoldable pub Explored : ℕ → ℕ → Automaton → List ℕ → List ℕ → List ℕ → Progress → Type 0
-Explored lo hi A before t after Over = table lo hi A ≡ over
-Explored lo hi A before t after (Sets n m) = TableFinished lo hi A before t after n m
+Explored lower upper A before t after Over = table lower upper A ≡ over
+Explored lower upper A before t after (Sets n m) = TableFinished lower upper A before t after n m

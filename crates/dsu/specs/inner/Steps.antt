@@ -10,7 +10,7 @@ use Rattle.dsu.specs.declared.Found.the-variants.{Root, Refused}
 use Rattle.dsu.specs.Sets.{Way, broken, reached, way}
 
 -- x is an element of no more than 512, with a size as it should be
-pub record Met (size : List ℕ) (n x : ℕ) : Type 0 where
+pub record SizedElement (size : List ℕ) (n x : ℕ) : Type 0 where
   pub few : n ≤ 512
   pub inside : x < n
   pub some : 0 < getD size x 0

@@ -5,63 +5,63 @@ use mathlib.Core.Logic.{_⊎_}
 use mathlib.Core.Path.{_≡_}
 use lib.Dec.{eqb}
 use lib.ListN.{length, getD, drop}
-use Rattle.lists.specs.Lists.{_∈_, keep}
-use Rattle.automata.specs.Automaton.{Transition, Automaton}
+use Rattle.lists.specs.Lists.{_∈_, filter}
+use Rattle.automata.specs.Automaton.{Transition, Automaton, acceptOf}
 use Rattle.automata.specs.Records.{readRecords}
 use Rattle.sheets.specs.inner.Accepted.{Accepted}
 use Rattle.sheets.specs.inner.Runs.{Indexed}
 use Rattle.emptiness.specs.Reachable.{Path}
 
 -- the state q was met
-abbrev pub Met : List ℕ → ℕ → Type 0
-Met marks q = 0 < getD marks q 0
+abbrev pub Marked : List ℕ → ℕ → Type 0
+Marked marks q = 0 < getD marks q 0
 
 -- how many states were not met
 unfoldable pub unmet : List ℕ → ℕ
-unmet marks = length (keep (λ x. eqb x 0) marks)
+unmet marks = length (filter (λ x. eqb x 0) marks)
 
 -- the targets of the records before `at` were met, and that of the record there was not
 pub record Skipped (run marks : List ℕ) (at : ℕ) : Type 0 where
   pub within : at ≤ length run
   pub among : (e : Transition) → e ∈ readRecords (drop at run) → e ∈ readRecords run
-  pub before : (e : Transition) → e ∈ readRecords run → Met marks (e .to) ⊎ (e ∈ readRecords (drop at run))
+  pub before : (e : Transition) → e ∈ readRecords run → Marked marks (e .to) ⊎ (e ∈ readRecords (drop at run))
   pub here : 5 ≤ length run - at → getD marks (getD run (at + 4) 0) 0 ≡ 0
 
 -- the stack has room for each state that was not met
-pub record Room (marks stack : List ℕ) (top : ℕ) : Type 0 where
+pub record StackRoom (marks stack : List ℕ) (top : ℕ) : Type 0 where
   pub wide : length marks ≡ 256
   pub long : length stack ≡ 256
   pub enough : top + unmet marks ≤ 256
 
 -- the targets of the transitions es but those of ds were met; those that were not met before stand on the stack, behind what stood there
 pub record Pushed (marks stack : List ℕ) (top : ℕ) (es ds : List Transition) (marks′ stack′ : List ℕ) (top′ : ℕ) : Type 0 where
-  pub room : Room marks′ stack′ top′
+  pub room : StackRoom marks′ stack′ top′
   pub grows : top ≤ top′
   pub total : top′ + unmet marks′ ≡ top + unmet marks
   pub among : (e : Transition) → e ∈ ds → e ∈ es
-  pub old : (q : ℕ) → Met marks q → Met marks′ q
-  pub targets : (e : Transition) → e ∈ es → Met marks′ (e .to) ⊎ (e ∈ ds)
-  pub stacked : (q : ℕ) → Met marks′ q → Met marks q ⊎ ((j : ℕ) × (top ≤ j) × (j < top′) × (getD stack′ j 0 ≡ q))
+  pub old : (q : ℕ) → Marked marks q → Marked marks′ q
+  pub targets : (e : Transition) → e ∈ es → Marked marks′ (e .to) ⊎ (e ∈ ds)
+  pub stacked : (q : ℕ) → Marked marks′ q → Marked marks q ⊎ ((j : ℕ) × (top ≤ j) × (j < top′) × (getD stack′ j 0 ≡ q))
   pub keeps : (j : ℕ) → j < top → getD stack′ j 0 ≡ getD stack j 0
   pub sources : (j : ℕ) → top ≤ j → j < top′ → (e : Transition) × e ∈ es × (getD stack′ j 0 ≡ e .to)
-  pub entered : (j : ℕ) → top ≤ j → j < top′ → Met marks′ (getD stack′ j 0)
+  pub entered : (j : ℕ) → top ≤ j → j < top′ → Marked marks′ (getD stack′ j 0)
 
 -- the state x does not accept, and its transitions were followed
 pub record Done (A : Automaton) (marks : List ℕ) (x : ℕ) : Type 0 where
-  pub rejects : getD (A .accept) x 0 ≡ 0
-  pub followed : (e : Transition) → e ∈ A .transitions → e .from ≡ x → Met marks (e .to)
+  pub rejects : acceptOf A x ≡ 0
+  pub followed : (e : Transition) → e ∈ A .transitions → e .from ≡ x → Marked marks (e .to)
 
 -- the search of A at the state q: the states that were met and are neither q nor on the stack are done
 pub record Searched (A : Automaton) (marks stack : List ℕ) (top q : ℕ) : Type 0 where
-  pub room : Room marks stack top
-  pub started : Met marks (A .start)
-  pub here : Met marks q
-  pub entered : (j : ℕ) → j < top → Met marks (getD stack j 0)
-  pub paths : (x : ℕ) → Met marks x → Path A (A .start) x
-  pub others : (x : ℕ) → Met marks x → (x ≡ q) ⊎ (((j : ℕ) × (j < top) × (getD stack j 0 ≡ x)) ⊎ Done A marks x)
+  pub room : StackRoom marks stack top
+  pub started : Marked marks (A .start)
+  pub here : Marked marks q
+  pub entered : (j : ℕ) → j < top → Marked marks (getD stack j 0)
+  pub paths : (x : ℕ) → Marked marks x → Path A (A .start) x
+  pub others : (x : ℕ) → Marked marks x → (x ≡ q) ⊎ (((j : ℕ) × (j < top) × (getD stack j 0 ≡ x)) ⊎ Done A marks x)
 
 -- before the search: where the runs of the accepted sheet begin is known, and no state was met
-pub record Ready (s starts marks stack : List ℕ) : Type 0 where
+pub record UnmarkedSearch (s starts marks stack : List ℕ) : Type 0 where
   pub accepted : Accepted s
   pub indexed : Indexed s starts
   pub wide : length marks ≡ 256

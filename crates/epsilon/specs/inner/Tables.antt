@@ -23,7 +23,7 @@ pub record TransitionsOf (s words : List ℕ) : Type 0 where
   pub whole : words ≡ writeRecords (eliminated (read s) .transitions)
 
 -- the sheet is accepted, and the outputs have their fixed sizes
-pub record Ready (s out names : List ℕ) : Type 0 where
+pub record EliminationInputs (s out names : List ℕ) : Type 0 where
   pub accepted : Accepted s
   pub words : 10500 ≤ length out
   pub bytes : 16642 ≤ length names

@@ -4,7 +4,7 @@ use mathlib.Core.List.{List, [], _∷_}
 use mathlib.Core.Path.{_≡_}
 use lib.ListN.{length, getD}
 use lib.Seq.{sets}
-use Rattle.automata.specs.Automaton.{Transition, leaving}
+use Rattle.automata.specs.Automaton.{Transition, leaving, acceptOf}
 use Rattle.automata.specs.Records.{writeRecords}
 use Rattle.sheets.specs.inner.Accepted.{Accepted}
 use Rattle.sheets.specs.inner.Runs.{Indexed}
@@ -19,18 +19,18 @@ use Rattle.equality.specs.declared.pairs.First.{First}
 use Rattle.equality.specs.declared.pairs.First.the-variants.{Symbol, Nothing}
 use Rattle.equality.specs.declared.pairs.Seen.{Seen}
 use Rattle.equality.specs.declared.pairs.Seen.the-variants.{Alike, Differ}
-use Rattle.equality.specs.Successors.{successor, acceptOf}
-use Rattle.equality.specs.Forced.{Two, states}
+use Rattle.automata.specs.Successors.{successor}
+use Rattle.equality.specs.Forced.{Two, totalSize}
 use Rattle.equality.specs.inner.Walking.{Queue, Walking, Closed, Pushed}
 
 -- the two automata of two sheets
 abbrev pub twoOf : List ℕ → List ℕ → ℕ → ℕ → Two
-twoOf a b low high = record { one = read a; two = read b; low = low; high = high }
+twoOf a b lower upper = record { one = read a; two = read b; lower = lower; upper = upper }
 
--- x is a symbol from low to high that both transitions hold
-pub record Common (d e : Transition) (low high x : ℕ) : Type 0 where
-  pub above : low ≤ x
-  pub below : x ≤ high
+-- x is a symbol from lower to upper that both transitions hold
+pub record Common (d e : Transition) (lower upper x : ℕ) : Type 0 where
+  pub above : lower ≤ x
+  pub below : x ≤ upper
   pub first-one : d .first ≤ x
   pub last-one : x ≤ d .last
   pub first-two : e .first ≤ x
@@ -38,8 +38,8 @@ pub record Common (d e : Transition) (low high x : ℕ) : Type 0 where
 
 -- such a symbol, or there is none
 abbrev pub FirstOf : Transition → Transition → ℕ → ℕ → First → Type 0
-FirstOf d e low high (Symbol x) = Common d e low high x
-FirstOf d e low high Nothing = (x : ℕ) → Common d e low high x → ⊥
+FirstOf d e lower upper (Symbol x) = Common d e lower upper x
+FirstOf d e lower upper Nothing = (x : ℕ) → Common d e lower upper x → ⊥
 
 -- the queue that words are read as, five for each pair
 abbrev pub queueOf : List ℕ → Queue
@@ -101,42 +101,42 @@ pub data Offered (w r : Pairs) (n1 i x p q : ℕ) : Type 0 where
 
 -- the walk so far
 pub record Good (t : Two) (w : Pairs) : Type 0 where
-  pub sets : Sets w (states t)
+  pub sets : Sets w (totalSize t)
   pub walking : Walking t (classes w) (queue w) (w .made)
 
 -- two sheets in which every symbol has exactly one transition in every state
-pub record Sheets (a b : List ℕ) (low high : ℕ) : Type 0 where
+pub record Sheets (a b : List ℕ) (lower upper : ℕ) : Type 0 where
   pub first : Accepted a
   pub second : Accepted b
-  pub one : Deterministic low high (read a)
-  pub two : Deterministic low high (read b)
+  pub one : Deterministic lower upper (read a)
+  pub two : Deterministic lower upper (read b)
 
 -- the walk stands before pair i, whose records are ra and rb
-pub record Ready (a b : List ℕ) (low high : ℕ) (ra rb : List ℕ) (n1 i : ℕ) (w : Pairs) : Type 0 where
-  pub sheets : Sheets a b low high
+pub record Ready (a b : List ℕ) (lower upper : ℕ) (ra rb : List ℕ) (n1 i : ℕ) (w : Pairs) : Type 0 where
+  pub sheets : Sheets a b lower upper
   pub is-n1 : n1 ≡ stateCount a
   pub run-a : ra ≡ writeRecords (leaving (read a) (queue w .one i))
   pub run-b : rb ≡ writeRecords (leaving (read b) (queue w .two i))
-  pub good : Good (twoOf a b low high) w
+  pub good : Good (twoOf a b lower upper) w
   pub i-in : i < w .made
-  pub closed : Closed (twoOf a b low high) (classes w) (queue w) i
+  pub closed : Closed (twoOf a b lower upper) (classes w) (queue w) i
 
 -- pair i is done, or x leads to a difference
 abbrev pub Saw : Two → ℕ → Pairs → Seen → Type 0
 Saw t i w Alike = Good t w × (i < w .made) × Closed t (classes w) (queue w) (i + 1)
-Saw t i w (Differ x) = Good t w × (i < w .made) × (t .low ≤ x) × (x ≤ t .high) × (acceptOf (t .one) (successor (t .one) (queue w .one i) x) ≡ acceptOf (t .two) (successor (t .two) (queue w .two i) x) → ⊥)
+Saw t i w (Differ x) = Good t w × (i < w .made) × (t .lower ≤ x) × (x ≤ t .upper) × (acceptOf (t .one) (successor (t .one) (queue w .one i) x) ≡ acceptOf (t .two) (successor (t .two) (queue w .two i) x) → ⊥)
 
 -- two such sheets and a buffer
-pub record Given (a b : List ℕ) (low high : ℕ) (o : List ℕ) : Type 0 where
-  pub sheets : Sheets a b low high
+pub record Given (a b : List ℕ) (lower upper : ℕ) (o : List ℕ) : Type 0 where
+  pub sheets : Sheets a b lower upper
   pub room : 510 ≤ length o
 
 -- the walk with the tables of both sheets, where the first `head` pairs are done
-pub record Going (a b starts-a starts-b : List ℕ) (low high n1 head : ℕ) (w : Pairs) (o : List ℕ) : Type 0 where
-  pub given : Given a b low high o
+pub record Going (a b starts-a starts-b : List ℕ) (lower upper n1 head : ℕ) (w : Pairs) (o : List ℕ) : Type 0 where
+  pub given : Given a b lower upper o
   pub index-a : Indexed a starts-a
   pub index-b : Indexed b starts-b
   pub is-n1 : n1 ≡ stateCount a
-  pub good : Good (twoOf a b low high) w
+  pub good : Good (twoOf a b lower upper) w
   pub so-far : head ≤ w .made
-  pub closed : Closed (twoOf a b low high) (classes w) (queue w) head
+  pub closed : Closed (twoOf a b lower upper) (classes w) (queue w) head

@@ -4,8 +4,9 @@ use mathlib.Core.List.{List, [], _∷_}
 use mathlib.Core.Path.{_≡_}
 use lib.ListN.{length, take, drop}
 use Rattle.dsu.specs.inner.Generated.{Spanned}
-use Rattle.equality.specs.Successors.{successor, acceptOf}
-use Rattle.equality.specs.Forced.{Two, Symbol, states, left, right}
+use Rattle.automata.specs.Successors.{successor}
+use Rattle.automata.specs.Automaton.{acceptOf}
+use Rattle.equality.specs.Forced.{Two, Symbol, totalSize, left, right}
 
 -- pair i: its states, the pair that it was met from and the symbol, and how many symbols lead to it
 pub record Queue : Type 0 where
@@ -35,7 +36,7 @@ pub record Walking (t : Two) (f : ℕ → ℕ) (r : Queue) (made : ℕ) : Type 0
   pub shallow : (i : ℕ) → i < made → r .depth i ≤ i
   pub agree : (i : ℕ) → i < made → acceptOf (t .one) (r .one i) ≡ acceptOf (t .two) (r .two i)
   pub linked : (i : ℕ) → i < made → f (left t (r .one i)) ≡ f (right t (r .two i))
-  pub spanned : Spanned (states t) f (r .one) (λ i. right t (r .two i)) made
+  pub spanned : Spanned (totalSize t) f (r .one) (λ i. right t (r .two i)) made
 
 -- the successors of the first h pairs are joined
 abbrev pub Closed : Two → (ℕ → ℕ) → Queue → ℕ → Type 0

@@ -14,8 +14,8 @@ use Rattle.dsu.specs.declared.DSU.{DSU}
 use Rattle.dsu.specs.inner.Generated.{Spanned}
 use Rattle.dsu.specs.Laws.{Valid, classOf}
 use Rattle.dsu.specs.inner.Lent.{setsOf}
-use Rattle.equivalence.specs.Triggers.{SameTrigger, First, Within}
-use Rattle.equivalence.specs.Equivalent.{Reached, Alike}
+use Rattle.equivalence.specs.Triggers.{SameTrigger, First, TriggersWithin}
+use Rattle.equivalence.specs.Equivalent.{ReachedByTriggers, Alike}
 use Rattle.equivalence.specs.inner.Rows.{leaders, Lower}
 
 -- the pairs met so far, and the sets that they are joined in
@@ -105,8 +105,8 @@ Joined n1 w ds es = (d e : Transition) → d ∈ leaders ds → e ∈ leaders es
 
 -- what the two runs say: equal triggers, which are joined, or not
 abbrev pub Saw : ℕ → List Transition → List Transition → Pairs → Bool → Type 0
-Saw n1 ds es w true = Within ds es × Within es ds × Joined n1 w ds es
-Saw n1 ds es w false = Within ds es → Within es ds → ⊥
+Saw n1 ds es w true = TriggersWithin ds es × TriggersWithin es ds × Joined n1 w ds es
+Saw n1 ds es w false = TriggersWithin ds es → TriggersWithin es ds → ⊥
 
 pub record Turned (n1 : ℕ) (ds es : List Transition) (w r : Pairs) (alike : Bool) : Type 0 where
   pub good : Good n1 r
@@ -128,7 +128,7 @@ pub record Going (a b starts-a starts-b : List ℕ) (n1 head : ℕ) (w : Pairs) 
   pub good : Good n1 w
   pub is-n : w .sets .n ≡ stateCount a + stateCount b
   pub started : classes w (getD a 1 0) ≡ classes w (stateCount a + getD b 1 0)
-  pub reached : (i : ℕ) → i < w .made → Reached (read a) (read b) (oneAt w i) (twoAt w i)
+  pub reached : (i : ℕ) → i < w .made → ReachedByTriggers (read a) (read b) (oneAt w i) (twoAt w i)
   pub so-far : head ≤ w .made
   pub alike : (i : ℕ) → i < head → Alike (read a) (read b) (oneAt w i) (twoAt w i)
   pub follows : (i : ℕ) → i < head → Follows a b w (oneAt w i) (twoAt w i)

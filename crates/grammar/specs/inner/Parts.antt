@@ -1,22 +1,22 @@
 -- For inner contracts. A whole text in three parts: what stands before the transitions, the transitions, and what stands behind them.
 use Prim.Native.Nat.{ℕ}
 use mathlib.Core.List.{List}
-use Rattle.grammar.specs.Grammar.{Found, found, follow, space, heading, initial, transitions, accepting, ending, Told}
+use Rattle.grammar.specs.Grammar.{ReadResult, found, follow, space, heading, initial, transitions, accepting, ending, TextParts}
 use Rattle.grammar.specs.declared.tokens.Span.{Span}
 
 -- automaton A { init a;
-unfoldable pub opening : List ℕ → Found Span
+unfoldable pub opening : List ℕ → ReadResult Span
 opening t = follow (heading t 0) λ _ a. initial t (space t a)
 
 -- accepting a, b; };
-unfoldable pub closing : List ℕ → ℕ → Found (List Span)
+unfoldable pub closing : List ℕ → ℕ → ReadResult (List Span)
 closing t at =
     follow (accepting t (space t at)) λ names c.
     follow (ending t c) λ _ d.
     found names d
 
 -- a whole text whose initial state is s and whose transitions go on from b
-unfoldable pub toldFrom : List ℕ → Span → ℕ → Found Told
+unfoldable pub toldFrom : List ℕ → Span → ℕ → ReadResult TextParts
 toldFrom t s b =
     follow (closing t (transitions t b .behind)) λ names d.
     found (record { start = s; arrows = transitions t b .items; accepts = names }) d

@@ -1,5 +1,5 @@
 -- For inner contracts. What the answers of the pieces stand for.
-use Rattle.grammar.specs.Grammar.{Found, nothing, found, Mark, mark, Ends, nextNames}
+use Rattle.grammar.specs.Grammar.{ReadResult, nothing, found, Mark, mark, Ends, nextNames}
 use mathlib.Core.List.{List, _∷_}
 use Prim.Native.Nat.{ℕ}
 use Rattle.grammar.specs.declared.tokens.Span.{Span}
@@ -17,27 +17,27 @@ use Rattle.grammar.specs.declared.pieces.ArrowPiece.the-variants.{Read a
 use Rattle.grammar.specs.declared.pieces.AcceptingPiece.{AcceptingPiece}
 use Rattle.grammar.specs.declared.pieces.AcceptingPiece.the-variants.{Read as AcceptingRead, Nothing as NoAccepting}
 
-abbrev pub pieceOf : Piece → Found Mark
+abbrev pub pieceOf : Piece → ReadResult Mark
 pieceOf (PieceRead c) = found mark (c .at)
 pieceOf NoPiece = nothing
 
-abbrev pub nameOf : NamePiece → Found Span
+abbrev pub nameOf : NamePiece → ReadResult Span
 nameOf (NameRead s c) = found s (c .at)
 nameOf NoName = nothing
 
-abbrev pub numberOf : NumberPiece → Found ℕ
+abbrev pub numberOf : NumberPiece → ReadResult ℕ
 numberOf (NumberRead v c) = found v (c .at)
 numberOf NoNumber = nothing
 
-abbrev pub rangeOf : RangePiece → Found Ends
+abbrev pub rangeOf : RangePiece → ReadResult Ends
 rangeOf (RangeRead v w c) = found (record { first = v; last = w }) (c .at)
 rangeOf NoRange = nothing
 
-abbrev pub arrowOf : ArrowPiece → Found Arrow
+abbrev pub arrowOf : ArrowPiece → ReadResult Arrow
 arrowOf (ArrowRead e c) = found e (c .at)
 arrowOf NoArrow = nothing
 
 -- the text t gives the names behind the first
-abbrev pub acceptingOf : List ℕ → AcceptingPiece → Found (List Span)
+abbrev pub acceptingOf : List ℕ → AcceptingPiece → ReadResult (List Span)
 acceptingOf t (AcceptingRead s more c) = found (s ∷ nextNames t (more .at) .items) (c .at)
 acceptingOf t NoAccepting = nothing

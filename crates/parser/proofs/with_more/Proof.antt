@@ -1,6 +1,6 @@
 -- `with_more` meets its contract: the records are copied, and the reading goes on.
 use borrow.Author.Needs.{needs}
-use Rattle.parser.proofs.Going.{more-table, more-held, more-long, more-read}
+use Rattle.parser.proofs.ReadInvariant.{more-table, more-held, more-long, more-read}
 use Rattle.parser.proofs.with_more.Statement.{statement}
 use Rattle.parser.proofs.with_more.Tie as tie
 

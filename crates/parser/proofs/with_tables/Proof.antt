@@ -1,6 +1,6 @@
 -- `with_tables` meets its contract: all transitions are read, or the others follow.
 use borrow.Author.Needs.{needs}
-use Rattle.parser.proofs.Going.{begun-ended, begun-stopped}
+use Rattle.parser.proofs.ReadInvariant.{begun-ended, begun-stopped}
 use Rattle.parser.proofs.with_tables.Statement.{statement}
 use Rattle.parser.proofs.with_tables.Tie as tie
 

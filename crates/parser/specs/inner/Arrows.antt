@@ -65,7 +65,7 @@ numbered text at ls = map (transitionOf ls) (movesAt text at)
 
 -- the transitions from start on, with the names ls before theirs, are read up to the place at: what is left of them gives all names with those of the
 -- table, and all records with those in memory, unless these are too many
-pub record Going (text : List ℕ) (start : ℕ) (ls : List (List ℕ)) (t buf : List ℕ) (at n : ℕ) (f : Filled) : Type 0 where
+pub record ReadInvariant (text : List ℕ) (start : ℕ) (ls : List (List ℕ)) (t buf : List ℕ) (at n : ℕ) (f : Filled) : Type 0 where
   pub table : Table text t n
   pub place : transitions text at .behind ≡ transitions text start .behind
   pub names : allNames text at (namesIn text t n) ≡ allNames text start ls
@@ -86,7 +86,7 @@ pub record ArrowsRead (text : List ℕ) (at : ℕ) (ls : List (List ℕ)) (t buf
 
 -- so far, and the memory has room
 pub record StoppedAt (text : List ℕ) (at : ℕ) (ls : List (List ℕ)) (t buf : List ℕ) (s : Stop) : Type 0 where
-  pub going : Going text at ls t buf (s .cursor .at) (s .count) (s .filled)
+  pub going : ReadInvariant text at ls t buf (s .cursor .at) (s .count) (s .filled)
   pub room : s .filled .end < length buf
 
 -- by the answer of the small memory
@@ -96,4 +96,4 @@ Beginning text at ls t buf (Stopped s) = StoppedAt text at ls t buf s
 
 -- whatever was read up to a place with t and buf is read to its end with u and new
 pub record Continuing (text t buf : List ℕ) (at n : ℕ) (f : Filled) (u new : List ℕ) (r : Arrows) : Type 0 where
-  pub all : (start : ℕ) (ls : List (List ℕ)) → Going text start ls t buf at n f → ArrowsRead text start ls u new r
+  pub all : (start : ℕ) (ls : List (List ℕ)) → ReadInvariant text start ls t buf at n f → ArrowsRead text start ls u new r

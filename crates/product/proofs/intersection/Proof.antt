@@ -1,4 +1,4 @@
--- `intersection` meets its contract: room for the outputs, and then the first sheet.
+-- `intersectionAnswer` meets its contract: room for the outputs, and then the first sheet.
 use borrow.Author.Needs.{needs}
 use Rattle.output.proofs.Answers.{room-words, room-bytes}
 use Rattle.sheets.proofs.Accepted.{check-accepted}

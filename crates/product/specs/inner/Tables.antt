@@ -8,9 +8,9 @@ use lib.ListN.{length, getD, take}
 use Rattle.lists.specs.Lists.{_∈_, any, Ascending, Distinct}
 use Rattle.automata.specs.Automaton.{Transition, Automaton, hasEpsilon}
 use Rattle.automata.specs.WellFormed.{mostStates}
-use Rattle.search.specs.Search.{meet, Found, over, found, table}
+use Rattle.search.specs.Search.{meet, SearchResult, over, found, table}
 use Rattle.automata.specs.Pairs.{Pair, samePair}
-use Rattle.product.specs.Product.{jointsOf, pairs, transitionOf, placeIn, blockedAt}
+use Rattle.product.specs.Product.{jointsOf, meetingPairs, transitionOf, placeIn, blockedAt}
 
 -- the pair of states of a word
 abbrev pub pairOf : ℕ → Pair
@@ -33,7 +33,7 @@ pub record Queued (queue t : List ℕ) (n : ℕ) : Type 0 where
   pub numbered : n ≤ 256 → (i : ℕ) → i < n → getD t (getD queue i 0) 0 ≡ i
 
 -- the table T, and then the pairs ps were met, as far as there is room
-pub record Met (T ps : List Pair) (queue t : List ℕ) (n : ℕ) : Type 0 where
+pub record PairsMet (T ps : List Pair) (queue t : List ℕ) (n : ℕ) : Type 0 where
   pub queued : Queued queue t n
   pub table : tableOf queue n ≡ capped (meet samePair ps T)
 
@@ -56,11 +56,11 @@ unfoldable pub targets : List Transition → List Transition → List Pair
 targets ds es = map (λ j. j .to) (jointsOf ds es)
 
 -- pairs of a state below n and one below m
-pub record Within (n m : ℕ) (T : List Pair) : Type 0 where
+pub record PairsBelow (n m : ℕ) (T : List Pair) : Type 0 where
   pub states : (p : Pair) → p ∈ T → (p .left < n) × (p .right < m)
 
 -- the table of a queue of n pairs
-unfoldable pub foundIn : List ℕ → ℕ → Found Pair
+unfoldable pub foundIn : List ℕ → ℕ → SearchResult Pair
 foundIn queue n = cond (ltb 256 n) over (found (tableOf queue n))
 
 -- the transitions of pair i of the table by the ranges among ds and es that meet
@@ -77,5 +77,5 @@ sheetWords accept n records = 1 ∷ 0 ∷ n ∷ (accept ++ (length records / 5 �
 
 -- the table of all pairs that are reached, among which none is blocked
 pub record Whole (A B : Automaton) (T : List Pair) : Type 0 where
-  pub all : table (pairs A B) mostStates ≡ found T
+  pub all : table (meetingPairs A B) mostStates ≡ found T
   pub free : any (blockedAt A B) T ≡ false

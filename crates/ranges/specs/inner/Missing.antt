@@ -12,8 +12,8 @@ gap a b = cond (ltb a b) (record { low = a; high = b - 1 } ∷ []) []
 
 -- one pass over sorted ranges: c is the first symbol that is not settled
 unfoldable pub scan : ℕ → ℕ → List Transition → List Span
-scan c hi [] = gap c (suc hi)
-scan c hi (e ∷ es) = gap c (min (e .first) (suc hi)) ++ scan (max c (suc (e .last))) hi es
+scan c upper [] = gap c (suc upper)
+scan c upper (e ∷ es) = gap c (min (e .first) (suc upper)) ++ scan (max c (suc (e .last))) upper es
 
 -- low and high of each span, in order
 unfoldable pub spanWords : List Span → List ℕ

@@ -3,7 +3,7 @@ use Prim.Native.Nat.{ℕ}
 use mathlib.Core.Path.{_≡_}
 use lib.Dec.{leb}
 use lib.ListN.{getD}
-use Rattle.lists.specs.Lists.{keep}
+use Rattle.lists.specs.Lists.{filter}
 use Rattle.sets.specs.Sets.{Set, has, pick}
 
 -- a set of states below n: what its own members pick
@@ -12,7 +12,7 @@ Canon n S = pick n (λ q. has q S) ≡ S
 
 -- the members from q on
 unfoldable pub membersFrom : ℕ → Set → Set
-membersFrom q S = keep (leb q) S
+membersFrom q S = filter (leb q) S
 
 -- the least member from q on, or 256
 unfoldable pub nextMember : Set → ℕ → ℕ

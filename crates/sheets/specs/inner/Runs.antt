@@ -5,7 +5,7 @@ use mathlib.Core.Path.{_≡_}
 use lib.Dec.{ltb}
 use lib.ListN.{length, getD, take, drop}
 use lib.Seq.{sets}
-use Rattle.lists.specs.Lists.{_∈_, keep, tabulate, Ascending}
+use Rattle.lists.specs.Lists.{_∈_, filter, tabulate, Ascending}
 use Rattle.automata.specs.Automaton.{Transition, leaving}
 use Rattle.automata.specs.Records.{readRecords, writeRecords}
 use Rattle.automata.specs.WellFormed.{mostStates, mostTransitions}
@@ -14,7 +14,7 @@ use Rattle.sheets.specs.inner.Accepted.{recordCount, Accepted}
 
 -- how many of the transitions leave a state below q
 unfoldable pub below : ℕ → List Transition → ℕ
-below q es = length (keep (λ e. ltb (e .from) q) es)
+below q es = length (filter (λ e. ltb (e .from) q) es)
 
 -- for each state, and one past the last, the number of its first record
 unfoldable pub startsOf : List ℕ → List ℕ
@@ -41,7 +41,7 @@ pub record Indexed (s starts : List ℕ) : Type 0 where
   pub at : (q : ℕ) → q ≤ stateCount s → getD starts q 0 ≡ below q (read s .transitions)
 
 -- an accepted sheet and where the runs of its states begin
-pub record Ready (s starts : List ℕ) : Type 0 where
+pub record IndexedSheet (s starts : List ℕ) : Type 0 where
   pub accepted : Accepted s
   pub indexed : Indexed s starts
 

@@ -7,7 +7,7 @@ use mathlib.Core.Path.{_≡_}
 use lib.Dec.{eqb, leb, ltb}
 use lib.ListN.{length, getD}
 use Rattle.lists.specs.Lists.{any, Ascending}
-use Rattle.automata.specs.Automaton.{Transition, Automaton, states, leaving}
+use Rattle.automata.specs.Automaton.{Transition, Automaton, states, leaving, acceptOf}
 use Rattle.labels.specs.Labels.{sameLabel, labelsFault, readLabels}
 use Rattle.lists.specs.Index.{index}
 use Rattle.name_table.specs.inner.Names.{namesIn, Table}
@@ -32,11 +32,11 @@ pub record Numbered (m : ℕ) (ks ls : List (List ℕ)) (c : List ℕ) : Type 0 
 
 -- the state q of B has the number k, and accepts unless a is 0
 unfoldable pub isHeld : Automaton → List ℕ → ℕ → ℕ → ℕ → Bool
-isHeld B cb k a q = eqb (getD cb q 0) k && (eqb a 0 || ltb 0 (getD (B .accept) q 0))
+isHeld B cb k a q = eqb (getD cb q 0) k && (eqb a 0 || ltb 0 (acceptOf B q))
 
 -- a state of B is held so for the state p of A
 unfoldable pub isHeldIn : Automaton → Automaton → List ℕ → List ℕ → ℕ → Bool
-isHeldIn A B ca cb p = any (isHeld B cb (getD ca p 0) (getD (A .accept) p 0)) (states (B .size))
+isHeldIn A B ca cb p = any (isHeld B cb (getD ca p 0) (acceptOf A p)) (states (B .size))
 
 -- e leads to a state with the number to, and its kind and range cover those of d
 unfoldable pub fits : List ℕ → ℕ → Transition → Transition → Bool

@@ -16,7 +16,7 @@ use Rattle.totality.specs.Totality.{totalized, flipped}
 
 -- the same with acceptance flipped, or not
 unfoldable pub turnedPattern : Bool → ℕ → ℕ → Automaton → List (List ℕ) → Pattern
-turnedPattern flip lo hi A ls = record { automaton = turned flip (totalized lo hi A); labels = ls ++ sinkLabel ∷ [] }
+turnedPattern flip lower upper A ls = record { automaton = turned flip (totalized lower upper A); labels = ls ++ sinkLabel ∷ [] }
 
 -- the automaton itself with acceptance flipped
 unfoldable pub flippedPattern : Automaton → List (List ℕ) → Pattern

@@ -10,7 +10,7 @@ use Rattle.automata.specs.Automaton.{Transition, Automaton, rangesOf}
 use Rattle.automata.specs.Ordered.{inOrder}
 use Rattle.automata.specs.Records.{readRecords}
 use Rattle.automata.specs.WellFormed.{Before}
-use Rattle.ranges.specs.Missing.{Sorted}
+use Rattle.ranges.specs.Missing.{SortedRanges}
 use Rattle.ranges.specs.Span.{Span}
 use Rattle.sheets.specs.inner.Accepted.{Accepted}
 use Rattle.sheets.specs.inner.Runs.{Indexed}
@@ -44,9 +44,9 @@ abbrev pub Whole : List ℕ → Type 0
 Whole s = length s ≡ 5 * length (readRecords s)
 
 -- a run of the state q whose holes can be found and merged, and room for them
-pub record Fillable (lo hi sink q : ℕ) (run holes : List ℕ) : Type 0 where
-  pub sorted : Sorted (rangesOf (readRecords run))
-  pub mergeable : Mergeable sink q (readRecords run) (holesOf lo hi (readRecords run))
+pub record Fillable (lower upper sink q : ℕ) (run holes : List ℕ) : Type 0 where
+  pub sorted : SortedRanges (rangesOf (readRecords run))
+  pub mergeable : Mergeable sink q (readRecords run) (holesOf lower upper (readRecords run))
   pub whole : Whole run
   pub room : 2 * length run + 10 ≤ 5 * length holes
 
@@ -69,14 +69,14 @@ unfoldable pub frontWords : Bool → List ℕ → ℕ → List ℕ
 frontWords flip s count = headWords flip s (stateCount s + 1) ++ acceptWord flip 0 ∷ count ∷ []
 
 -- the totalized sheet has that many transitions, and there is room for it
-pub record Small (lo hi : ℕ) (s out : List ℕ) (count : ℕ) : Type 0 where
+pub record Small (lower upper : ℕ) (s out : List ℕ) (count : ℕ) : Type 0 where
   pub few-states : stateCount s < 256
   pub few-transitions : count ≤ 2048
-  pub counted : count ≡ transitionCount lo hi (read s)
+  pub counted : count ≡ transitionCount lower upper (read s)
   pub room : 10500 ≤ length out
 
 -- an accepted sheet, where its runs begin, and room for the holes of a run
-pub record Ready (s starts holes : List ℕ) : Type 0 where
+pub record HolesInputs (s starts holes : List ℕ) : Type 0 where
   pub accepted : Accepted s
   pub indexed : Indexed s starts
   pub long : length holes ≡ 4098

@@ -3,7 +3,7 @@ use Prim.Native.Nat.{ℕ, _≤_}
 use mathlib.Core.List.{List}
 use mathlib.Core.Path.{_≡_}
 use lib.ListN.{length, take}
-use Rattle.grammar.specs.Grammar.{Found, nothing, found, Mark, mark}
+use Rattle.grammar.specs.Grammar.{ReadResult, nothing, found, Mark, mark}
 use Rattle.refusal.specs.Answer.{Answer, refused, given}
 use Rattle.refusal.specs.Number.{numberOf}
 use Rattle.refusal.specs.declared.Refusal.{Refusal}
@@ -18,7 +18,7 @@ use Rattle.verdict_line.specs.declared.Second.{Second}
 use Rattle.verdict_line.specs.declared.Second.the-variants.{At, Outside}
 
 -- the place of the second text as what the grammar finds
-abbrev pub secondOf : Second → Found Mark
+abbrev pub secondOf : Second → ReadResult Mark
 secondOf (At n) = found mark n
 secondOf Outside = nothing
 

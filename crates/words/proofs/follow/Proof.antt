@@ -5,7 +5,7 @@ use borrow.Author.Needs.{needs}
 use lib.ListN.{length, drop}
 use Rattle.automata.specs.Records.{readRecords}
 use Rattle.ranges.specs.Cuts.{nextCut}
-use Rattle.ranges.specs.Missing.{Sorted}
+use Rattle.ranges.specs.Missing.{SortedRanges}
 use Rattle.ranges.proofs.Runs.{rangesIn}
 use Rattle.ranges.proofs.SortedCuts.{sorted-skip, sorted-next, cut-skip, cut-below, cut-holds, cut-above, cut-ended}
 use Rattle.sheets.specs.inner.Runs.{Named}
@@ -17,7 +17,7 @@ use Rattle.words.proofs.follow.Tie as tie
 
 abbrev Inv-loop : tie.InvT-loop
 Inv-loop run symbol closures next₀ top found₀ at₀ next found at =
-    (at ≤ length run) × (length next ≡ length next₀) × Named (readRecords (drop at run)) × Sorted (rangesIn (drop at run))
+    (at ≤ length run) × (length next ≡ length next₀) × Named (readRecords (drop at run)) × SortedRanges (rangesIn (drop at run))
     × (gathered next closures symbol (readRecords (drop at run)) ≡ gathered next₀ closures symbol (readRecords run))
     × (nextCut symbol found (rangesIn (drop at run)) ≡ nextCut symbol top (rangesIn run))
 

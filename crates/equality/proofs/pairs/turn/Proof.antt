@@ -7,16 +7,16 @@ use Rattle.equality.proofs.pairs.turn.Statement.{statement}
 use Rattle.equality.proofs.pairs.turn.Tie as tie
 
 abbrev Inv-loop : tie.InvT-loop
-Inv-loop a b ra rb low high repr₀ size₀ queue₀ n made₀ n1 i ca cb j k₀ at-a last repr size queue made k = Turning a b low high ra rb n1 i j k (pairsOf repr size queue n made)
+Inv-loop a b ra rb lower upper repr₀ size₀ queue₀ n made₀ n1 i ca cb j k₀ at-a last repr size queue made k = Turning a b lower upper ra rb n1 i j k (pairsOf repr size queue n made)
 
 abbrev μ-loop : tie.MeasureT-loop
-μ-loop a b ra rb low high repr₀ size₀ queue₀ n made₀ n1 i ca cb j k₀ at-a last repr size queue made k = cb - k
+μ-loop a b ra rb lower upper repr₀ size₀ queue₀ n made₀ n1 i ca cb j k₀ at-a last repr size queue made k = cb - k
 
 abbrev Inv-runs : tie.InvT-runs
-Inv-runs a b ra rb low high repr₀ size₀ queue₀ n made₀ n1 i ca cb j₀ k₀ repr size queue made j k = Turning a b low high ra rb n1 i j k (pairsOf repr size queue n made)
+Inv-runs a b ra rb lower upper repr₀ size₀ queue₀ n made₀ n1 i ca cb j₀ k₀ repr size queue made j k = Turning a b lower upper ra rb n1 i j k (pairsOf repr size queue n made)
 
 abbrev μ-runs : tie.MeasureT-runs
-μ-runs a b ra rb low high repr₀ size₀ queue₀ n made₀ n1 i ca cb j₀ k₀ repr size queue made j k = ca - j
+μ-runs a b ra rb lower upper repr₀ size₀ queue₀ n made₀ n1 i ca cb j₀ k₀ repr size queue made j k = ca - j
 
 accept-word-requires : tie.Need-accept-word-requires Inv-loop μ-loop Inv-runs μ-runs
 accept-word-requires c κs = let l = c .before .before .before .before .before .before .before .before .before in turn-accept-a _ _ _ _ _ _ _ _ _ _ _ (l .loop .inv) (l .before .before .if1 .left)

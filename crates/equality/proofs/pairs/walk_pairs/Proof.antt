@@ -9,10 +9,10 @@ use Rattle.equality.proofs.pairs.walk_pairs.Statement.{statement}
 use Rattle.equality.proofs.pairs.walk_pairs.Tie as tie
 
 abbrev Inv-loop : tie.InvT-loop
-Inv-loop a b starts-a starts-b low high repr₀ size₀ queue₀ n made₀ n1 word₀ head₀ repr size queue made word head = Going a b starts-a starts-b low high n1 head (pairsOf repr size queue n made) word × (word ≡ word₀)
+Inv-loop a b starts-a starts-b lower upper repr₀ size₀ queue₀ n made₀ n1 word₀ head₀ repr size queue made word head = Going a b starts-a starts-b lower upper n1 head (pairsOf repr size queue n made) word × (word ≡ word₀)
 
 abbrev μ-loop : tie.MeasureT-loop
-μ-loop a b starts-a starts-b low high repr₀ size₀ queue₀ n made₀ n1 word₀ head₀ repr size queue made word head = 512 - head
+μ-loop a b starts-a starts-b lower upper repr₀ size₀ queue₀ n made₀ n1 word₀ head₀ repr size queue made word head = 512 - head
 
 run-requires : tie.Need-run-requires Inv-loop μ-loop
 run-requires c κs = let l = c .before .before in walk-run-a _ _ _ _ _ _ _ _ _ _ (l .before .loop .inv .0) (l .loop-test .taken)

@@ -2,16 +2,16 @@
 use Prim.Native.Nat.{_-_, _<_}
 use mathlib.Core.Path.{_≡_}
 use lib.ListN.{length}
-use Rattle.parser.specs.inner.Arrows.{Going}
+use Rattle.parser.specs.inner.Arrows.{ReadInvariant}
 use Rattle.parser.specs.inner.Names.{namesIn}
 use borrow.Author.Needs.{needs}
-use Rattle.parser.proofs.Going.{goingLaws, going-room}
+use Rattle.parser.proofs.ReadInvariant.{goingLaws, going-room}
 use Rattle.parser.proofs.arrows.read_first.Statement.{statement}
 use Rattle.parser.proofs.arrows.read_first.Tie as tie
 
 abbrev Inv-loop : tie.InvT-loop
 Inv-loop text t₀ n buf₀ at₀ count₀ filled₀ t buf at count filled =
-    (length t ≡ length t₀) × (length buf ≡ length buf₀) × Going text at₀ (namesIn text t₀ n) t buf at count filled × (filled .end < length buf)
+    (length t ≡ length t₀) × (length buf ≡ length buf₀) × ReadInvariant text at₀ (namesIn text t₀ n) t buf at count filled × (filled .end < length buf)
 
 abbrev μ-loop : tie.MeasureT-loop
 μ-loop text t₀ n buf₀ at₀ count₀ filled₀ t buf at count filled = length text - at

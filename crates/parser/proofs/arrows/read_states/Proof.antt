@@ -1,5 +1,5 @@
 -- `read_states` meets its contract: the name of the initial state, then those of the transitions.
-use Rattle.parser.proofs.Going.{startLaws}
+use Rattle.parser.proofs.ReadInvariant.{startLaws}
 use Rattle.parser.proofs.arrows.read_states.Statement.{statement}
 use Rattle.parser.proofs.arrows.read_states.Tie as tie
 

@@ -6,14 +6,14 @@ use Rattle.automata.specs.WellFormed.{mostStates}
 use Rattle.search.specs.Search.{table}
 use Rattle.search.proofs.Queue as Search
 use Rattle.sheets.specs.Sheet.{stateCount, read}
-use Rattle.product.specs.Product.{pairs}
-use Rattle.product.specs.inner.Tables.{tableOf, Queued, Within}
+use Rattle.product.specs.Product.{meetingPairs}
+use Rattle.product.specs.inner.Tables.{tableOf, Queued, PairsBelow}
 use Rattle.product.proofs.Finding.{findLaws, begin-queue, begin-within, find-next, find-within}
 use Rattle.product.proofs.exploring.find_pairs.Statement.{statement}
 use Rattle.product.proofs.exploring.find_pairs.Tie as tie
 
 abbrev Inv-loop : tie.InvT-loop
-Inv-loop a aruns b bruns queue₀ t₀ n₀ i₀ queue t n i = (length t ≡ length t₀) × (i ≤ 256) × Queued queue t n × Within (stateCount a) (stateCount b) (tableOf queue n) × (Search.queue (pairs (read a) (read b)) mostStates i (tableOf queue n) ≡ table (pairs (read a) (read b)) mostStates)
+Inv-loop a aruns b bruns queue₀ t₀ n₀ i₀ queue t n i = (length t ≡ length t₀) × (i ≤ 256) × Queued queue t n × PairsBelow (stateCount a) (stateCount b) (tableOf queue n) × (Search.queue (meetingPairs (read a) (read b)) mostStates i (tableOf queue n) ≡ table (meetingPairs (read a) (read b)) mostStates)
 
 abbrev μ-loop : tie.MeasureT-loop
 μ-loop a aruns b bruns queue₀ t₀ n₀ i₀ queue t n i = 257 - i

@@ -5,14 +5,14 @@ use mathlib.Core.Path.{_≡_}
 use lib.ListN.{length}
 use Rattle.lists.specs.Written.{Written}
 use Rattle.sheets.specs.Sheet.{read}
-use Rattle.product.specs.Product.{acceptOf}
+use Rattle.product.specs.Product.{pairAccept}
 use Rattle.product.specs.inner.Tables.{tableOf}
 use Rattle.product.proofs.Sections.{wordsLaws}
 use Rattle.product.proofs.writing.put_accept_words.Statement.{statement}
 use Rattle.product.proofs.writing.put_accept_words.Tie as tie
 
 abbrev Inv-loop : tie.InvT-loop
-Inv-loop a b queue n out₀ at end₀ i₀ out end i = (i ≤ n) × (end ≡ at + i) × (length out ≡ length out₀) × Written out₀ at (map (acceptOf (read a) (read b)) (tableOf queue i)) out end
+Inv-loop a b queue n out₀ at end₀ i₀ out end i = (i ≤ n) × (end ≡ at + i) × (length out ≡ length out₀) × Written out₀ at (map (pairAccept (read a) (read b)) (tableOf queue i)) out end
 
 abbrev μ-loop : tie.MeasureT-loop
 μ-loop a b queue n out₀ at end₀ i₀ out end i = n - i

@@ -3,14 +3,14 @@ use Prim.Native.Nat.{_-_, _≤_}
 use mathlib.Core.List.{map}
 use Rattle.lists.specs.Written.{Written}
 use Rattle.labels.specs.Labels.{writeEntries}
-use Rattle.product.specs.Product.{labelOf}
+use Rattle.product.specs.Product.{pairLabelOf}
 use Rattle.product.specs.inner.Tables.{tableOf}
 use Rattle.product.proofs.Sections.{labelsLaws}
 use Rattle.product.proofs.writing.write_labels.Statement.{statement}
 use Rattle.product.proofs.writing.write_labels.Tie as tie
 
 abbrev Inv-loop : tie.InvT-loop
-Inv-loop queue n names₀ at₀ i₀ names at i = (i ≤ n) × Written names₀ at₀ (writeEntries (map labelOf (tableOf queue i))) names at
+Inv-loop queue n names₀ at₀ i₀ names at i = (i ≤ n) × Written names₀ at₀ (writeEntries (map pairLabelOf (tableOf queue i))) names at
 
 abbrev μ-loop : tie.MeasureT-loop
 μ-loop queue n names₀ at₀ i₀ names at i = n - i

@@ -37,7 +37,7 @@ use Rattle.search.proofs.Tables.{extends-length, meet-append, meet-extends, mee
 use Rattle.syntax.specs.Syntax.{Move}
 use Rattle.syntax.specs.Spelled.{spellMove}
 use Rattle.parser.specs.Pattern.{bothNames, namesOf, transitionOf}
-use Rattle.parser.specs.inner.Arrows.{Noting, ArrowNoted, ArrowNoting, allNames, numbered, Going, Fitting, ArrowsRead, StoppedAt, Beginning, Continuing}
+use Rattle.parser.specs.inner.Arrows.{Noting, ArrowNoted, ArrowNoting, allNames, numbered, ReadInvariant, Fitting, ArrowsRead, StoppedAt, Beginning, Continuing}
 use Rattle.parser.specs.inner.Names.{Table, namesIn, Addition, kept, full}
 use Rattle.parser.specs.inner.Places.{movesAt}
 use Rattle.parser.specs.declared.arrows.Arrows.{Arrows}
@@ -76,7 +76,7 @@ note-few old new f g e h l n = ⊎-elim (λ (k : g .end < length new). k) (λ (k
         let v : length new / 9 * 8 / 5 ≡ length old / 45 * 8 = omega (arith, n .long) in
         omega (arith, length-append (recordsIn old 0 (f .end)) (e ∷ []), records-count old (f .sorted) (f .end) o)
 
-pub going-begin : (text t buf : List ℕ) (at n : ℕ) → Table text t n → Memory buf → Going text at (namesIn text t n) t buf at n (record { sorted = 0; end = 0 })
+pub going-begin : (text t buf : List ℕ) (at n : ℕ) → Table text t n → Memory buf → ReadInvariant text at (namesIn text t n) t buf at n (record { sorted = 0; end = 0 })
 going-begin text t buf at n k h =
     let r = rest-none buf h (numbered text at (allNames text at (namesIn text t n))) in
     record { table = k; place = refl; names = refl; held = record { memory = h; room = λ l. r .room }; left = λ l. r; over = λ l. absurd (omega (arith, h .some)) }
@@ -89,7 +89,7 @@ module _ (text : List ℕ) (m : Move) (ls : List (List ℕ)) (t old : List ℕ) 
   noted-full : r ≡ NotNoted → 256 < length (meet sameLabel (bothNames m) ls)
   noted-full e = subst (ArrowNoting text m ls t old f new) e a
 
-module _ (text : List ℕ) (start : ℕ) (ls : List (List ℕ)) (t buf : List ℕ) (at n : ℕ) (f : Filled) (g : Going text start ls t buf at n f) where
+module _ (text : List ℕ) (start : ℕ) (ls : List (List ℕ)) (t buf : List ℕ) (at n : ℕ) (f : Filled) (g : ReadInvariant text start ls t buf at n f) where
   pub going-table : Table text t n
   going-table = g .table
 
@@ -185,7 +185,7 @@ module _ (text : List ℕ) (start : ℕ) (ls : List (List ℕ)) (t buf : List �
         low : d .end < length new → f .end < length buf
         low l = ⊎-elim (λ (o : f .end < length buf). o) (λ (o : length buf ≤ f .end). absurd (omega (arith, noted .noting .over o))) (below-or (f .end) (length buf))
 
-        pub going-next : Going text start ls m new (next .at) u d
+        pub going-next : ReadInvariant text start ls m new (next .at) u d
         going-next =
             record {
               table = noted .table;
@@ -213,16 +213,16 @@ eighths-fitting buf f l = record { short = λ k. omega arith }
 pub ruleset goingLaws = (going-begin, going-table, going-held, going-ended, going-full, going-next, going-room, going-stopped, room-begin, eighths-fitting, arrows-less, arrow-drawn, needs)
 
 -- whatever was read with t₀ and buf₀ up to the place at₀ is read up to the place at
-pub record Carrying (text t₀ buf₀ : List ℕ) (at₀ n₀ : ℕ) (f₀ : Filled) (t buf : List ℕ) (at n : ℕ) (f : Filled) : Type 0 where
+pub record ReadOnInvariant (text t₀ buf₀ : List ℕ) (at₀ n₀ : ℕ) (f₀ : Filled) (t buf : List ℕ) (at n : ℕ) (f : Filled) : Type 0 where
   pub table : Table text t n
   pub held : Held buf (f .sorted) (f .end)
   pub large : length buf ≡ 11520
-  pub all : (start : ℕ) (ls : List (List ℕ)) → Going text start ls t₀ buf₀ at₀ n₀ f₀ → Going text start ls t buf at n f
+  pub all : (start : ℕ) (ls : List (List ℕ)) → ReadInvariant text start ls t₀ buf₀ at₀ n₀ f₀ → ReadInvariant text start ls t buf at n f
 
-pub carry-begin : (text t buf : List ℕ) (at n : ℕ) (f : Filled) → Table text t n → Held buf (f .sorted) (f .end) → length buf ≡ 11520 → Carrying text t buf at n f t buf at n f
+pub carry-begin : (text t buf : List ℕ) (at n : ℕ) (f : Filled) → Table text t n → Held buf (f .sorted) (f .end) → length buf ≡ 11520 → ReadOnInvariant text t buf at n f t buf at n f
 carry-begin text t buf at n f k h l = record { table = k; held = h; large = l; all = λ start ls g. g }
 
-module _ (text t₀ buf₀ : List ℕ) (at₀ n₀ : ℕ) (f₀ : Filled) (t buf : List ℕ) (at n : ℕ) (f : Filled) (g : Carrying text t₀ buf₀ at₀ n₀ f₀ t buf at n f) where
+module _ (text t₀ buf₀ : List ℕ) (at₀ n₀ : ℕ) (f₀ : Filled) (t buf : List ℕ) (at n : ℕ) (f : Filled) (g : ReadOnInvariant text t₀ buf₀ at₀ n₀ f₀ t buf at n f) where
   pub carry-table : Table text t n
   carry-table = g .table
 
@@ -238,7 +238,7 @@ module _ (text t₀ buf₀ : List ℕ) (at₀ n₀ : ℕ) (f₀ : Filled) (t buf
       pub carry-full : r ≡ NotNoted → (c : Cursor) → c .at ≡ transitions text (next .at) .behind → Continuing text t₀ buf₀ at₀ n₀ f₀ m new (record { behind = c; added = Full; filled = f })
       carry-full q c b = record { all = λ start ls i. going-full text start ls t buf at n f (g .all start ls i) p told e next h m new r a q c b }
 
-      pub carry-next : (u : ℕ) (d : Filled) → r ≡ NotedAt u d → Carrying text t₀ buf₀ at₀ n₀ f₀ m new (next .at) u d
+      pub carry-next : (u : ℕ) (d : Filled) → r ≡ NotedAt u d → ReadOnInvariant text t₀ buf₀ at₀ n₀ f₀ m new (next .at) u d
       carry-next u d q =
           let k = noted-at _ _ _ _ _ _ _ r a u d q in
           record {
@@ -284,7 +284,7 @@ module _ (small : List ℕ) (f : Filled) (o : Open small (f .sorted) (f .end)) (
   pub moved-held : Held m 0 (f .end)
   moved-held = record { memory = copied-memory; room = λ l. copied-open }
 
-  pub moved-going : (text : List ℕ) (start : ℕ) (ls : List (List ℕ)) (t : List ℕ) (at n : ℕ) → Going text start ls t small at n f → Going text start ls t m at n (record { sorted = 0; end = f .end })
+  pub moved-going : (text : List ℕ) (start : ℕ) (ls : List (List ℕ)) (t : List ℕ) (at n : ℕ) → ReadInvariant text start ls t small at n f → ReadInvariant text start ls t m at n (record { sorted = 0; end = f .end })
   moved-going text start ls t at n g =
       record {
         table = g .table;
