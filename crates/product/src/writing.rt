@@ -135,7 +135,7 @@ fn write_large(
     write_outputs(a, b, queue, n, &buf[..behind], out, names)
 }
 
-// The same, with a memory for 128 transitions where that is enough.
+// The same, with a memory for 128 transitions where the sheets are short and that is enough.
 pub fn write_product(
     a: &[u32],
     aruns: &[u32],
@@ -150,6 +150,9 @@ pub fn write_product(
     requires { ⌜ IndexedSheet (now a) (now aruns) × IndexedSheet (now b) (now bruns) × (256 * stateCount (now a) ≤ length (now t)) × Queued (now queue) (now t) n × (n ≤ 256) × PairsBelow (stateCount (now a)) (stateCount (now b)) (tableOf (now queue) n) × Whole (read (now a)) (read (now b)) (tableOf (now queue) n) × (10500 ≤ length (now out)) × (16642 ≤ length (now names)) ⌝ }
     ensures { λ r. ⌜ outputOf r (now (out .exit)) (now (names .exit)) ≡ outputs (now (out .entry)) (now (names .entry)) (product (read (now (a .entry))) (read (now (b .entry)))) ⌝ }
 {
+    if 160 < a.len() + b.len() {
+        return write_large(a, aruns, b, bruns, queue, t, n, out, names);
+    }
     let mut buf = [0u32; 720];
     let behind = crate::collecting::collect_pairs(a, aruns, b, bruns, queue, t, n, &mut buf);
     if 640 < behind {

@@ -1,4 +1,4 @@
--- `write_product` meets its contract: what is gathered are the transitions of the product, or the large memory is taken.
+-- `write_product` meets its contract: the large memory is taken, or what is gathered are the transitions of the product.
 use native.Mathlib.Omega.{arith}
 use borrow.Author.Needs.{needs}
 use Rattle.output.proofs.Collecting.{small-memory}
@@ -11,11 +11,12 @@ pub write-product-spec : {M : Type 1} → statement M
 write-product-spec =
     tie.close
     (tie.spec
-    (λ c. search needs) (λ c κs. let s = c .before .before .before .before .before .before .before .before .before .pre in (s .0, s .1, s .2, s .3, s .4, s .5, small-memory))
+    (λ c. search needs) (λ c κs. search needs) (λ c. search needs) (λ c. search needs) (λ c. search needs)
+    (λ c. search needs) (λ c κs. let s = c .before .before .before .before .before .before .before .before .before .before .pre in (s .0, s .1, s .2, s .3, s .4, s .5, small-memory))
     (λ c κs. search needs) (λ c. search needs) (λ c. search needs) (λ c. search needs)
     (λ c. search needs)
-    (λ c. part-count _ _ _ _ _ _ (c .before .before .before .collect-pairs .ensures) (omega (arith, c .before .if1 .left)))
-    (λ c κs. let s = c .before .before .before .before .before .before .before .before .before .before .before .before .before .before .before .pre in
+    (λ c. part-count _ _ _ _ _ _ (c .before .before .before .collect-pairs .ensures) (omega (arith, c .before .if2 .left)))
+    (λ c κs. let s = c .before .before .before .before .before .before .before .before .before .before .before .before .before .before .before .before .pre in
     let p = c .before .before .before .before .before .collect-pairs .ensures in (
       s .0 .accepted,
       s .1 .accepted,
@@ -23,8 +24,8 @@ write-product-spec =
       s .4,
       s .5,
       s .6,
-      part-words _ _ _ _ _ _ p (omega (arith, c .before .before .before .if1 .left)),
-      part-few _ _ _ _ _ _ p (omega (arith, c .before .before .before .if1 .left)),
+      part-words _ _ _ _ _ _ p (omega (arith, c .before .before .before .if2 .left)),
+      part-few _ _ _ _ _ _ p (omega (arith, c .before .before .before .if2 .left)),
       s .7,
       s .8,
     ))
