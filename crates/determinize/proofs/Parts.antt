@@ -48,7 +48,7 @@ module _ (n lower upper : ℕ) (es : List Transition) where
   unfolding partition covered
   part-in s m h = map-in (partOf n es) (filter-in (covered es) m h)
 
-module _ (n lower upper : ℕ) (es : List Transition) (setsAndSink : (e : Transition) → e ∈ es → e .to < n) where
+module _ (n lower upper : ℕ) (es : List Transition) (states-in : (e : Transition) → e ∈ es → e .to < n) where
   part-targets : (s : Span) → s ∈ cutAll lower upper es → (x : ℕ) → s .low ≤ x → x ≤ s .high → (q : ℕ) → (has q (partOf n es s .targets) ≡ true) ↔ HeldTo es x q
   unfolding partOf
   part-targets s m x l u q = (
@@ -57,7 +57,7 @@ module _ (n lower upper : ℕ) (es : List Transition) (setsAndSink : (e : Transi
         let c = and-parts (holds (s .low) (r .0)) _ (r .2) in
         (r .0, r .1, cut-alike lower upper es s m x l u (r .0) (r .1) ∙ c .0, eqb-true _ _ (c .1)),
     λ (e, i, h, t).
-        picked n _ q (rw (← t) (setsAndSink e i))
+        picked n _ q (rw (← t) (states-in e i))
         (any-in (λ e. holds (s .low) e && eqb (e .to) q) i (and-both _ _ (sym (cut-alike lower upper es s m x l u e i) ∙ h) (eq-eqb _ _ t))),
   )
 

@@ -38,9 +38,9 @@ module _ (A B : Automaton) where
   -- a product that was given comes from a finished table, with few enough transitions
   pub record Built (P : Pattern) : Type 0 where
     pub pairs : List Pair
-    pub whole : table (Product.meetingPairs A B) mostStates ≡ found meetingPairs
-    pub is : P ≡ record { automaton = productAutomaton A B meetingPairs; labels = map pairLabelOf meetingPairs }
-    pub few : length (productAutomaton A B meetingPairs .transitions) ≤ mostTransitions
+    pub whole : table (Product.meetingPairs A B) mostStates ≡ found pairs
+    pub is : P ≡ record { automaton = productAutomaton A B pairs; labels = map pairLabelOf pairs }
+    pub few : length (productAutomaton A B pairs .transitions) ≤ mostTransitions
 
   pub built-by : (P : Pattern) → product A B ≡ given P → Built P
   built-by P p = go (outcome A B)

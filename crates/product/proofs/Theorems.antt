@@ -180,9 +180,9 @@ module _ (a b o l o′ l′ : List ℕ) (r : Made) (call : outputOf r o′ l′ 
         λ h.
             let (k, x) = c .0 h in
             let (f, g, e) = sheets-given a b (product A B) (x .0) .0 (x .1) in
-            let meetingPairs : ManyPairs mostStates A B → ⊥ = λ m. given-not _ _ (sym e ∙ refused-21 A B .1 m) in
-            let free : Blocked A B → ⊥ = λ m. given-not _ _ (sym e ∙ refused-7 A B .1 (meetingPairs, m)) in
-            (k, f, g, meetingPairs, free, λ m. given-not _ _ (sym e ∙ refused-22 A B .1 (meetingPairs, free, m))),
+            let few-pairs : ManyPairs mostStates A B → ⊥ = λ m. given-not _ _ (sym e ∙ refused-21 A B .1 m) in
+            let free : Blocked A B → ⊥ = λ m. given-not _ _ (sym e ∙ refused-7 A B .1 (few-pairs, m)) in
+            (k, f, g, few-pairs, free, λ m. given-not _ _ (sym e ∙ refused-22 A B .1 (few-pairs, free, m))),
         λ (k, f, g, i, j, m). let (P, e) = product-given A B i j m in c .1 (k, (P, sheets-given a b (product A B) P .1 (f, g, e))),
       )
 

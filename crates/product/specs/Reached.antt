@@ -29,9 +29,9 @@ pub data PairReached (A B : Automaton) : ℕ → ℕ → Type 0 where
 -- 21: more than k pairs
 pub record ManyPairs (k : ℕ) (A B : Automaton) : Type 0 where
   pub pairs : List Pair
-  pub distinct : Distinct meetingPairs
-  pub reached : (p : Pair) → p ∈ meetingPairs → PairReached A B (p .left) (p .right)
-  pub many : k < length meetingPairs
+  pub distinct : Distinct pairs
+  pub reached : (p : Pair) → p ∈ pairs → PairReached A B (p .left) (p .right)
+  pub many : k < length pairs
 
 -- 7: a reached pair with records on both sides, and an epsilon on at least one of them
 pub record Blocked (A B : Automaton) : Type 0 where
