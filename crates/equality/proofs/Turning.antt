@@ -64,7 +64,7 @@ module _ (a b : List ℕ) (lower upper : ℕ) (ra rb : List ℕ) (n1 i j k : ℕ
       record {
         ready = u .ready;
         done-a = below-more (Done a b lower upper w i ra) j (u .done-a)
-            (λ x lower upper p. ⊎-elim (λ f. u .done-b (f .0) (f .1) x lower upper (f .2)) (λ q. m .shared x lower upper p q) (up-to (run-b a b lower upper ra rb n1 i w (u .ready)) k x lower upper (omega (arith, p .1))));
+            (λ x above below p. ⊎-elim (λ f. u .done-b (f .0) (f .1) x above below (f .2)) (λ q. m .shared x above below p q) (up-to (run-b a b lower upper ra rb n1 i w (u .ready)) k x above below (omega (arith, p .1))));
         done-b = u .done-b;
       }
 
@@ -75,7 +75,7 @@ module _ (a b : List ℕ) (lower upper : ℕ) (ra rb : List ℕ) (n1 i j k : ℕ
         ready = u .ready;
         done-a = u .done-a;
         done-b = below-more (Done a b lower upper w i rb) k (u .done-b)
-            (λ x lower upper q. ⊎-elim (λ f. u .done-a (f .0) (f .1) x lower upper (f .2)) (λ p. m .shared x lower upper p q) (up-to (run-a a b lower upper ra rb n1 i w (u .ready)) j x lower upper (omega (arith, q .1))));
+            (λ x above below q. ⊎-elim (λ f. u .done-a (f .0) (f .1) x above below (f .2)) (λ p. m .shared x above below p q) (up-to (run-a a b lower upper ra rb n1 i w (u .ready)) j x above below (omega (arith, q .1))));
       }
 
 module _ (a b : List ℕ) (lower upper : ℕ) (ra rb : List ℕ) (n1 i j k : ℕ) (w : Pairs) (u : Turning a b lower upper ra rb n1 i j k w) where
@@ -103,10 +103,10 @@ module _ (a b : List ℕ) (lower upper : ℕ) (ra rb : List ℕ) (n1 i j k : ℕ
 
   -- one of the runs is through
   pub turn-end-a : length ra / 5 ≤ j → Saw (twoOf a b lower upper) i w Alike
-  turn-end-a h = all-done a b lower upper ra rb n1 i w ready (λ x lower upper. let f = of-a .full x lower upper in u .done-a (f .0) (omega (arith, of-a .whole, f .1)) x lower upper (f .2))
+  turn-end-a h = all-done a b lower upper ra rb n1 i w ready (λ x above below. let f = of-a .full x above below in u .done-a (f .0) (omega (arith, of-a .whole, f .1)) x above below (f .2))
 
   pub turn-end-b : length rb / 5 ≤ k → Saw (twoOf a b lower upper) i w Alike
-  turn-end-b h = all-done a b lower upper ra rb n1 i w ready (λ x lower upper. let f = of-b .full x lower upper in u .done-b (f .0) (omega (arith, of-b .whole, f .1)) x lower upper (f .2))
+  turn-end-b h = all-done a b lower upper ra rb n1 i w ready (λ x above below. let f = of-b .full x above below in u .done-b (f .0) (omega (arith, of-b .whole, f .1)) x above below (f .2))
 
   pub turn-accept-a : j < length ra / 5 → Accepted a × (getD ra (5 * j + 4) 0 < stateCount a)
   turn-accept-a h = (ready .sheets .first, to-a j (omega arith))
