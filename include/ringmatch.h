@@ -10,7 +10,7 @@
  * Every function returns 0, or the number of a refusal; after a refusal nothing was written, neither to the outputs nor to the
  * answers and lengths. A slice is a pointer and a number of elements; a slice of no elements may have any pointer that is not null. The memory of
  * the outputs, the answers and the inputs must not overlap. No function allocates memory, keeps a pointer or has state; calls from several
- * threads are independent. A thread with 320 KiB of stack is enough for every call (docs/BENCHMARKS.md).
+ * threads are independent. A thread with 256 KiB of stack is enough for every call (docs/BENCHMARKS.md).
  *
  * An output sheet or label list stands at the front of its buffer, and what is behind it is unchanged. */
 #ifndef RINGMATCH_H
