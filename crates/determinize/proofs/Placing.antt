@@ -11,8 +11,8 @@ use mir.Syntax.{w32}
 use mir.Val.{Fits}
 use lib.ListN.{length}
 use lib.Seq.{sets, set-out}
-use Rattle.lists.specs.Written.{Written}
-use Rattle.lists.proofs.Written.{written-none}
+use Rattle.stores.specs.Written.{Written}
+use Rattle.stores.proofs.Written.{written-none}
 use Rattle.automata.specs.Automaton.{Transition}
 use Rattle.automata.specs.Records.{writeRecords}
 use Rattle.automata.specs.WellFormed.{mostStates}

@@ -6,8 +6,8 @@ use native.Mathlib.Omega.{arith}
 use borrow.Author.Needs.{needs}
 use lib.ListN.{getD, length, drop, replicate, length-append, List·getD-append}
 use Rattle.lists.specs.Lists.{tabulate}
-use Rattle.lists.specs.Written.{Written}
-use Rattle.lists.proofs.Written.{written-append}
+use Rattle.stores.specs.Written.{Written}
+use Rattle.stores.proofs.Written.{written-append}
 use Rattle.automata.specs.Automaton.{Automaton}
 use Rattle.automata.specs.Records.{writeRecords}
 use Rattle.automata.proofs.Records.{write-append}
@@ -31,7 +31,7 @@ use Rattle.determinize.specs.inner.Notes.{notesOf, notesFrom, sinkNotes,
 use Rattle.determinize.proofs.Tables.{meet-extends}
 use Rattle.determinize.proofs.Visits.{first-row}
 use Rattle.determinize.proofs.Laws.{queue-begins, queue-next, queue-ended, queue-full, queue}
-use Rattle.lists.proofs.Left.{Left, left-start, left-done, left-next}
+use Rattle.stores.proofs.Left.{Left, left-start, left-done, left-next}
 use Rattle.determinize.proofs.Notes.{notes-states, notes-at, notes-past}
 
 -- a row of the table, copied into a set of zeros

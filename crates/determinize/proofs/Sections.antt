@@ -10,9 +10,9 @@ use borrow.Author.Tests.{eq-eqb, ne-eqb}
 use lib.ListN.{getD, length, take, drop, replicate, length-append, length-drop, length-map}
 use lib.Seq.{length-take-le}
 use Rattle.lists.specs.Lists.{tabulate}
-use Rattle.lists.specs.Written.{Written}
+use Rattle.stores.specs.Written.{Written}
 use Rattle.lists.proofs.Lists.{tabulate-end}
-use Rattle.lists.proofs.Written.{written-none, written-append, written-length}
+use Rattle.stores.proofs.Written.{written-none, written-append, written-length}
 use Rattle.automata.specs.Automaton.{Transition, Automaton}
 use Rattle.automata.specs.Records.{readRecords, writeRecords}
 use Rattle.automata.specs.inner.Records.{recordAt}
@@ -25,7 +25,7 @@ use Rattle.sheets.specs.Sheet.{write}
 use Rattle.words.specs.Simulation.{kindOf}
 use Rattle.determinize.specs.inner.Notes.{settle}
 use Rattle.determinize.specs.inner.Sheets.{automatonOf}
-use Rattle.lists.proofs.Left.{Left, left-start, left-done, left-next}
+use Rattle.stores.proofs.Left.{Left, left-start, left-done, left-next}
 use Rattle.determinize.proofs.Queued.{row-at, row-canon}
 
 -- the record that a note stands for

@@ -6,8 +6,8 @@ use native.Mathlib.Numerals.{add-one}
 use native.Mathlib.Omega.{arith}
 use lib.ListN.{length, take, drop, length-map}
 use lib.Seq.{sets, sets-eq, length-take-le, take-append-seam}
-use Rattle.lists.specs.Written.{Written}
-use Rattle.lists.proofs.Written.{written-length}
+use Rattle.stores.specs.Written.{Written}
+use Rattle.stores.proofs.Written.{written-length}
 use Rattle.automata.specs.Automaton.{Transition, Automaton, InBounds}
 use Rattle.automata.specs.Records.{readRecords, writeRecords}
 use Rattle.automata.proofs.Records.{read-write, length-write}

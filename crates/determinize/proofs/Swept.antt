@@ -9,7 +9,7 @@ use borrow.Author.Tests.{lt-ltb, le-ltb, ltb-true}
 use lib.Dec.{ltb}
 use lib.ListN.{getD, replicate}
 use Rattle.lists.specs.Index.{index, same}
-use Rattle.lists.specs.Written.{Written}
+use Rattle.stores.specs.Written.{Written}
 use Rattle.lists.proofs.Index.{same-decides, same-equal, index-at, index-in}
 use Rattle.lists.proofs.Tests.{and-parts}
 use Rattle.automata.specs.Automaton.{Transition}

@@ -6,7 +6,7 @@ use mathlib.Core.Path.{_≡_, refl, sym, _∙_, ap, subst}
 use native.Mathlib.Omega.{arith}
 use borrow.Author.Needs.{needs}
 use lib.ListN.{length, getD, length-append, List·getD-append}
-use Rattle.lists.specs.Written.{Written}
+use Rattle.stores.specs.Written.{Written}
 use Rattle.automata.specs.Automaton.{Automaton}
 use Rattle.automata.specs.Records.{writeRecords}
 use Rattle.sets.specs.Sets.{Set}
@@ -26,7 +26,7 @@ use Rattle.determinize.specs.inner.Notes.{number, notesOf, Canonical, Pl
 use Rattle.determinize.proofs.Tables.{add-extends, add-in, meet-out}
 use Rattle.determinize.proofs.Targets.{spanTargets}
 use Rattle.determinize.proofs.Laws.{meet-begins, meet-next, meet-ended, meet-full}
-use Rattle.lists.proofs.Left.{Left, left-start, left-done, left-next}
+use Rattle.stores.proofs.Left.{Left, left-start, left-done, left-next}
 use Rattle.determinize.proofs.Placing.{cut-some, cut-fits}
 use Rattle.determinize.proofs.Notes.{number-later, notes-step, notes-end}
 

@@ -3,7 +3,7 @@ ghost use mathlib.Core.List.{[], _∷_, _++_, map};
 ghost use mathlib.Core.Path.{_≡_};
 ghost use Prim.Native.Nat.{_+_, _*_, _≤_, _<_};
 ghost use lib.ListN.{length};
-ghost use Rattle.lists.specs.Written.{Written};
+ghost use Rattle.stores.specs.Written.{Written};
 ghost use Rattle.automata.specs.Records.{readRecords, writeRecords};
 ghost use Rattle.automata.specs.inner.Records.{recordAt};
 ghost use Rattle.sets.specs.inner.BitSet.{setAt, entries};
@@ -31,10 +31,10 @@ fn put_accept_words(s: &[u32], table: &[u64], n: usize, out: &mut [u32], at: usi
     let mut end = at;
     let mut j: usize = 0;
     while j < n {
-        end = output::put_word(out, end, accept_word(s, table, n, j));
+        end = stores::put_word(out, end, accept_word(s, table, n, j));
         j += 1;
     }
-    output::put_word(out, end, 0)
+    stores::put_word(out, end, 0)
 }
 
 // The record that a note stands for.
@@ -70,6 +70,6 @@ pub fn write_sheet(s: &[u32], table: &[u64], n: usize, notes: &[u32], out: &mut 
 {
     let start = output::put_start(out, 0, n as u32 + 1);
     let accepts = put_accept_words(s, table, n, out, start);
-    let records = output::put_word(out, accepts, (notes.len() / 5) as u32);
+    let records = stores::put_word(out, accepts, (notes.len() / 5) as u32);
     put_notes(notes, n as u32, out, records)
 }

@@ -5,7 +5,7 @@ ghost use mathlib.Core.List.{[], _∷_, _++_, flatMap};
 ghost use mathlib.Core.Path.{_≡_};
 ghost use Prim.Native.Nat.{_+_, _≤_, _<_};
 ghost use lib.ListN.{length};
-ghost use Rattle.lists.specs.Written.{Written};
+ghost use Rattle.stores.specs.Written.{Written};
 ghost use Rattle.automata.specs.Automaton.{states};
 ghost use Rattle.automata.specs.Records.{readRecords};
 ghost use Rattle.automata.specs.inner.Records.{recordAt};
@@ -157,7 +157,7 @@ fn put_accepts(s: &[u32], closures: &[u64], out: &mut [u32], at: usize) -> usize
     let mut p: u32 = 0;
     while p < n {
         let kind = closure_kind(s, closures, p);
-        end = output::put_word(out, end, kind);
+        end = stores::put_word(out, end, kind);
         p += 1;
     }
     end
@@ -170,8 +170,8 @@ fn put_sheet(s: &[u32], closures: &[u64], records: &[u32], out: &mut [u32]) -> u
 {
     let first = output::put_start(out, s[1], s[2]);
     let count = put_accepts(s, closures, out, first);
-    let behind = output::put_word(out, count, (records.len() / 5) as u32);
-    output::put_words(out, behind, records)
+    let behind = stores::put_word(out, count, (records.len() / 5) as u32);
+    stores::put_words(out, behind, records)
 }
 
 // The sheet whose records are these words, with its labels.

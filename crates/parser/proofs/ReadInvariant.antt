@@ -25,8 +25,8 @@ use Rattle.labels.specs.Labels.{sameLabel}
 use Rattle.lists.specs.Lists.{_∈_, tabulate}
 use Rattle.lists.proofs.Index.{same-decides}
 use Rattle.lists.proofs.Tests.{test}
-use Rattle.lists.specs.Written.{Written}
-use Rattle.lists.proofs.Written.{written-length}
+use Rattle.stores.specs.Written.{Written}
+use Rattle.stores.proofs.Written.{written-length}
 use Rattle.output.proofs.Halves.{inOrder-length}
 use Rattle.output.specs.declared.gathering.Filled.{Filled}
 use Rattle.output.specs.inner.Gathering.{Memory, Open, Held, Gathered, Rest}

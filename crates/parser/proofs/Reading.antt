@@ -23,8 +23,8 @@ use Rattle.grammar.specs.declared.pieces.AcceptingPiece.{AcceptingPiece}
 use Rattle.grammar.specs.declared.pieces.AcceptingPiece.the-variants.{Read as AcceptingRead, Nothing as NoAccepting}
 use Rattle.grammar.specs.declared.text.Layout.{Layout}
 use Rattle.grammar.proofs.Parts.{opens-nothing, opens-found, start-spelt, closes-nothing, closes-found, first-spelt}
-use Rattle.lists.specs.Written.{Written}
-use Rattle.lists.proofs.Written.{written-append}
+use Rattle.stores.specs.Written.{Written}
+use Rattle.stores.proofs.Written.{written-append}
 use Rattle.automata.specs.Automaton.{Transition}
 use Rattle.automata.specs.Records.{writeRecords}
 use Rattle.automata.proofs.Records.{length-write}

@@ -7,7 +7,7 @@ ghost use Rattle.grammar.specs.Places.{spelled};
 ghost use Rattle.grammar.specs.inner.Parts.{toldFrom};
 ghost use Rattle.grammar.specs.inner.Places.{Spelt, Laid};
 ghost use Rattle.labels.specs.Labels.{entry, writeLabels};
-ghost use Rattle.lists.specs.Written.{Written};
+ghost use Rattle.stores.specs.Written.{Written};
 ghost use Rattle.output.specs.Output.{roomFirst};
 ghost use Rattle.output.specs.inner.Gathering.{Memory, Gathered};
 ghost use Rattle.refusal.specs.Answer.{given};
@@ -48,9 +48,9 @@ fn write_sheet(out: &mut [u32], accepts: &[u32], records: &[u32]) -> usize
     ensures { λ r. ⌜ Written (now (out .entry)) 0 (1 ∷ 0 ∷ length (now (accepts .entry)) ∷ (now (accepts .entry) ++ length (now (records .entry)) / 5 ∷ now (records .entry))) (now (out .exit)) r ⌝ }
 {
     let first = output::put_start(out, 0, accepts.len() as u32);
-    let count = output::put_words(out, first, accepts);
-    let behind = output::put_word(out, count, (records.len() / 5) as u32);
-    output::put_words(out, behind, records)
+    let count = stores::put_words(out, first, accepts);
+    let behind = stores::put_word(out, count, (records.len() / 5) as u32);
+    stores::put_words(out, behind, records)
 }
 
 // Name j of a table after its length.
@@ -177,7 +177,7 @@ fn with_more(
 {
     let mut buf = [0u32; 11520];
     let end = s.filled.end;
-    output::put_words(&mut buf, 0, &small[0..end]);
+    stores::put_words(&mut buf, 0, &small[0..end]);
     let read = arrows::read_rest(
         text,
         s.cursor,

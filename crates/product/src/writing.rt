@@ -8,7 +8,7 @@ ghost use lib.ListN.{length};
 ghost use Rattle.automata.specs.Records.{writeRecords};
 ghost use Rattle.sheets.specs.inner.Accepted.{Accepted};
 ghost use Rattle.sheets.specs.Sheet.{stateCount, read};
-ghost use Rattle.lists.specs.Written.{Written};
+ghost use Rattle.stores.specs.Written.{Written};
 ghost use Rattle.labels.specs.Labels.{writeLabels};
 ghost use Rattle.output.specs.Made.{outputOf};
 ghost use Rattle.output.specs.Output.{outputs};
@@ -75,8 +75,8 @@ fn write_sheet(
 {
     let states = output::put_start(out, 0, n as u32);
     let counts = put_accept_words(a, b, queue, n, out, states);
-    let first = output::put_word(out, counts, (records.len() / 5) as u32);
-    output::put_words(out, first, records)
+    let first = stores::put_word(out, counts, (records.len() / 5) as u32);
+    stores::put_words(out, first, records)
 }
 
 // The labels of the first n pairs of the queue; how many bytes they take.

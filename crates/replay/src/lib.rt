@@ -7,7 +7,7 @@ ghost use Prim.Native.Nat.{_+_, _^_, _<_};
 ghost use lib.ListN.{length, take};
 ghost use lib.Seq.{sets};
 ghost use Rattle.io.specs.Counts.{Counts};
-ghost use Rattle.lists.specs.Written.{Written};
+ghost use Rattle.stores.specs.Written.{Written};
 ghost use Rattle.replay.specs.Lines.{withDigit, ended, told, answer, lineAt};
 ghost use Rattle.replay.specs.Cases.{listAt, isLast, bytesBefore};
 ghost use Rattle.replay.specs.Counting.{caseAt, fresh, begun, Bounded, tallied};

@@ -10,7 +10,7 @@ use lib.Dec.{eqb, ltb, leb}
 use lib.ListN.{length, getD, take}
 use Rattle.determinize.specs.Sheets.{determinizeAnswer}
 use Rattle.epsilon.specs.Eliminate.{eliminateAnswer}
-use Rattle.lists.specs.Written.{Written}
+use Rattle.stores.specs.Written.{Written}
 use Rattle.output.specs.declared.Made.{Made}
 use Rattle.output.specs.Made.{outputOf}
 use Rattle.output.specs.Output.{Output, outputs, roomFirst}

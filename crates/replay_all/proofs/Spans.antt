@@ -14,9 +14,9 @@ use Rattle.automata.specs.Automaton.{leaving, rangesOf}
 use Rattle.automata.specs.Records.{readRecords, writeRecords}
 use Rattle.automata.proofs.Records.{read-write}
 use Rattle.labels.specs.Labels.{sameLabel}
-use Rattle.lists.specs.Written.{Written}
+use Rattle.stores.specs.Written.{Written}
 use Rattle.lists.proofs.Parts.{drop-at, sets-append}
-use Rattle.lists.proofs.Written.{written-none, written-append, written-cons}
+use Rattle.stores.proofs.Written.{written-none, written-append, written-cons}
 use Rattle.ranges.specs.declared.Common.{Common}
 use Rattle.ranges.specs.declared.Common.the-variants as common
 use Rattle.ranges.specs.Missing.{missing}

@@ -9,9 +9,9 @@ use mir.Val.{Fits}
 use borrow.Author.Needs.{needs}
 use lib.ListN.{length, take, drop, replicate, length-drop, length-replicate}
 use lib.Seq.{drop-at, sets}
-use Rattle.lists.specs.Written.{Written}
+use Rattle.stores.specs.Written.{Written}
 use Rattle.lists.proofs.Parts.{part-all}
-use Rattle.lists.proofs.Written.{written-append, written-length}
+use Rattle.stores.proofs.Written.{written-append, written-length}
 use Rattle.automata.specs.Automaton.{Automaton, states}
 use Rattle.automata.specs.Records.{writeRecords}
 use Rattle.automata.proofs.Records.{length-read}

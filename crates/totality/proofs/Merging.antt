@@ -11,7 +11,7 @@ use lib.Dec.{leb}
 use lib.ListN.{length, getD, take, drop, length-drop}
 use lib.Seq.{drop-drop, getD-drop, length-take-le}
 use Rattle.lists.specs.Lists.{_∈_, more}
-use Rattle.lists.specs.Written.{Written}
+use Rattle.stores.specs.Written.{Written}
 use Rattle.lists.proofs.Parts.{part-all}
 use Rattle.automata.specs.Automaton.{Transition}
 use Rattle.automata.specs.Ordered.{inOrder}
@@ -22,7 +22,7 @@ use Rattle.automata.proofs.Records.{records-at, records-end, read-drop, read-ta
 use Rattle.ranges.specs.Span.{Span}
 use Rattle.totality.specs.Totality.{holeTo}
 use Rattle.totality.specs.inner.Merging.{readSpans, leading, Mergeable, merged, Whole}
-use Rattle.lists.proofs.Left.{Left, left-start, left-done, left-room, left-next}
+use Rattle.stores.proofs.Left.{Left, left-start, left-done, left-room, left-next}
 use Rattle.lists.proofs.Members.{ascending-first, ascending-rest}
 
 -- the search for the records before a hole stands at k

@@ -11,7 +11,7 @@ use borrow.Author.Tests.{ltb-true, ltb-false, eqb-true, eqb-false, ne-eqb, lt-lt
 use lib.Dec.{ltb, eqb}
 use lib.ListN.{length, take, drop, length-append, take-append-drop}
 use Rattle.lists.specs.Lists.{_∈_, filter, tabulate, Ascending, none, more}
-use Rattle.lists.specs.Written.{Written}
+use Rattle.stores.specs.Written.{Written}
 use Rattle.lists.proofs.Tests.{test}
 use Rattle.lists.proofs.Lists.{filter-all, filter-none, tabulate-end}
 use Rattle.lists.proofs.Members.{ascending-filter}
@@ -31,7 +31,7 @@ use Rattle.sheets.specs.Sheet.{stateCount, read}
 use Rattle.sheets.proofs.Meaning.{read-well}
 use Rattle.totality.specs.inner.Merging.{leading, Mergeable, Fillable, HolesInputs}
 use Rattle.totality.specs.Totality.{holesOf, holeTo, filled, filledIn, totalized, holesIn}
-use Rattle.lists.proofs.Left.{Left, left-start, left-done, left-room, left-next}
+use Rattle.stores.proofs.Left.{Left, left-start, left-done, left-room, left-next}
 use Rattle.totality.proofs.Merging.{merge-hole, drop-records, less-holes}
 use Rattle.automata.proofs.States.{states-at, states-end}
 use Rattle.totality.proofs.States.{run-records, run-sorted, run-room, ready-run}

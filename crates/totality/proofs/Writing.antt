@@ -8,9 +8,9 @@ use borrow.Author.Needs.{needs}
 use borrow.Author.Tests.{eq-eqb, ne-eqb}
 use lib.ListN.{length, getD, take, drop, set, length-append, length-map}
 use lib.Seq.{take-all}
-use Rattle.lists.specs.Written.{Written}
+use Rattle.stores.specs.Written.{Written}
 use Rattle.lists.proofs.Parts.{take-more}
-use Rattle.lists.proofs.Written.{written-none, written-append, written-cons, written-more, written-length}
+use Rattle.stores.proofs.Written.{written-none, written-append, written-cons, written-more, written-length}
 use Rattle.automata.specs.Automaton.{Automaton, states}
 use Rattle.automata.specs.Records.{writeRecords}
 use Rattle.automata.proofs.Records.{length-write, write-append}

@@ -93,7 +93,7 @@ fn make_flipped(s: &[u32], labels: &[u8], out: &mut [u32], names: &mut [u8]) -> 
 {
     let n = s[2];
     let counted = total::put_head(s, true, n, out);
-    let words = output::put_words(out, counted, &s[n as usize + 3..]);
+    let words = stores::put_words(out, counted, &s[n as usize + 3..]);
     let bytes = labels::copy_all(names, labels);
     Made::Lengths(words, bytes)
 }

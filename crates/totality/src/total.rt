@@ -3,7 +3,7 @@ ghost use mathlib.Core.List.{map};
 ghost use mathlib.Core.Path.{_≡_};
 ghost use Prim.Native.Nat.{_+_, _*_, _≤_, _<_};
 ghost use lib.ListN.{length, drop};
-ghost use Rattle.lists.specs.Written.{Written};
+ghost use Rattle.stores.specs.Written.{Written};
 ghost use Rattle.automata.specs.Automaton.{states};
 ghost use Rattle.automata.specs.Records.{readRecords, writeRecords};
 ghost use Rattle.sheets.specs.inner.Accepted.{Accepted};
@@ -38,12 +38,12 @@ fn put_merged(run: &[u32], holes: &[u32], q: u32, sink: u32, out: &mut [u32], at
     let mut j: usize = 0;
     while 2 <= holes.len() - j {
         let k = records_before(run, i, holes[j]);
-        end = output::put_words(out, end, &run[i..k]);
+        end = stores::put_words(out, end, &run[i..k]);
         end = output::put_record(out, end, q, 1, holes[j], holes[j + 1], sink);
         i = k;
         j += 2;
     }
-    output::put_words(out, end, &run[i..])
+    stores::put_words(out, end, &run[i..])
 }
 
 // Writes the records of the run of the state q with its holes from lower to upper.
@@ -134,8 +134,8 @@ fn put_front(s: &[u32], flip: bool, count: u32, out: &mut [u32]) -> usize
     ensures { λ r. ⌜ Written (now (out .entry)) 0 (frontWords flip (now (s .entry)) count) (now (out .exit)) r ⌝ }
 {
     let sink = put_head(s, flip, s[2] + 1, out);
-    let at = output::put_word(out, sink, accept_word(flip, 0));
-    output::put_word(out, at, count)
+    let at = stores::put_word(out, sink, accept_word(flip, 0));
+    stores::put_word(out, at, count)
 }
 
 // Writes the totalized sheet, which has count transitions, with its acceptance flipped or not.

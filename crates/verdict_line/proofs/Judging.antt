@@ -11,9 +11,9 @@ use lib.ListN.{length, take, drop}
 use lib.Seq.{length-take-le}
 use Rattle.automata.specs.Automaton.{Automaton}
 use Rattle.grammar.specs.Grammar.{ReadResult, nothing, found, Mark}
-use Rattle.lists.specs.Written.{Written}
+use Rattle.stores.specs.Written.{Written}
 use Rattle.lists.proofs.Parts.{part-all}
-use Rattle.lists.proofs.Written.{written-length}
+use Rattle.stores.proofs.Written.{written-length}
 use Rattle.refusal.specs.Answer.{Answer, refused, given}
 use Rattle.refusal.specs.Number.{numberOf}
 use Rattle.refusal.specs.declared.InputRefusal.the-variants.{Grammar}

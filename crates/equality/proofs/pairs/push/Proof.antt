@@ -2,7 +2,7 @@
 use Prim.Native.Nat.{_+_, _*_}
 use borrow.Author.Needs.{needs}
 use lib.ListN.{getD}
-use Rattle.lists.proofs.Written.{written-five}
+use Rattle.stores.proofs.Written.{written-five}
 use Rattle.equality.proofs.pairs.push.Statement.{statement}
 use Rattle.equality.proofs.pairs.push.Tie as tie
 

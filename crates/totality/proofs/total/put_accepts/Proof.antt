@@ -3,7 +3,7 @@ use Prim.Native.Nat.{_+_, _-_, _≤_}
 use mathlib.Core.List.{map}
 use mathlib.Core.Path.{_≡_}
 use lib.ListN.{length, take}
-use Rattle.lists.specs.Written.{Written}
+use Rattle.stores.specs.Written.{Written}
 use Rattle.totality.specs.inner.Merging.{acceptWord}
 use Rattle.totality.proofs.Writing.{acceptsLaws}
 use Rattle.totality.proofs.total.put_accepts.Statement.{statement}

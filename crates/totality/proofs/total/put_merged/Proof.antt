@@ -5,7 +5,7 @@ use borrow.Author.Needs.{needs}
 use lib.ListN.{length, drop}
 use Rattle.automata.specs.Records.{readRecords, writeRecords}
 use Rattle.totality.specs.inner.Merging.{readSpans, Mergeable, merged, Whole}
-use Rattle.lists.proofs.Left.{Left}
+use Rattle.stores.proofs.Left.{Left}
 use Rattle.totality.proofs.Merging.{mergeLaws, merge-whole, merge-mergeable, hole-next}
 use Rattle.totality.proofs.total.put_merged.Statement.{statement}
 use Rattle.totality.proofs.total.put_merged.Tie as tie

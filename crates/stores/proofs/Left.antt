@@ -5,8 +5,8 @@ use mathlib.Core.Path.{_≡_, refl, ap}
 use native.Mathlib.Omega.{arith}
 use lib.ListN.{length, length-append}
 use lib.Seq.{sets, length-sets}
-use Rattle.lists.specs.Written.{Written}
+use Rattle.stores.specs.Written.{Written}
 use Rattle.lists.proofs.Parts.{sets-append}
 
 -- with `left` written at `end`, the list o is o₀ with `all` written at `at`
 pub record Left (o₀ : List ℕ) (at : ℕ) (all o : List ℕ) (end : ℕ) (left : List ℕ) : Type 0 where

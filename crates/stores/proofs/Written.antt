@@ -1,12 +1,12 @@
 -- Laws of written memory: one run behind another is one run, and lengths are kept.
-use Prim.Native.Nat.{ℕ, suc, _+_}
-use mathlib.Core.List.{List, [], _∷_, _++_}
-use mathlib.Core.Path.{_≡_, refl, _∙_, ap}
+use Prim.Native.Nat.{ℕ, suc, _+_, _≤_}
+use mathlib.Core.List.{List, [], _∷_, _++_, append-assoc}
+use mathlib.Core.Path.{_≡_, refl, sym, _∙_, ap, ap₂}
 use native.Mathlib.Omega.{arith}
-use lib.ListN.{length, set, length-append}
-use lib.Seq.{sets, length-sets}
+use lib.ListN.{length, take, drop, set, length-append, take-append-drop}
+use lib.Seq.{sets, length-sets, sets-eq, drop-drop}
 use Rattle.lists.proofs.Parts.{sets-append}
-use Rattle.lists.specs.Written.{Written}
+use Rattle.stores.specs.Written.{Written}
 
 -- nothing is written
 pub written-none : (l : List ℕ) (i : ℕ) → Written l i [] l i
@@ -44,3 +44,11 @@ written-more l m v i j x p = written-append l m (set m j x) v (x ∷ []) i j (j 
 -- the length is kept
 pub written-length : (l m v : List ℕ) (i j : ℕ) → Written l i v m j → length m ≡ length l
 written-length l m v i j p = ap length (p .stored) ∙ length-sets l i v
+
+-- what is there already
+pub written-same : (l v : List ℕ) (i : ℕ) → i + length v ≤ length l → take (length v) (drop i l) ≡ v → Written l i v l (i + length v)
+written-same l v i h e =
+    record {
+      stored = sym (sets-eq v l i h ∙ ap₂ (λ (x y : List ℕ). take i l ++ x ++ y) (sym e) (sym (drop-drop (length v) i l)) ∙ append-assoc (take i l) _ _ ∙ ap (λ (x : List ℕ). take i l ++ x) (take-append-drop (length v) (drop i l)) ∙ take-append-drop i l);
+      behind = refl;
+    }
