@@ -4,9 +4,9 @@ use mathlib.Core.List.{List, [], _∷_, _++_, flatMap}
 use mathlib.Core.Path.{_≡_, refl}
 use Rattle.automata.specs.Ordered.{insert, inOrder}
 use Rattle.automata.specs.Records.{writeRecords}
-use Rattle.decimal.specs.Decimal.{valueAfter}
+use Rattle.decimal.specs.Decimal.{isDigit, valueAfter}
 use Rattle.grammar.proofs.Examples.{begin, init-p, arrow, accepting-q, end, loose, end-space, accepting-long}
-use Rattle.grammar.specs.Bytes.{isSpace, isLetter, isDigit, isNameByte}
+use Rattle.grammar.specs.Bytes.{isSpace, isLetter, isNameByte}
 use Rattle.grammar.specs.Grammar.{follow, run, space, neededSpace, begins, token, name, number, ends, range, target, transition, initial, nextName, many, transitions, nextNames, accepting, heading, ending, wholeText}
 use Rattle.labels.specs.Labels.{sameLabel}
 use Rattle.lists.specs.Lists.{any}

@@ -8,7 +8,7 @@ use Rattle.automata.specs.Automaton.{Automaton}
 use Rattle.automata.specs.Ordered.{insert, inOrder}
 use Rattle.automata.specs.Records.{readRecords}
 use Rattle.automata.specs.WellFormed.{WellFormed, lastSymbol}
-use Rattle.decimal.specs.Decimal.{valueAfter}
+use Rattle.decimal.specs.Decimal.{isDigit, valueAfter}
 use Rattle.determinize.specs.Determinize.{determinize}
 use Rattle.equality.specs.Equality.{withSecond, withFirst, determinized as both-determinized}
 use Rattle.equality.specs.Forced.{Two}
@@ -16,7 +16,7 @@ use Rattle.equality.specs.Verdict.{Equal, Apart}
 use Rattle.equality.proofs.Exact.{same-words, one-word, not-same}
 use Rattle.equality.proofs.Theorems.{classes-number}
 use Rattle.labels.specs.Labels.{sameLabel}
-use Rattle.grammar.specs.Bytes.{isSpace, isLetter, isDigit, isNameByte}
+use Rattle.grammar.specs.Bytes.{isSpace, isLetter, isNameByte}
 use Rattle.grammar.specs.Grammar.{follow, run, space, neededSpace, begins, token, name, number, ends, range, target, transition, initial, nextName, many, transitions, nextNames, accepting, heading, ending, wholeText}
 use Rattle.parser.specs.Pattern.{namesOf, statesOf, acceptWord, automatonOf, patternOf, fewTransitions, meant, parseAnswer}
 use Rattle.syntax.specs.Examples.{text-a, text-b, text-c}
