@@ -9,7 +9,8 @@ use borrow.Author.Needs.{needs}
 use borrow.Author.Tests.{eq-eqb, eqb-true}
 use lib.Dec.{eqb}
 use lib.ListN.{length, take, drop}
-use Rattle.lists.specs.Lists.{_∈_, Ascending, none, more}
+use Rattle.lists.specs.Lists.{_∈_, Ascending}
+use Rattle.lists.proofs.Members.{ascending-left, ascending-right, ascending-across}
 use Rattle.lists.proofs.Tests.{test, and-parts}
 use Rattle.automata.specs.Automaton.{Transition}
 use Rattle.automata.specs.Ordered.{less}
@@ -22,21 +23,6 @@ use Rattle.output.specs.inner.Ordered.{Listed, recordsIn}
 use Rattle.output.proofs.Heads.{listed-read, listed-first, listed-before}
 use Rattle.output.proofs.Halves.{records-halves}
 use Rattle.output.proofs.Joining.{last-record}
-
--- the parts of what ascends (belongs to crate lists)
-module _ {X : Type 0} {R : X → X → Type 0} where
-  ascending-left : (l m : List X) → Ascending R (l ++ m) → Ascending R l
-  ascending-left [] m a = none
-  ascending-left (x ∷ l) m (more f a) = more (λ y k. f y (Memᴰ·append-left m k)) (ascending-left l m a)
-
-  ascending-right : (l m : List X) → Ascending R (l ++ m) → Ascending R m
-  ascending-right [] m a = a
-  ascending-right (x ∷ l) m (more f a) = ascending-right l m a
-
-  ascending-across : (l m : List X) → Ascending R (l ++ m) → (x y : X) → x ∈ l → y ∈ m → R x y
-  ascending-across [] m a x y h k = absurd (List·Memᴰ·not-nil h)
-  ascending-across (z ∷ l) m (more f a) x y h k =
-      ⊎-elim (λ (e : x ≡ z). subst (λ (w : X). R w y) (sym e) (f y (Memᴰ·append-right l k))) (λ n. ascending-across l m a x y n k) (List·Memᴰ·cases-cons h)
 
 -- a record before the first of those in order is none of them
 none-ahead : (buf : List ℕ) (at end : ℕ) → Listed buf at end (recordsIn buf at end) → at < end → (x : Transition) → less (wordsOf x) (wordsOf (recordAt buf at)) ≡ true → x ∈ recordsIn buf at end → ⊥

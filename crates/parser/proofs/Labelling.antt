@@ -14,8 +14,8 @@ use Rattle.labels.proofs.Listing.{list-none, list-next, list-length, list-room,
 use Rattle.lists.specs.Lists.{tabulate}
 use Rattle.stores.specs.Written.{Written}
 use Rattle.lists.proofs.Lists.{tabulate-end}
+use Rattle.name_table.proofs.Finding.{names-count}
 use Rattle.parser.specs.inner.Names.{spanAt, namesIn, Table}
-use Rattle.parser.proofs.Finding.{names-count}
 use Rattle.parser.proofs.Tables.{spelt-label}
 
 -- no name is written

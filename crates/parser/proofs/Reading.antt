@@ -30,6 +30,7 @@ use Rattle.automata.specs.Records.{writeRecords}
 use Rattle.automata.proofs.Records.{length-write}
 use Rattle.labels.specs.Labels.{writeLabels, sameLabel}
 use Rattle.output.proofs.Answers.{room-lacking, room-enough, room-words, room-bytes}
+use Rattle.output.proofs.Collecting.{records-count}
 use Rattle.output.proofs.Halves.{inOrder-length}
 use Rattle.output.specs.declared.gathering.Filled.{Filled}
 use Rattle.output.specs.inner.Ordered.{recordsIn}
@@ -42,6 +43,7 @@ use Rattle.refusal.specs.declared.Refusal.the-variants.{Input, State}
 use Rattle.search.specs.Search.{meet}
 use Rattle.sheets.specs.Sheet.{write}
 use Rattle.syntax.specs.Spelled.{spell}
+use Rattle.name_table.proofs.Finding.{names-count}
 use Rattle.parser.specs.inner.Accepts.{markAll}
 use Rattle.parser.specs.inner.Arrows.{Fitting, ArrowsRead}
 use Rattle.parser.specs.inner.Memory.{Zeros}
@@ -53,8 +55,7 @@ use Rattle.parser.specs.inner.Places.{saidAt, movesAt, transitionsAt, pa
 use Rattle.parser.specs.declared.Parsed.the-variants.{Read, Refused}
 use Rattle.parser.specs.declared.arrows.Arrows.{Arrows}
 use Rattle.parser.specs.declared.names.Added.the-variants.{Kept, Full}
-use Rattle.parser.proofs.Finding.{names-count}
-use Rattle.parser.proofs.ReadInvariant.{below-or, records-count}
+use Rattle.parser.proofs.ReadInvariant.{below-or}
 use Rattle.parser.proofs.Marking.{marks-words}
 use Rattle.parser.proofs.Tables.{added-table, added-names, added-full}
 

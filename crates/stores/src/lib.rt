@@ -1,6 +1,5 @@
 // Stores: bytes and words into lent memory. Each function answers the place behind what it wrote.
 ghost use mathlib.Core.List.{[], _∷_};
-ghost use mathlib.Core.Path.{_≡_};
 ghost use Prim.Native.Nat.{_+_, _≤_, _<_};
 ghost use lib.ListN.{length};
 ghost use Rattle.stores.specs.Written.{Written};

@@ -1,6 +1,6 @@
 -- The ranges that leave a set, and the next cut among them, member by member.
 use Prim.Native.Nat.{ℕ, _+_, _≤_, _<_}
-use mathlib.Core.Bool.{Bool, true, false, _&&_, _||_, false≢true}
+use mathlib.Core.Bool.{Bool, true, false, _&&_, _||_, and-false, false≢true}
 use mathlib.Core.List.{List, [], _∷_, _++_}
 use mathlib.Core.Logic.{⊎-elim}
 use mathlib.Core.Path.{_≡_, refl, sym, _∙_, ap}
@@ -22,10 +22,6 @@ use Rattle.sets.proofs.Members.{from-end, visit-start, visit-next, next-above}
 use Rattle.ranges.specs.Cuts.{nextCut}
 use Rattle.ranges.proofs.Cuts.{next-append}
 use Rattle.words.specs.Simulation.{closure, outgoing, step}
-
-and-false : (b : Bool) → (b && false) ≡ false
-and-false true = refl
-and-false false = refl
 
 module _ (A : Automaton) where
   -- no range leaves the empty set, and no symbol leads anywhere from it
