@@ -149,3 +149,7 @@ record-out (suc m) s o l e k =
     let z : o + 5 + 5 * r .0 ≡ o + 5 * suc (r .0) = omega arith in
     (suc (r .0), omega (arith, r .1), subst (λ i. e ≡ recordAt s i) z (r .2)))
     (List·Memᴰ·cases-cons (rw (records-at s o (omega arith)) at k))
+
+-- the record at a place, as it is handed on, is one of those from there on
+pub part-in : (t : List ℕ) (at : ℕ) → 5 ≤ length t - at → recordAt (take (at + 5 - at) (drop at t)) 0 ∈ readRecords (drop at t)
+part-in t at h = subst (λ (es : List Transition). recordAt (take (at + 5 - at) (drop at t)) 0 ∈ es) (sym (records-at t at h)) (List·Memᴰ·head (part-record t at))

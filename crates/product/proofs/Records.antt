@@ -1,7 +1,7 @@
 -- The records of a run: where they lead, and in which order they start.
 use Prim.Native.Nat.{ℕ, _+_, _-_, _*_, _/_, _≤_, _<_}
 use mathlib.Core.Bool.{Bool, true, false, cond, not}
-use mathlib.Core.List.{List, [], _∷_, List·Memᴰ·head, List·Memᴰ·tail, List·Memᴰ·cases-cons}
+use mathlib.Core.List.{List, [], _∷_, List·Memᴰ·tail, List·Memᴰ·cases-cons}
 use mathlib.Core.Logic.{⊎-elim}
 use mathlib.Core.Path.{_≡_, sym, _∙_, ap, ap₂, subst}
 use native.Mathlib.Nat.{le-refl}
@@ -17,7 +17,7 @@ use Rattle.automata.specs.Records.{readRecords, writeRecords}
 use Rattle.automata.specs.inner.Records.{recordAt}
 use Rattle.automata.specs.WellFormed.{WellFormed}
 use Rattle.automata.proofs.Leaving.{leaves, leaving-rises}
-use Rattle.automata.proofs.Records.{read-write, records-at, records-end, part-record}
+use Rattle.automata.proofs.Records.{read-write, records-at, records-end, part-record, part-in}
 use Rattle.sheets.specs.Sheet.{stateCount, read}
 use Rattle.sheets.specs.inner.Runs.{IndexedSheet}
 use Rattle.sheets.proofs.Meaning.{read-well}
@@ -31,11 +31,8 @@ rest-to k r = record { tos = λ e m. r .tos e (List·Memᴰ·tail m); rises = as
 
 -- the record at a place, as it is handed on, and the records behind it
 module _ (k : ℕ) (t : List ℕ) (at : ℕ) (n : RunTo k (readRecords (drop at t))) (h : 5 ≤ length t - at) where
-  first-in : recordAt (take (at + 5 - at) (drop at t)) 0 ∈ readRecords (drop at t)
-  first-in = subst (λ (es : List Transition). recordAt (take (at + 5 - at) (drop at t)) 0 ∈ es) (sym (records-at t at h)) (List·Memᴰ·head (part-record t at))
-
   pub run-to : getD (take (at + 5 - at) (drop at t)) 4 0 < k
-  run-to = n .tos _ first-in
+  run-to = n .tos _ (part-in t at h)
 
   pub run-rest : RunTo k (readRecords (drop (at + 5) t))
   run-rest = rest-to k (rw (records-at t at h) at n)

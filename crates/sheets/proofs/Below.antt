@@ -18,18 +18,15 @@ use Rattle.lists.proofs.Tests.{test}
 use Rattle.automata.specs.Automaton.{Transition}
 use Rattle.automata.specs.Records.{readRecords}
 use Rattle.automata.specs.inner.Records.{recordAt}
-use Rattle.automata.specs.WellFormed.{here, later, Before}
+use Rattle.automata.specs.WellFormed.{Before}
+use Rattle.automata.proofs.Ordered.{before-from}
 use Rattle.automata.proofs.Records.{records-at, records-end, read-drop}
 use Rattle.sheets.specs.inner.Runs.{below, Rising, Named, Ends}
 
 -- records in order ascend in the states that they leave
 pub rising : {es : List Transition} → Ascending Before es → Rising es
 rising none = none
-rising (more {x} f a) = more (λ y m. front (f y m)) (rising a)
-  where
-    front : {y : Transition} → Before x y → x .from ≤ y .from
-    front (here h) = omega arith
-    front (later h l) = omega arith
+rising (more f a) = more (λ y m. before-from _ y (f y m)) (rising a)
 
 below-none : (q : ℕ) (e : Transition) (es : List Transition) → q ≤ e .from → ((y : Transition) → y ∈ es → e .from ≤ y .from) → below q es ≡ 0
 unfolding below

@@ -14,8 +14,7 @@ use Rattle.lists.proofs.Tests.{and-both, and-parts}
 use Rattle.automata.specs.Automaton.{Transition}
 use Rattle.automata.specs.Ordered.{inOrder}
 use Rattle.automata.specs.inner.Records.{recordAt}
-use Rattle.automata.specs.WellFormed.{Lex, Before}
-use Rattle.automata.proofs.Ordered.{inOrder-in, inOrder-out, inOrder-ascending}
+use Rattle.automata.proofs.Ordered.{inOrder-in, inOrder-out, inOrder-ascending, before-from}
 use Rattle.automata.proofs.Records.{record-in, record-out}
 use Rattle.sets.specs.Sets.{Set, has}
 use Rattle.sheets.specs.Sheet.{recordsAt, read}
@@ -68,10 +67,6 @@ unfolding eventsFrom
 length-events k s zero i = omega arith
 length-events k s (suc m) i = omega (arith, length-append (eventOf k s i) (eventsFrom k s m (suc i)), length-events k s m (suc i), one-event k s i)
 
-later : (v w : Transition) → Before v w → v .from ≤ w .from
-later v w (Lex.here h) = omega arith
-later v w (Lex.later p h) = omega arith
-
 pub timeline : (k : ℕ) (s : List ℕ) → Accepted s → (S : Set) → Timeline k (outgoing (read s) S) S (inOrder (events k s))
 unfolding outgoing events eventAt event
 timeline k s a S =
@@ -84,7 +79,7 @@ timeline k s a S =
     let there : (v : Transition) (m : v ∈ inOrder (events k s)) → recordAt s (recordsAt s + 5 * of v m .0) ∈ ts =
     λ v m. record-in (recordCount s) s (recordsAt s) (a .whole) (of v m .0) (omega (arith, of v m .1)) in
     record {
-      rises = ascending-by (λ v w m n. later v w) (inOrder-ascending (events k s));
+      rises = ascending-by (λ v w m n. before-from v w) (inOrder-ascending (events k s));
       mine = λ e m. out e m .2;
       has-all = λ e m.
           let r = record-out (recordCount s) s (recordsAt s) (a .whole) e (out e m .0) in

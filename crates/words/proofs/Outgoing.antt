@@ -13,7 +13,8 @@ use Rattle.lists.proofs.Members.{filter-either}
 use Rattle.lists.proofs.Tests.{test, and-parts}
 use Rattle.automata.specs.Automaton.{Transition, Automaton, holds, leaving, rangesOf}
 use Rattle.automata.specs.Records.{readRecords, writeRecords}
-use Rattle.automata.specs.WellFormed.{Lex, Before, WellFormed}
+use Rattle.automata.specs.WellFormed.{Before, WellFormed}
+use Rattle.automata.proofs.Ordered.{before-from}
 use Rattle.automata.proofs.Records.{read-write}
 use Rattle.sets.specs.Sets.{Set, has}
 use Rattle.sets.specs.inner.Members.{Canon, membersFrom, nextMember}
@@ -37,10 +38,6 @@ module _ (A : Automaton) where
       let f : any (λ d. holds a d && has q (closure A (d .to))) (outgoing A []) ≡ true = pick-out 0 (A .size) _ q h .2 in
       false≢true (sym (ap (any (λ d. holds a d && has q (closure A (d .to)))) outgoing-nil) ∙ f))
 
-from-rises : (d e : Transition) → Before d e → d .from ≤ e .from
-from-rises d e (Lex.here h) = omega arith
-from-rises d e (Lex.later p h) = omega arith
-
 module _ (A : Automaton) (w : WellFormed A) where
   -- a member below all others
   outgoing-cons : (q : ℕ) (R : Set) → ((x : ℕ) → has x R ≡ true → q < x) → outgoing A (q ∷ R) ≡ rangesOf (leaving A q) ++ outgoing A R
@@ -54,7 +51,7 @@ module _ (A : Automaton) (w : WellFormed A) where
       (λ e p. apart e (eqb-true _ _ (and-parts (eqb (e .from) q) _ p .0)))
       (λ d e b p.
       let k = h (d .from) (and-parts (eqb (d .kind) 1) _ p .1) in
-      let r = from-rises d e b in
+      let r = before-from d e b in
       rw (ne-eqb (e .from) q (λ c. omega arith)))
       (w .ascends)
       ∙ ap (λ l. l ++ filter g (A .transitions)) (filter-and (λ e. eqb (e .from) q) (λ e. eqb (e .kind) 1) (A .transitions))
