@@ -27,7 +27,7 @@ use Rattle.sweep.specs.inner.Events.{event, eventAt, eventOf, eventsFrom
 use Rattle.sweep.specs.inner.Sweep.{Timeline}
 
 -- the m records from o on
-record-in : (m : ℕ) (s : List ℕ) (o : ℕ) → length s ≡ o + 5 * m → (j : ℕ) → j < m → recordAt s (o + 5 * j) ∈ readRecords (drop o s)
+pub record-in : (m : ℕ) (s : List ℕ) (o : ℕ) → length s ≡ o + 5 * m → (j : ℕ) → j < m → recordAt s (o + 5 * j) ∈ readRecords (drop o s)
 record-in zero s o l j h = absurd (omega arith)
 record-in (suc m) s o l zero h = let z : o ≡ o + 5 * 0 = omega arith in
     subst (λ i. recordAt s i ∈ readRecords (drop o s)) z (rw (records-at s o (omega arith)) (List·Memᴰ·head refl))
