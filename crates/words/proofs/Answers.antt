@@ -14,7 +14,6 @@ use Rattle.sets.specs.inner.BitSet.{setAt}
 use Rattle.sets.proofs.Sets.{empty-yes}
 use Rattle.sheets.specs.declared.Checked.{Checked}
 use Rattle.sheets.specs.declared.Checked.the-variants.{Accepted, Refused}
-use Rattle.sheets.specs.inner.Accepted
 use Rattle.sheets.specs.Checked.{checkedNumber}
 use Rattle.sheets.specs.Fault.{fault}
 use Rattle.sheets.specs.Sheet.{stateCount, read}
@@ -32,7 +31,6 @@ use Rattle.words.specs.inner.Gather.{Tables}
 use Rattle.words.specs.Acceptance.{acceptsWordsAnswer, textAnswer, acceptsTextAnswer}
 use Rattle.words.specs.inner.Acceptance.{pointsOf}
 use Rattle.words.proofs.Closures.{closure-canon}
-use Rattle.words.proofs.Epsilons.{fresh}
 use Rattle.words.proofs.Reading.{simulate-nothing, read-canon}
 use Rattle.words.proofs.Stepping.{step-canon}
 
@@ -94,11 +92,6 @@ simulate-canon s starts c t S (a ∷ w) n = simulate-canon s starts c t (step (r
 
 pub end-canon : (s starts c set : List ℕ) (S : Set) (w : List ℕ) → Tables s starts c → Canon (stateCount s) S → setAt set 0 ≡ simulate (read s) S w → Canon (stateCount s) (setAt set 0)
 end-canon s starts c set S w t n e = subst (Canon (stateCount s)) (sym e) (simulate-canon s starts c t S w n)
-
-pub tables-accepted : (s starts c : List ℕ) → Tables s starts c → Accepted.Accepted s
-tables-accepted s starts c t = t .accepted
-
-pub ruleset wordLaws = (fresh, word-done, start-canon, end-canon, tables-accepted, needs)
 
 module _ (s w : List ℕ) (r : Checked) (e : checkedNumber r ≡ fault s) where
   pub words-given : r ≡ Accepted → (k : ℕ) → k ≡ kind (read s) w → given k ≡ acceptsWordsAnswer s w

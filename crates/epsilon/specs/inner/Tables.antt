@@ -1,5 +1,5 @@
 -- For inner contracts. What the code has in its local memory, and what its inner functions assume.
-use Prim.Native.Nat.{ℕ, _≤_}
+use Prim.Native.Nat.{ℕ, _*_, _≤_}
 use mathlib.Core.List.{List}
 use mathlib.Core.Path.{_≡_}
 use lib.ListN.{length}
@@ -14,7 +14,7 @@ use Rattle.epsilon.specs.Eliminate.{eliminated}
 -- the table c has the closures of the accepted sheet s
 pub record ClosuresOf (s c : List ℕ) : Type 0 where
   pub accepted : Accepted s
-  pub long : length c ≡ 1024
+  pub long : 4 * stateCount s ≤ length c
   pub closed : entries c (stateCount s) ≡ closures (read s)
 
 -- the words are the transitions of the eliminated automaton, and are few enough
