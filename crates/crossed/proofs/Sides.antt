@@ -9,7 +9,7 @@ use Rattle.automata.specs.Automaton.{Automaton, Accepts, Word}
 use Rattle.automata.specs.WellFormed.{WellFormed, Fits, lastSymbol}
 use Rattle.automata.specs.Deterministic.{Deterministic, Between}
 use Rattle.determinize.specs.Determinize.{determinize}
-use Rattle.determinize.specs.Sheets.{labelled, determinizeAnswer}
+use Rattle.determinize.specs.Sheets.{subsetPattern, determinizeAnswer}
 use Rattle.determinize.proofs.Theorems.{determinize-deterministic, determinize-between, determinize-wellformed, determinize-fits}
 use Rattle.labels.specs.Forms.{numbered}
 use Rattle.labels.specs.Labels.{labelsFault, writeLabels}
@@ -82,8 +82,8 @@ module _ (s : List ℕ) (f : fault s ≡ 0) (D : Automaton) (e : determinize 0 l
   abbrev other : Pattern
   other = record { automaton = flipped D; labels = numbered (D .size) }
 
-  determinize-answer : sheetFirst s (labelled (determinize 0 lastSymbol (read s))) ≡ given own
-  unfolding sheetFirst labelled
+  determinize-answer : sheetFirst s (subsetPattern (determinize 0 lastSymbol (read s))) ≡ given own
+  unfolding sheetFirst subsetPattern
   determinize-answer = rw (f, e)
 
   labels-pass : labelsFault (D .size) (writeLabels (numbered (D .size))) ≡ 0

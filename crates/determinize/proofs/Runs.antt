@@ -24,7 +24,7 @@ use Rattle.words.proofs.Kind.{kindOf-some, kindOf-least}
 use Rattle.search.specs.Search.{found}
 use Rattle.lists.proofs.Members.{at-in}
 use Rattle.ranges.proofs.Spans.{cut-stretch, cut-alike}
-use Rattle.determinize.specs.Determinize.{table, setsAndSink, transitionOf, subsetAutomaton}
+use Rattle.determinize.specs.Determinize.{setTable, setsAndSink, setTransition, subsetAutomaton}
 use Rattle.determinize.proofs.Steps.{step-alike}
 use Rattle.determinize.proofs.Finished.{table-start, table-closed, table-all}
 use Rattle.determinize.proofs.Result.{states-at, length-states, origin, accept-built, one-built}
@@ -33,7 +33,7 @@ zero-both : (a b : ℕ) → a ≤ 0 → (0 < b → 0 < a) → a ≡ b
 zero-both a zero h f = omega arith
 zero-both a (suc b) h f = absurd (let g = f (omega arith) in omega arith)
 
-module _ (lower upper : ℕ) (A : Automaton) (ok : InBounds A) (T : List Set) (e : table lower upper A ≡ found T) where
+module _ (lower upper : ℕ) (A : Automaton) (ok : InBounds A) (T : List Set) (e : setTable lower upper A ≡ found T) where
   abbrev D : Automaton
   D = subsetAutomaton lower upper A T
 
@@ -48,7 +48,7 @@ module _ (lower upper : ℕ) (A : Automaton) (ok : InBounds A) (T : List Set) (e
     pub to-at : (x : ℕ) → d .first ≤ x → x ≤ d .last → getD T (d .to) [] ≡ step A (getD T (d .from) []) x
 
   pub transition-facts : (d : Transition) → d ∈ D .transitions → TransitionFacts d
-  unfolding subsetAutomaton transitionOf
+  unfolding subsetAutomaton setTransition
   transition-facts d m =
       let r = origin lower upper A T 0 (setsAndSink T) d m in
       let s = r .span in

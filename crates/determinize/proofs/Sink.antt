@@ -27,7 +27,7 @@ use Rattle.lists.proofs.Members.{map-in}
 use Rattle.ranges.proofs.Spans.{cut-stretch}
 use Rattle.words.proofs.Outgoing.{outgoing-nil, step-nil}
 use Rattle.determinize.specs.Partition.{Part, partOf, partition}
-use Rattle.determinize.specs.Determinize.{table, setsAndSink, transitionOf, transitionsOf, subsetAutomaton}
+use Rattle.determinize.specs.Determinize.{setTable, setsAndSink, setTransition, setTransitions, subsetAutomaton}
 use Rattle.determinize.proofs.Parts.{part-out, part-in}
 use Rattle.determinize.proofs.Steps.{step-free, step-held}
 use Rattle.determinize.proofs.Finished.{table-closed}
@@ -41,7 +41,7 @@ cut-nothing lower upper h =
     let z : suc upper - 1 ≡ upper = omega arith in
     cut-step upper [] lower h ∙ rw (z, cut-end upper [] (suc upper) (omega arith))
 
-module _ (lower upper : ℕ) (A : Automaton) (ok : InBounds A) (T : List Set) (e : table lower upper A ≡ found T) where
+module _ (lower upper : ℕ) (A : Automaton) (ok : InBounds A) (T : List Set) (e : setTable lower upper A ≡ found T) where
   -- a symbol leads to the sink exactly if no range of the set holds it
   pub holes-sink : (j x : ℕ) → lower ≤ x → x ≤ upper → (index same (step A (getD T j []) x) T ≡ length T) ↔ (any (holds x) (outgoing A (getD T j [])) ≡ false)
   holes-sink j x l u =
@@ -61,11 +61,11 @@ module _ (lower upper : ℕ) (A : Automaton) (ok : InBounds A) (T : List Set) (e
   abbrev D : Automaton
   D = subsetAutomaton lower upper A T
 
-  span-in : (j : ℕ) → j < D .size → (s : Span) → s ∈ cutAll lower upper (outgoing A (getD T j [])) → transitionOf A T j (getD T j []) s ∈ D .transitions
-  unfolding leaving transitionsOf
+  span-in : (j : ℕ) → j < D .size → (s : Span) → s ∈ cutAll lower upper (outgoing A (getD T j [])) → setTransition A T j (getD T j []) s ∈ D .transitions
+  unfolding leaving setTransitions
   span-in j h s m =
       let S = getD T j [] in
-      filter-out (λ e. eqb (e .from) j) (transitionOf A T j S s) (D .transitions) (rw (leaving-built lower upper A T j h) (map-in (transitionOf A T j S) m)) .0
+      filter-out (λ e. eqb (e .from) j) (setTransition A T j S s) (D .transitions) (rw (leaving-built lower upper A T j h) (map-in (setTransition A T j S) m)) .0
 
   -- the transitions of a state to which a word leads: each part leads to a set of the table, each hole to the sink
   module _ (w : List ℕ) (j : ℕ) (r : Run D (D .start) w j) where
@@ -82,7 +82,7 @@ module _ (lower upper : ℕ) (A : Automaton) (ok : InBounds A) (T : List Set) (e
     pub part-transition : (p : Part) → p ∈ partition (A .size) lower upper (outgoing A (simulate A (startSet A) w))
         → (k : ℕ) × (k < length T) × ((record { from = j; kind = 1; first = p .low; last = p .high; to = k }) ∈ D .transitions)
         × (getD T k [] ≡ step A (simulate A (startSet A) w) (p .low))
-    unfolding transitionOf partOf
+    unfolding setTransition partOf
     part-transition p m =
         let S = getD T j [] in
         let x = part-out (A .size) lower upper (outgoing A S) p (subst (λ R. p ∈ partition (A .size) lower upper (outgoing A R)) (sym here) m) in
@@ -100,7 +100,7 @@ module _ (lower upper : ℕ) (A : Automaton) (ok : InBounds A) (T : List Set) (e
 
     pub hole-transition : (s : Span) → s ∈ missing lower upper (outgoing A (simulate A (startSet A) w))
         → (record { from = j; kind = 1; first = s .low; last = s .high; to = length T }) ∈ D .transitions
-    unfolding transitionOf missing covered
+    unfolding setTransition missing covered
     hole-transition s m =
         let S = getD T j [] in
         let k = filter-out (λ s. not (covered (outgoing A S) s)) s (cutAll lower upper (outgoing A S)) (subst (λ R. s ∈ missing lower upper (outgoing A R)) (sym here) m) in
@@ -111,7 +111,7 @@ module _ (lower upper : ℕ) (A : Automaton) (ok : InBounds A) (T : List Set) (e
     pub only-transition : (d : Transition) → d ∈ D .transitions → d .from ≡ j
         → ((p : Part) × p ∈ partition (A .size) lower upper (outgoing A (simulate A (startSet A) w)) × (d .first ≡ p .low) × (d .last ≡ p .high))
         ⊎ ((h : Span) × h ∈ missing lower upper (outgoing A (simulate A (startSet A) w)) × (d .first ≡ h .low) × (d .last ≡ h .high))
-    unfolding subsetAutomaton transitionOf partOf missing covered
+    unfolding subsetAutomaton setTransition partOf missing covered
     only-transition d m f =
         let S = simulate A (startSet A) w in
         let r = origin lower upper A T 0 (setsAndSink T) d m in
@@ -126,12 +126,12 @@ module _ (lower upper : ℕ) (A : Automaton) (ok : InBounds A) (T : List Set) (e
         (test (any (holds (s .low)) (outgoing A S)))
 
   pub sink-loop : lower ≤ upper → leaving D (length T) ≡ record { from = length T; kind = 1; first = lower; last = upper; to = length T } ∷ []
-  unfolding transitionsOf transitionOf
+  unfolding setTransitions setTransition
   sink-loop h =
       let n = length T in
       leaving-built lower upper A T n (unfold subsetAutomaton in omega arith)
-      ∙ ap (transitionsOf lower upper A T n) (List·getD-eq-default T [] (omega arith))
-      ∙ ap (map (transitionOf A T n [])) (ap (cutAll lower upper) (outgoing-nil A) ∙ cut-nothing lower upper h)
+      ∙ ap (setTransitions lower upper A T n) (List·getD-eq-default T [] (omega arith))
+      ∙ ap (map (setTransition A T n [])) (ap (cutAll lower upper) (outgoing-nil A) ∙ cut-nothing lower upper h)
       ∙ ap (λ k. record { from = n; kind = 1; first = lower; last = upper; to = k } ∷ []) (ap (λ R. index same R T) (step-nil A lower) ∙ sink-index lower upper A ok T e)
 
   pub sink-rejects : getD (D .accept) (length T) 0 ≡ 0

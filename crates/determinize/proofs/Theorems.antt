@@ -45,11 +45,11 @@ use Rattle.ranges.proofs.Missing.{missing-holes}
 use Rattle.refusal.specs.Answer.{Answer, refused, given}
 use Rattle.search.specs.Search.{found, over}
 use Rattle.determinize.specs.Partition.{Part, partOf, partition, Parts}
-use Rattle.determinize.specs.Determinize.{table, subsetAutomaton, determinize}
+use Rattle.determinize.specs.Determinize.{setTable, subsetAutomaton, determinize}
 use Rattle.automata.specs.Deterministic.{Deterministic, Between}
 use Rattle.determinize.specs.Sink.{Sink}
 use Rattle.determinize.specs.Reached.{MoreThan, AllReached, degrees, MoreTransitions}
-use Rattle.determinize.specs.Sheets.{labelled, determinizeAnswer}
+use Rattle.determinize.specs.Sheets.{subsetPattern, determinizeAnswer}
 use Rattle.determinize.proofs.Parts.{parts-exact}
 use Rattle.determinize.proofs.Steps.{part-step}
 use Rattle.determinize.proofs.Finished.{table-few, table-all, over-exact}
@@ -57,7 +57,7 @@ use Rattle.determinize.proofs.Result.{one-built}
 use Rattle.determinize.proofs.Runs.{transition-facts, words-kept, kind-kept, state-reached, run-exact}
 use Rattle.determinize.proofs.Written.{built-well-formed}
 use Rattle.determinize.proofs.Sink.{state-same, part-transition, hole-transition, only-transition, sink-loop, sink-rejects}
-use Rattle.determinize.proofs.Counts.{listed-states, listed-transitions, many-exact}
+use Rattle.determinize.proofs.Degrees.{listed-states, listed-transitions, many-exact}
 use Rattle.determinize.proofs.Answers.{Outcome, too-many-sets, too-many-transitions, fits, outcome, Built, made-built, refused-above, refused-over, refused-many, answer-over}
 
 module _ (lower upper : ℕ) (A : Automaton) (ok : InBounds A) where
@@ -194,7 +194,7 @@ module _ (lower upper : ℕ) (A : Automaton) (ok : InBounds A) where
   pub refused-21 : (determinize lower upper A ≡ refused 21) ↔ MoreThan 255 lower upper A
   refused-21 = (λ e. over-exact lower upper A ok .0 (refused-over lower upper A e), λ m. answer-over lower upper A (over-exact lower upper A ok .1 m))
 
-  found-few : {T : List Set} → table lower upper A ≡ found T → MoreThan 255 lower upper A → ⊥
+  found-few : {T : List Set} → setTable lower upper A ≡ found T → MoreThan 255 lower upper A → ⊥
   found-few {T} e m = let c : found T ≡ over = sym e ∙ over-exact lower upper A ok .1 m in let z : _≡_ {A = ℕ} 0 1 = cc in absurd (omega arith)
 
   -- 22 is given exactly where they don't, and the parts and the holes of the sets with the sink's loop are more than 2,048
@@ -219,8 +219,8 @@ module _ (lower upper : ℕ) (A : Automaton) (ok : InBounds A) where
       go (fits T e h q) = (subsetAutomaton lower upper A T, q)
 
 -- the answer with labels is refused and given where the answer is
-labelled-refused : (a : Answer Automaton) (n : ℕ) → (labelled a ≡ refused n) ↔ (a ≡ refused n)
-unfolding labelled
+labelled-refused : (a : Answer Automaton) (n : ℕ) → (subsetPattern a ≡ refused n) ↔ (a ≡ refused n)
+unfolding subsetPattern
 labelled-refused (refused m) n = (λ e. let z : m ≡ n = cc in ap refused z, λ e. let z : m ≡ n = cc in ap refused z)
 labelled-refused (given D) n = (λ e. let z : _≡_ {A = ℕ} 0 1 = cc in absurd (omega arith), λ e. let z : _≡_ {A = ℕ} 0 1 = cc in absurd (omega arith))
 
@@ -228,20 +228,20 @@ labelled-refused (given D) n = (λ e. let z : _≡_ {A = ℕ} 0 1 = cc in absurd
 abbrev pattern : Automaton → Pattern
 pattern D = record { automaton = D; labels = numbered (D .size) }
 
-labelled-given : (a : Answer Automaton) (P : Pattern) → labelled a ≡ given P → (D : Automaton) × (a ≡ given D)
-unfolding labelled
+labelled-given : (a : Answer Automaton) (P : Pattern) → subsetPattern a ≡ given P → (D : Automaton) × (a ≡ given D)
+unfolding subsetPattern
 labelled-given (refused m) P e = let z : _≡_ {A = ℕ} 0 1 = cc in absurd (omega arith)
 labelled-given (given D) P e = (D, refl)
 
-given-labelled : (a : Answer Automaton) (D : Automaton) → a ≡ given D → labelled a ≡ given (pattern D)
-unfolding labelled
-given-labelled a D e = ap labelled e
+given-labelled : (a : Answer Automaton) (D : Automaton) → a ≡ given D → subsetPattern a ≡ given (pattern D)
+unfolding subsetPattern
+given-labelled a D e = ap subsetPattern e
 
 -- what the call leaves: r is its answer, o and l are the outputs before it, o′ and l′ after it
 module _ (s o l o′ l′ : List ℕ) (r : Made) (call : outputOf r o′ l′ ≡ outputs o l (determinizeAnswer s o l)) where
   -- the answer behind 20 and the sheet's faults
   abbrev answer : Answer Pattern
-  answer = labelled (determinize 0 lastSymbol (read s))
+  answer = subsetPattern (determinize 0 lastSymbol (read s))
 
   contract : outputOf r o′ l′ ≡ outputs o l (roomFirst o l (sheetFirst s answer))
   unfolding determinizeAnswer

@@ -10,8 +10,8 @@ ghost use Rattle.sets.specs.inner.BitSet.{setAt, entries};
 ghost use Rattle.sheets.specs.inner.Accepted.{Accepted};
 ghost use Rattle.sheets.specs.Sheet.{stateCount, read, write};
 ghost use Rattle.words.specs.Simulation.{kindOf};
-ghost use Rattle.determinize.specs.inner.Notes.{settle, Canonical};
-ghost use Rattle.determinize.specs.inner.Sheets.{automatonOf};
+ghost use Rattle.determinize.specs.inner.Notes.{notedTransition, Canonical};
+ghost use Rattle.determinize.specs.inner.Sheets.{notedAutomaton};
 
 // The accept word of the set in row j of the table.
 fn accept_word(s: &[u32], table: &[u64], n: usize, j: usize) -> u32
@@ -40,7 +40,7 @@ fn put_accept_words(s: &[u32], table: &[u64], n: usize, out: &mut [u32], at: usi
 // The record that a note stands for.
 fn put_note(note: &[u32], sink: u32, out: &mut [u32], at: usize) -> usize
     requires { ⌜ (length (now note) ≡ 5) × (at + 5 ≤ length (now out)) ⌝ }
-    ensures { λ r. ⌜ Written (now (out .entry)) at (writeRecords (settle sink (recordAt (now (note .entry)) 0) ∷ [])) (now (out .exit)) r ⌝ }
+    ensures { λ r. ⌜ Written (now (out .entry)) at (writeRecords (notedTransition sink (recordAt (now (note .entry)) 0) ∷ [])) (now (out .exit)) r ⌝ }
 {
     let to = note[4];
     if to == 256 {
@@ -52,7 +52,7 @@ fn put_note(note: &[u32], sink: u32, out: &mut [u32], at: usize) -> usize
 // The records that the notes stand for.
 fn put_notes(notes: &[u32], sink: u32, out: &mut [u32], at: usize) -> usize
     requires { ⌜ at + length (now notes) ≤ length (now out) ⌝ }
-    ensures { λ r. ⌜ Written (now (out .entry)) at (writeRecords (map (settle sink) (readRecords (now (notes .entry))))) (now (out .exit)) r ⌝ }
+    ensures { λ r. ⌜ Written (now (out .entry)) at (writeRecords (map (notedTransition sink) (readRecords (now (notes .entry))))) (now (out .exit)) r ⌝ }
 {
     let mut end = at;
     let mut i: usize = 0;
@@ -66,7 +66,7 @@ fn put_notes(notes: &[u32], sink: u32, out: &mut [u32], at: usize) -> usize
 // The sheet of a table of n sets and the notes of its transitions.
 pub fn write_sheet(s: &[u32], table: &[u64], n: usize, notes: &[u32], out: &mut [u32]) -> usize
     requires { ⌜ Accepted (now s) × Canonical (stateCount (now s)) (entries (now table) n) × (n < 256) × (length (now table) ≡ 1024) × (length (now notes) ≤ 10240) × (10500 ≤ length (now out)) ⌝ }
-    ensures { λ r. ⌜ Written (now (out .entry)) 0 (write (automatonOf (read (now (s .entry))) (entries (now (table .entry)) n) (readRecords (now (notes .entry))))) (now (out .exit)) r ⌝ }
+    ensures { λ r. ⌜ Written (now (out .entry)) 0 (write (notedAutomaton (read (now (s .entry))) (entries (now (table .entry)) n) (readRecords (now (notes .entry))))) (now (out .exit)) r ⌝ }
 {
     let start = output::put_start(out, 0, n as u32 + 1);
     let accepts = put_accept_words(s, table, n, out, start);

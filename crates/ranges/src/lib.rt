@@ -10,6 +10,12 @@ ghost use Rattle.ranges.specs.Span.{intersectRanges, spanOf, startsBelow
 ghost use Rattle.ranges.specs.Missing.{SortedRanges, missing};
 ghost use Rattle.ranges.specs.inner.Missing.{gap, spanWords};
 
+// The two ends of a stretch of symbols: the least and the greatest.
+pub struct Ends {
+    pub lower: u32,
+    pub upper: u32,
+}
+
 // The common symbols of two ranges.
 pub enum Common {
     Range(u32, u32),

@@ -8,5 +8,6 @@ pub determinize-accepted-spec : {M : Type 1} → statement M
 determinize-accepted-spec =
     tie.close
     (tie.spec (λ c. search needs) (λ c. search needs) (λ c. search needs) (λ c κs. search (fresh-large, needs)) (λ c. search needs) (λ c. search needs)
-    (λ c. search needs) (λ c κs. search needs) (λ c. search needs) (λ c. search needs) (λ c. search needs) (λ c. search needs) (λ c. search needs)
-    (λ c κs. search needs) (λ c. search needs) (λ c. search needs))
+    (λ c. search needs) (λ c κs. (record { tables = search needs; start = search needs; long = search needs }, search needs)) (λ c. search needs)
+    (λ c. search needs) (λ c. search needs) (λ c. search needs) (λ c. search needs)
+    (λ c κs. (record { tables = search needs; start = search needs; long = search needs }, search needs)) (λ c. search needs) (λ c. search needs))

@@ -11,15 +11,15 @@ use Rattle.sheets.specs.Sheet.{write}
 use Rattle.words.specs.Simulation.{kindOf}
 use Rattle.determinize.specs.declared.Determinized.{Determinized}
 use Rattle.determinize.specs.declared.Determinized.the-variants.{Sheet, Refused}
-use Rattle.determinize.specs.inner.Notes.{settle}
+use Rattle.determinize.specs.inner.Notes.{notedTransition}
 
 -- the automaton whose states are the sets T and the sink, with the transitions that the notes es stand for
-unfoldable pub automatonOf : Automaton → List Set → List Transition → Automaton
-automatonOf A T es = record {
+unfoldable pub notedAutomaton : Automaton → List Set → List Transition → Automaton
+notedAutomaton A T es = record {
   size = suc (length T);
   start = 0;
   accept = map (kindOf A) T ++ 0 ∷ [];
-  transitions = map (settle (length T)) es;
+  transitions = map (notedTransition (length T)) es;
 }
 
 -- how many words a sheet takes and how many states it has

@@ -23,6 +23,14 @@ pub put-accept-words-spec : {M : Type 1} → statement M
 put-accept-words-spec =
     tie.close
     (tie.spec Inv-loop μ-loop (λ c. search acceptLaws) (λ c κs. search acceptLaws) (λ c κs. search acceptLaws)
-    (λ c. search acceptLaws) (λ c. search acceptLaws) (λ c. (search needs, search needs, search needs, accepts-next _ _ _ _ _ _ _ (c .before .before .before .before .before .before .loop .inv .3) _ (c .before .before .before .accept-word .ensures) _ _ (c .before .before .put-word .ensures)))
+    (λ c. search acceptLaws) (λ c. search acceptLaws)
+    (λ c. (
+      search needs,
+      search needs,
+      search needs,
+      let at-accept-word = c .before .before .before in
+          let at-loop = at-accept-word .before .before .before in
+          accepts-next _ _ _ _ _ _ _ (at-loop .loop .inv .3) _ (at-accept-word .accept-word .ensures) _ _ (c .before .before .put-word .ensures),
+    ))
     (λ c κs. search acceptLaws)
     (λ c. search acceptLaws) (λ c. search acceptLaws))

@@ -20,7 +20,7 @@ use Rattle.search.specs.Search.{found}
 use Rattle.lists.proofs.Members.{without, without-in, distinct-length}
 use Rattle.words.proofs.Outgoing.{outgoing-nil}
 use Rattle.determinize.specs.Partition.{partition}
-use Rattle.determinize.specs.Determinize.{table, setsAndSink, transitionOf, transitionsOf, transitionsFrom, subsetAutomaton}
+use Rattle.determinize.specs.Determinize.{setTable, setsAndSink, setTransition, setTransitions, setTransitionsFrom, subsetAutomaton}
 use Rattle.determinize.specs.Reached.{AllReached, degrees, MoreTransitions}
 use Rattle.determinize.proofs.Parts.{part-hole-count}
 use Rattle.determinize.proofs.Finished.{table-all}
@@ -34,15 +34,15 @@ module _ (lower upper : ℕ) (A : Automaton) where
   abbrev degree : Set → ℕ
   degree S = length (partition (A .size) lower upper (outgoing A S)) + length (missing lower upper (outgoing A S))
 
-  pub count-from : (T : List Set) (j : ℕ) (Ss : List Set) → length (transitionsFrom lower upper A T j Ss) ≡ degrees lower upper A Ss
-  unfolding transitionsFrom transitionsOf degrees
+  pub count-from : (T : List Set) (j : ℕ) (Ss : List Set) → length (setTransitionsFrom lower upper A T j Ss) ≡ degrees lower upper A Ss
+  unfolding setTransitionsFrom setTransitions degrees
   count-from T j [] = refl
   count-from T j (S ∷ Ss) =
       let cs = cutAll lower upper (outgoing A S) in
       omega (
         arith,
-        length-append (transitionsOf lower upper A T j S) (transitionsFrom lower upper A T (suc j) Ss),
-        length-map cs (transitionOf A T j S),
+        length-append (setTransitions lower upper A T j S) (setTransitionsFrom lower upper A T (suc j) Ss),
+        length-map cs (setTransition A T j S),
         part-hole-count (A .size) lower upper (outgoing A S),
         count-from T (suc j) Ss,
       )
@@ -78,7 +78,7 @@ module _ (lower upper : ℕ) (A : Automaton) where
       let p = degrees-le U (without m) d (λ R k. without-in m R (h R (List·Memᴰ·tail k)) (λ q. f (Memᴰ·cast (sym q) k))) in
       omega arith
 
-module _ (lower upper : ℕ) (A : Automaton) (ok : InBounds A) (T : List Set) (e : table lower upper A ≡ found T) where
+module _ (lower upper : ℕ) (A : Automaton) (ok : InBounds A) (T : List Set) (e : setTable lower upper A ≡ found T) where
   all : AllReached lower upper A T
   all = table-all lower upper A ok T e
 
