@@ -19,3 +19,7 @@ module _ (A : Automaton) (q : ℕ) where
   pub leaving-range : (e : Transition) → e ∈ leaving A q → e .kind ≡ 1 → e ∈ rangesOf (leaving A q)
   unfolding rangesOf
   leaving-range e m k = filter-in (λ e. eqb (e .kind) 1) m (eq-eqb (e .kind) 1 k)
+
+  pub range-leaves : (e : Transition) → e ∈ rangesOf (leaving A q) → e ∈ A .transitions × (e .from ≡ q) × (e .kind ≡ 1)
+  unfolding rangesOf
+  range-leaves e m = let k = filter-out (λ e. eqb (e .kind) 1) e (leaving A q) m in let l = leaves e (k .0) in (l .0, l .1, eqb-true _ _ (k .1))

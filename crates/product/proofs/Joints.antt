@@ -6,12 +6,13 @@ use mathlib.Core.Logic.{⊎-elim}
 use mathlib.Core.Option.{none, some}
 use mathlib.Core.Path.{_≡_, refl, sym, _∙_, ap, subst}
 use native.Mathlib.Omega.{arith}
-use borrow.Author.Tests.{le-leb, lt-leb, leb-true, ltb-true, eq-eqb, ne-eqb, eqb-true}
+use borrow.Author.Tests.{le-leb, lt-leb, leb-true, ltb-true, eq-eqb, ne-eqb}
 use lib.Dec.{leb, ltb, eqb}
 use lib.ListN.{length}
 use Rattle.lists.specs.Lists.{_∈_, filter}
 use Rattle.lists.proofs.Lists.{filter-in, filter-out, filter-append, length-filter}
 use Rattle.automata.specs.Automaton.{Transition, Automaton, leaving, rangesOf}
+use Rattle.automata.proofs.Leaving.{range-leaves}
 use Rattle.ranges.specs.Span.{intersectRanges}
 use Rattle.automata.specs.Pairs.{Pair}
 use Rattle.product.specs.Product.{Joint, symbolsOf, jointOf, joint, jointsWith, joints, jointsOf, jointsFrom}
@@ -88,11 +89,7 @@ pub record RangeFrom (A : Automaton) (p : ℕ) (d : Transition) : Type 0 where
   pub is-range : d .kind ≡ 1
 
 pub range-out : (A : Automaton) (p : ℕ) (d : Transition) → d ∈ rangesOf (leaving A p) → RangeFrom A p d
-unfolding rangesOf leaving
-range-out A p d m =
-    let k = filter-out (λ e. eqb (e .kind) 1) d (leaving A p) m in
-    let l = filter-out (λ e. eqb (e .from) p) d (A .transitions) (k .0) in
-    record { «in» = l .0; from-is = eqb-true _ _ (l .1); is-range = eqb-true _ _ (k .1) }
+range-out A p d m = let (i, c, k) = range-leaves A p d m in record { «in» = i; from-is = c; is-range = k }
 
 pub range-in : {A : Automaton} {p : ℕ} {d : Transition} → RangeFrom A p d → d ∈ rangesOf (leaving A p)
 unfolding rangesOf leaving

@@ -1,5 +1,5 @@
 -- The laws by which `missing_ranges` is proved: holes as words at the front of a list, written one after the other.
-use Prim.Native.Nat.{ℕ, _+_, _-_, _*_, _≤_, _<_, min, max}
+use Prim.Native.Nat.{ℕ, suc, _+_, _-_, _*_, _≤_, _<_, min, max}
 use mathlib.Core.Bool.{Bool, true, false, cond}
 use mathlib.Core.List.{List, [], _∷_, _++_}
 use mathlib.Core.Path.{_≡_, refl, _∙_, ap}
@@ -9,6 +9,7 @@ use lib.Dec.{ltb}
 use lib.ListN.{length, getD, drop, length-append}
 use lib.Seq.{sets, length-sets}
 use Rattle.lists.proofs.Parts.{sets-append}
+use Rattle.automata.specs.Automaton.{Transition}
 use Rattle.ranges.specs.Span.{Span}
 use Rattle.ranges.specs.Missing.{missing, SortedRanges}
 use Rattle.ranges.specs.inner.Missing.{gap, scan, spanWords}
@@ -32,6 +33,15 @@ gap-short a b = go (ltb a b)
     go : (t : Bool) → length {A = Span} (cond t (record { low = a; high = b - 1 } ∷ []) []) ≤ 1
     go true = omega arith
     go false = omega arith
+
+-- sorted ranges leave at most one hole more than they are
+pub scan-short : (c upper : ℕ) (es : List Transition) → length (scan c upper es) ≤ suc (length es)
+unfolding scan
+scan-short c upper [] = gap-short c (suc upper)
+scan-short c upper (e ∷ es) =
+    let b = min (e .first) (suc upper) in
+    let d = max c (suc (e .last)) in
+    omega (arith, length-append (gap c b) (scan d upper es), gap-short c b, scan-short d upper es)
 
 -- n spans stand at the front of h; with those that are left to write, `all` stand at the front of h₀
 pub record Left (h₀ : List ℕ) (all : List Span) (h : List ℕ) (n : ℕ) (left : List Span) : Type 0 where

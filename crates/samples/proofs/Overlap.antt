@@ -6,6 +6,7 @@ use Rattle.automata.specs.Automaton.{holds, leaving, rangesOf, states, hasEpsil
 use Rattle.automata.specs.Ordered.{inOrder, insert}
 use Rattle.automata.specs.Records.{readRecords, writeRecords}
 use Rattle.automata.specs.WellFormed.{lastSymbol}
+use Rattle.nondeterminism.specs.Nondeterminism.{holesOf, isNfaAt, isNfaIn, isNfa}
 use Rattle.ranges.specs.Span.{startsBelow, overlapping}
 use Rattle.ranges.specs.Cuts.{nearer, nextCut, spans, cutAll}
 use Rattle.ranges.specs.Missing.{covered, missing}
@@ -15,7 +16,7 @@ use Rattle.sets.specs.Closure.{through, closed}
 use Rattle.sheets.specs.Checked.{sheetFirst}
 use Rattle.sheets.specs.Fault.{isBad, recordFault, recordsFault, transitionsFault, statesFault, fault}
 use Rattle.sheets.specs.Sheet.{read, write}
-use Rattle.totality.specs.Totality.{holesOf, isNfaAt, isNfaIn, isNfa, filled, filledIn, totalized, flipped, complemented}
+use Rattle.totality.specs.Totality.{filled, filledIn, totalized, flipped, complemented}
 use Rattle.words.specs.Acceptance.{acceptsWordsAnswer}
 use Rattle.words.specs.Simulation.{isEpsilon, epsilonRow, closures, closure, outgoing, step, startSet, simulate, least, kindOf, kind}
 use Rattle.samples.specs.Samples.{O}

@@ -10,11 +10,12 @@ use Rattle.automata.specs.Automaton as runs
 use Rattle.automata.specs.Ordered.{inOrder, insert}
 use Rattle.automata.specs.Records.{readRecords}
 use Rattle.automata.specs.WellFormed.{lastSymbol}
+use Rattle.nondeterminism.specs.Nondeterminism.{holesOf, isNfaAt, isNfaIn, isNfa}
 use Rattle.ranges.specs.Span.{startsBelow, overlapping}
 use Rattle.ranges.specs.Cuts.{nearer, nextCut, spans, cutAll}
 use Rattle.ranges.specs.Missing.{covered, missing}
 use Rattle.sheets.specs.Sheet.{read}
-use Rattle.totality.specs.Totality.{holesOf, isNfaAt, isNfaIn, isNfa, filled, filledIn, totalized, flipped, complemented}
+use Rattle.totality.specs.Totality.{filled, filledIn, totalized, flipped, complemented}
 use Rattle.samples.specs.Samples.{range, A, O}
 use Rattle.samples.proofs.Single.{a-single}
 

@@ -21,7 +21,7 @@ use Rattle.automata.proofs.Ordered.{lex-trans, inOrder-in, inOrder-out, inOrder
 use Rattle.automata.proofs.Records.{records-at, records-end, read-drop, read-take, write-read, write-append}
 use Rattle.ranges.specs.Span.{Span}
 use Rattle.totality.specs.Totality.{holeTo}
-use Rattle.totality.specs.inner.Merging.{readSpans, leading, Mergeable, merged, Whole}
+use Rattle.totality.specs.inner.Merging.{readSpans, leading, Mergeable, merged, WholeRecords}
 use Rattle.lists.proofs.Left.{Left, left-start, left-done, left-room, left-next}
 use Rattle.lists.proofs.Members.{ascending-first, ascending-rest}
 
@@ -136,7 +136,7 @@ front-words : (k : ℕ) (s : List ℕ) → 5 * k ≤ length s → take (5 * k) s
 front-words k s h = sym (write-read k (take (5 * k) s) (length-take-le (5 * k) s h)) ∙ ap writeRecords (read-take k s)
 
 -- a state's records from i on and its holes from j on are left to write
-module _ (sink q : ℕ) (run holes : List ℕ) (i j : ℕ) (w : Whole (drop i run)) (m : Mergeable sink q (readRecords (drop i run)) (readSpans (drop j holes))) where
+module _ (sink q : ℕ) (run holes : List ℕ) (i j : ℕ) (w : WholeRecords (drop i run)) (m : Mergeable sink q (readRecords (drop i run)) (readSpans (drop j holes))) where
   -- no hole is left
   module _ (h : length holes - j < 2) where
     merged-end : writeRecords (merged sink q (drop i run) (drop j holes)) ≡ take (length run - i) (drop i run) ++ []
@@ -154,7 +154,7 @@ module _ (sink q : ℕ) (run holes : List ℕ) (i j : ℕ) (w : Whole (drop i ru
     unfolding n
     rest-records = rw e (ap readRecords (sym (drop-drop (5 * n) i run)) ∙ read-drop n (drop i run))
 
-    pub merge-whole : Whole (drop k run)
+    pub merge-whole : WholeRecords (drop k run)
     unfolding n
     merge-whole = omega (arith, ap length rest-records, length-drop n (readRecords (drop i run)), length-drop k run, length-drop i run, w)
 
@@ -172,7 +172,7 @@ module _ (sink q : ℕ) (run holes : List ℕ) (i j : ℕ) (w : Whole (drop i ru
         rw (spans-at holes j h, merge-hole sink q es s hs r, write-append (take n es) (holeTo sink q s ∷ inOrder (drop n es ++ map (holeTo sink q) hs)), rest-records, d)
         (ap (λ l. l ++ writeRecords (holeTo sink q s ∷ inOrder (drop n es ++ map (holeTo sink q) hs))) (sym (front-words n (drop i run) (omega (arith, length-drop i run)))))
 
-module _ (o₀ : List ℕ) (at : ℕ) (all o : List ℕ) (end : ℕ) (sink q : ℕ) (run holes : List ℕ) (i j : ℕ) (l : Left o₀ at all o end (writeRecords (merged sink q (drop i run) (drop j holes)))) (w : Whole (drop i run)) (m : Mergeable sink q (readRecords (drop i run)) (readSpans (drop j holes))) where
+module _ (o₀ : List ℕ) (at : ℕ) (all o : List ℕ) (end : ℕ) (sink q : ℕ) (run holes : List ℕ) (i j : ℕ) (l : Left o₀ at all o end (writeRecords (merged sink q (drop i run) (drop j holes)))) (w : WholeRecords (drop i run)) (m : Mergeable sink q (readRecords (drop i run)) (readSpans (drop j holes))) where
   module _ (h : length holes - j < 2) where
     pub rest-room : at + length all ≤ length o₀ → end + length (take (length run - i) (drop i run)) ≤ length o
     rest-room r = left-room o₀ at all o end _ l (take (length run - i) (drop i run)) [] (merged-end sink q run holes i j w m h) r
