@@ -84,8 +84,8 @@ module _ (lower upper : ℕ) (A : Automaton) where
     first-hole q l [] c n = absurd (omega arith)
     first-hole q l (h ∷ hs) c n =
         let m : h ∈ holesOf lower upper (leaving A q) = rw c (List·Memᴰ·head refl) in
-        let (a, b, free) = state-holes A v q lower upper .exact (h .low) .0 (h, m, record { above = omega arith; below = state-holes A v q lower upper .full h m }) in
-        hole q (h .low) l a b (unheld q (h .low) free)
+        let (a, b, free) = state-holes A v q lower upper .exact (h .first) .0 (h, m, record { above = omega arith; below = state-holes A v q lower upper .full h m }) in
+        hole q (h .first) l a b (unheld q (h .first) free)
 
     -- `is_nfa` is true exactly where there is an epsilon, an overlap or a hole
     pub nondeterministic-exact : (isNfa lower upper A ≡ true) ↔ Nondeterministic lower upper A

@@ -21,7 +21,7 @@ use Rattle.product.specs.inner.Tables.{ended, notEnded}
 
 -- the joint of two ranges that meet
 abbrev pub jointBy : Transition → Transition → Joint
-jointBy d e = record { span = record { low = max (d .first) (e .first); high = min (d .last) (e .last) }; to = record { left = d .to; right = e .to } }
+jointBy d e = record { span = record { first = max (d .first) (e .first); last = min (d .last) (e .last) }; to = record { left = d .to; right = e .to } }
 
 -- where a joint comes from
 pub record Of (d e : Transition) (j : Joint) : Type 0 where
@@ -37,19 +37,19 @@ pub record Origin (ds es : List Transition) (j : Joint) : Type 0 where
 
 joint-out : (d e : Transition) (j : Joint) → j ∈ joint d e → Of d e j
 unfolding joint jointOf intersectRanges
-joint-out d e j m = go (leb low high) refl m
+joint-out d e j m = go (leb greater-first lesser-last) refl m
   where
-    low : ℕ
-    low = max (d .first) (e .first)
+    greater-first : ℕ
+    greater-first = max (d .first) (e .first)
 
-    high : ℕ
-    high = min (d .last) (e .last)
+    lesser-last : ℕ
+    lesser-last = min (d .last) (e .last)
 
     to : Pair
     to = record { left = d .to; right = e .to }
 
-    go : (b : Bool) → leb low high ≡ b → j ∈ jointOf (cond b (some (record { low = low; high = high })) none) to → Of d e j
-    go true h m = record { meets = leb-true low high h; is = List·Memᴰ·eq-of-singleton m }
+    go : (b : Bool) → leb greater-first lesser-last ≡ b → j ∈ jointOf (cond b (some (record { first = greater-first; last = lesser-last })) none) to → Of d e j
+    go true h m = record { meets = leb-true greater-first lesser-last h; is = List·Memᴰ·eq-of-singleton m }
     go false h m = elim m [ ]
 
 joint-in : (d e : Transition) (j : Joint) → Of d e j → j ∈ joint d e
@@ -101,7 +101,7 @@ module _ (A B : Automaton) (p : Pair) where
     pub left : Transition
     pub right : Transition
     pub of : Of left right j
-    pub meet : (a : ℕ) → j .span .low ≤ a → a ≤ j .span .high → Meet A B (p .left) (p .right) left right a
+    pub meet : (a : ℕ) → j .span .first ≤ a → a ≤ j .span .last → Meet A B (p .left) (p .right) left right a
 
   pub from-out : (j : Joint) → j ∈ jointsFrom A B p → From j
   unfolding jointsFrom jointsOf
@@ -109,8 +109,8 @@ module _ (A B : Automaton) (p : Pair) where
       let r = joints-out _ _ j m in
       let d = range-out A (p .left) (r .left) (r .in-left) in
       let e = range-out B (p .right) (r .right) (r .in-right) in
-      let low : j .span .low ≡ max (r .left .first) (r .right .first) = ap (λ (x : Joint). x .span .low) (r .of .is) in
-      let high : j .span .high ≡ min (r .left .last) (r .right .last) = ap (λ (x : Joint). x .span .high) (r .of .is) in
+      let first-is : j .span .first ≡ max (r .left .first) (r .right .first) = ap (λ (x : Joint). x .span .first) (r .of .is) in
+      let last-is : j .span .last ≡ min (r .left .last) (r .right .last) = ap (λ (x : Joint). x .span .last) (r .of .is) in
       record {
         left = r .left;
         right = r .right;
@@ -123,10 +123,10 @@ module _ (A B : Automaton) (p : Pair) where
               from-right = e .from-is;
               range-left = d .is-range;
               range-right = e .is-range;
-              above-left = omega (arith, low, l);
-              below-left = omega (arith, high, u);
-              above-right = omega (arith, low, l);
-              below-right = omega (arith, high, u);
+              above-left = omega (arith, first-is, l);
+              below-left = omega (arith, last-is, u);
+              above-right = omega (arith, first-is, l);
+              below-right = omega (arith, last-is, u);
             };
       }
 

@@ -120,7 +120,7 @@ flipped-words lower upper B v c f w i = (
 
 module _ (lower upper : ℕ) (A : Automaton) (v : WellFormed A) where
   -- a symbol of a hole is held by no range of the state
-  free-symbol : (q : ℕ) (h : Span) → h ∈ holesOf lower upper (leaving A q) → (x : ℕ) → h .low ≤ x → x ≤ h .high → (e : Transition) → e ∈ A .transitions → e .from ≡ q → e .kind ≡ 1 → holds x e ≡ false
+  free-symbol : (q : ℕ) (h : Span) → h ∈ holesOf lower upper (leaving A q) → (x : ℕ) → h .first ≤ x → x ≤ h .last → (e : Transition) → e ∈ A .transitions → e .from ≡ q → e .kind ≡ 1 → holds x e ≡ false
   free-symbol q h m x l u e n c k = state-holes A v q lower upper .exact x .0 (h, m, record { above = l; below = u }) .2 e (leaving-range A q e (leaving-in A q e n c) k)
 
   pub total-complete : CompleteAutomaton lower upper (totalized lower upper A)

@@ -12,7 +12,7 @@ use Rattle.ranges.specs.Span.{Span}
 
 -- a hole of the state q, led to the sink
 abbrev pub holeTo : ℕ → ℕ → Span → Transition
-holeTo sink q s = record { from = q; kind = 1; first = s .low; last = s .high; to = sink }
+holeTo sink q s = record { from = q; kind = 1; first = s .first; last = s .last; to = sink }
 
 -- transitions of the state q with their holes led to the sink
 unfoldable pub filled : ℕ → ℕ → ℕ → ℕ → List Transition → List Transition

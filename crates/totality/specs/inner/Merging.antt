@@ -20,19 +20,19 @@ use Rattle.totality.specs.Totality.{holeTo, transitionCount, otherWord, 
 unfoldable pub readSpans : List ℕ → List Span
 readSpans [] = []
 readSpans (a ∷ []) = []
-readSpans (a ∷ b ∷ ws) = record { low = a; high = b } ∷ readSpans ws
+readSpans (a ∷ b ∷ ws) = record { first = a; last = b } ∷ readSpans ws
 
--- how many transitions, from the first on, come before a hole that begins at low
+-- how many transitions, from the first on, come before a hole that begins at first
 unfoldable pub leading : ℕ → List Transition → ℕ
-leading low [] = 0
-leading low (e ∷ es) = cond (leb (e .first) low) (suc (leading low es)) 0
+leading first [] = 0
+leading first (e ∷ es) = cond (leb (e .first) first) (suc (leading first es)) 0
 
 -- transitions in order, and holes in order, whose firsts tell which comes first
 pub record Mergeable (sink q : ℕ) (es : List Transition) (hs : List Span) : Type 0 where
   pub records : Ascending Before es
   pub holes : Ascending Before (map (holeTo sink q) hs)
-  pub later : (e : Transition) (h : Span) → e ∈ es → h ∈ hs → h .low < e .first → Before (holeTo sink q h) e
-  pub sooner : (e : Transition) (h : Span) → e ∈ es → h ∈ hs → e .first ≤ h .low → Before e (holeTo sink q h)
+  pub later : (e : Transition) (h : Span) → e ∈ es → h ∈ hs → h .first < e .first → Before (holeTo sink q h) e
+  pub sooner : (e : Transition) (h : Span) → e ∈ es → h ∈ hs → e .first ≤ h .first → Before e (holeTo sink q h)
 
 -- the records of a run of the state q and the spans of holes, led to the sink, in order
 unfoldable pub merged : ℕ → ℕ → List ℕ → List ℕ → List Transition
