@@ -23,6 +23,10 @@ module _ (A : Automaton) (q : ℕ) where
   unfolding rangesOf
   leaving-range e m k = filter-in (λ e. eqb (e .kind) 1) m (eq-eqb (e .kind) 1 k)
 
+  pub range-leaves : (e : Transition) → e ∈ rangesOf (leaving A q) → e ∈ A .transitions × (e .from ≡ q) × (e .kind ≡ 1)
+  unfolding rangesOf
+  range-leaves e m = let k = filter-out (λ e. eqb (e .kind) 1) e (leaving A q) m in let l = leaves e (k .0) in (l .0, l .1, eqb-true _ _ (k .1))
+
 -- an epsilon, whose symbols are 0, stands before the ranges of its state
 starts-below : (d e : Transition) → d .from ≡ e .from → Sound d → Sound e → Before d e → d .first ≤ e .first
 starts-below d e f s u (Lex.here h) = absurd (omega arith)

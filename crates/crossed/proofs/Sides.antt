@@ -15,6 +15,8 @@ use Rattle.labels.specs.Forms.{numbered}
 use Rattle.labels.specs.Labels.{labelsFault, writeLabels}
 use Rattle.labels.proofs.Labels.{read-write, fault-write}
 use Rattle.labels.proofs.Whole.{labels-numbered, length-numbered}
+use Rattle.nondeterminism.specs.Nondeterminism.{isNfa}
+use Rattle.nondeterminism.proofs.Theorems.{nfa-deterministic-at, nfa-exact}
 use Rattle.output.specs.Output.{Pattern, labelsFirst}
 use Rattle.refusal.specs.Answer.{given}
 use Rattle.sheets.specs.Checked.{sheetFirst}
@@ -23,9 +25,9 @@ use Rattle.sheets.specs.Sheet.{read, write}
 use Rattle.sheets.proofs.Accepted.{accepted}
 use Rattle.sheets.proofs.Meaning.{read-well, read-write-sheet, write-accepted}
 use Rattle.totality.specs.Answers.{complementPattern, complementAnswer}
-use Rattle.totality.specs.Totality.{isNfa, flipped, complemented}
+use Rattle.totality.specs.Totality.{flipped, complemented}
 use Rattle.totality.proofs.Answers.{limited-given}
-use Rattle.totality.proofs.Theorems.{nfa-settled, nfa-exact, complement-words}
+use Rattle.totality.proofs.Theorems.{complement-words}
 use Rattle.totality.proofs.Totalized.{flipped-well}
 use Rattle.crossed.specs.Calls.{sheetOf, labelsOf}
 use Rattle.crossed.specs.Demand.{Side, SideAnswers}
@@ -73,7 +75,7 @@ module _ (s : List ℕ) (f : fault s ≡ 0) (D : Automaton) (e : determinize 0 l
   pub other-words : (w : List ℕ) → Word 0 lastSymbol w → Accepts (flipped D) w ↔ (Accepts D w → ⊥)
   other-words w v =
       rw (sym complement-flips)
-      (complement-words 0 lastSymbol D well (omega arith) (deterministic .ranges) (λ q h. nfa-settled 0 lastSymbol D .0 no-nfa q h .no-overlap) w v)
+      (complement-words 0 lastSymbol D well (omega arith) (deterministic .ranges) (λ q h. nfa-deterministic-at 0 lastSymbol D .0 no-nfa q h .no-overlap) w v)
 
   -- the patterns that the two calls give
   abbrev own : Pattern

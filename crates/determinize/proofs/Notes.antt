@@ -110,8 +110,8 @@ module _ (lower upper : ℕ) (A : Automaton) (ok : InBounds A) (T : List Set) (e
       map-ext (notedTransition (length T)) (noteOf A T j S) (setTransition A T j S) (cutAll lower upper (outgoing A S))
       (λ s m.
       let v = cut-stretch lower upper (outgoing A S) s m in
-      ap (λ t. record { from = j; kind = 1; first = s .low; last = s .high; to = t })
-      (settled (step A S (s .low)) (c (s .low) (v .above) (omega (arith, v .full, v .below)))))
+      ap (λ t. record { from = j; kind = 1; first = s .first; last = s .last; to = t })
+      (settled (step A S (s .first)) (c (s .first) (v .above) (omega (arith, v .full, v .below)))))
 
   settle-from : (j : ℕ) (Ss : List Set) → ((S : Set) → S ∈ Ss → (a : ℕ) → lower ≤ a → a ≤ upper → In T (step A S a))
       → map (notedTransition (length T)) (notesFrom lower upper A T j Ss) ≡ setTransitionsFrom lower upper A T j Ss

@@ -35,7 +35,7 @@ use Rattle.determinize.proofs.Runs.{built-bounds, run-end, run-exact, s
 use Rattle.determinize.proofs.Result.{states-at, origin, leaving-built, accept-built}
 
 -- without ranges there is one span
-pub cut-nothing : (lower upper : ℕ) → lower ≤ upper → cutAll lower upper [] ≡ record { low = lower; high = upper } ∷ []
+pub cut-nothing : (lower upper : ℕ) → lower ≤ upper → cutAll lower upper [] ≡ record { first = lower; last = upper } ∷ []
 unfolding nextCut
 cut-nothing lower upper h =
     let z : suc upper - 1 ≡ upper = omega arith in
@@ -80,37 +80,37 @@ module _ (lower upper : ℕ) (A : Automaton) (ok : InBounds A) (T : List Set) (e
     state-same v x = let t = run-exact lower upper A ok T e j near v x in (λ q. t .0 q ∙ here, λ q. t .1 (q ∙ sym here))
 
     pub part-transition : (p : Part) → p ∈ partition (A .size) lower upper (outgoing A (simulate A (startSet A) w))
-        → (k : ℕ) × (k < length T) × ((record { from = j; kind = 1; first = p .low; last = p .high; to = k }) ∈ D .transitions)
-        × (getD T k [] ≡ step A (simulate A (startSet A) w) (p .low))
+        → (k : ℕ) × (k < length T) × ((record { from = j; kind = 1; first = p .first; last = p .last; to = k }) ∈ D .transitions)
+        × (getD T k [] ≡ step A (simulate A (startSet A) w) (p .first))
     unfolding setTransition partOf
     part-transition p m =
         let S = getD T j [] in
         let x = part-out (A .size) lower upper (outgoing A S) p (subst (λ R. p ∈ partition (A .size) lower upper (outgoing A R)) (sym here) m) in
         let s = x .span in
         let v = cut-stretch lower upper (outgoing A S) s (x .in) in
-        let k = index same (step A S (s .low)) T in
-        let i = table-closed lower upper A ok T e j (s .low) (v .above) (omega (arith, v .full, v .below)) in
+        let k = index same (step A S (s .first)) T in
+        let i = table-closed lower upper A ok T e j (s .first) (v .above) (omega (arith, v .full, v .below)) in
         let l : k < length T =
-        ⊎-elim (λ (z : step A S (s .low) ≡ []). absurd (step-held A ok S (s .low) (x .held) z)) (λ i. index-lt same same-decides (step A S (s .low)) i) i in (
+        ⊎-elim (λ (z : step A S (s .first) ≡ []). absurd (step-held A ok S (s .first) (x .held) z)) (λ i. index-lt same same-decides (step A S (s .first)) i) i in (
           k,
           l,
-          subst (λ (q : Part). (record { from = j; kind = 1; first = q .low; last = q .high; to = k }) ∈ D .transitions) (sym (x .is)) (span-in j near s (x .in)),
-          at-index T (step A S (s .low)) i ∙ ap (λ R. step A R (s .low)) here ∙ ap (λ (q : Part). step A (simulate A (startSet A) w) (q .low)) (sym (x .is)),
+          subst (λ (q : Part). (record { from = j; kind = 1; first = q .first; last = q .last; to = k }) ∈ D .transitions) (sym (x .is)) (span-in j near s (x .in)),
+          at-index T (step A S (s .first)) i ∙ ap (λ R. step A R (s .first)) here ∙ ap (λ (q : Part). step A (simulate A (startSet A) w) (q .first)) (sym (x .is)),
         )
 
     pub hole-transition : (s : Span) → s ∈ missing lower upper (outgoing A (simulate A (startSet A) w))
-        → (record { from = j; kind = 1; first = s .low; last = s .high; to = length T }) ∈ D .transitions
+        → (record { from = j; kind = 1; first = s .first; last = s .last; to = length T }) ∈ D .transitions
     unfolding setTransition missing covered
     hole-transition s m =
         let S = getD T j [] in
         let k = filter-out (λ s. not (covered (outgoing A S) s)) s (cutAll lower upper (outgoing A S)) (subst (λ R. s ∈ missing lower upper (outgoing A R)) (sym here) m) in
         let v = cut-stretch lower upper (outgoing A S) s (k .0) in
-        rw (sym (holes-sink j (s .low) (v .above) (omega (arith, v .full, v .below)) .1 (not-true _ (k .1)))) (span-in j near s (k .0))
+        rw (sym (holes-sink j (s .first) (v .above) (omega (arith, v .full, v .below)) .1 (not-true _ (k .1)))) (span-in j near s (k .0))
 
     -- each transition that leaves it is that of a part or of a hole
     pub only-transition : (d : Transition) → d ∈ D .transitions → d .from ≡ j
-        → ((p : Part) × p ∈ partition (A .size) lower upper (outgoing A (simulate A (startSet A) w)) × (d .first ≡ p .low) × (d .last ≡ p .high))
-        ⊎ ((h : Span) × h ∈ missing lower upper (outgoing A (simulate A (startSet A) w)) × (d .first ≡ h .low) × (d .last ≡ h .high))
+        → ((p : Part) × p ∈ partition (A .size) lower upper (outgoing A (simulate A (startSet A) w)) × (d .first ≡ p .first) × (d .last ≡ p .last))
+        ⊎ ((h : Span) × h ∈ missing lower upper (outgoing A (simulate A (startSet A) w)) × (d .first ≡ h .first) × (d .last ≡ h .last))
     unfolding subsetAutomaton setTransition partOf missing covered
     only-transition d m f =
         let S = simulate A (startSet A) w in
@@ -119,11 +119,11 @@ module _ (lower upper : ℕ) (A : Automaton) (ok : InBounds A) (T : List Set) (e
         let g : d .from ≡ 0 + r .place = ap (λ x. x .from) (r .is) in
         let q : r .place ≡ j = omega arith in
         let i : s ∈ cutAll lower upper (outgoing A S) = subst (λ R. s ∈ cutAll lower upper (outgoing A R)) (states-at T (r .place) ∙ ap (λ k. getD T k []) q ∙ here) (r .in) in
-        let a : d .first ≡ s .low = ap (λ x. x .first) (r .is) in
-        let b : d .last ≡ s .high = ap (λ x. x .last) (r .is) in
-        ⊎-elim (λ (t : any (holds (s .low)) (outgoing A S) ≡ true). inl (partOf (A .size) (outgoing A S) s, part-in (A .size) lower upper (outgoing A S) s i t, a, b))
-        (λ (t : any (holds (s .low)) (outgoing A S) ≡ false). inr (s, filter-in (λ s. not (covered (outgoing A S) s)) i (ap not t), a, b))
-        (test (any (holds (s .low)) (outgoing A S)))
+        let a : d .first ≡ s .first = ap (λ x. x .first) (r .is) in
+        let b : d .last ≡ s .last = ap (λ x. x .last) (r .is) in
+        ⊎-elim (λ (t : any (holds (s .first)) (outgoing A S) ≡ true). inl (partOf (A .size) (outgoing A S) s, part-in (A .size) lower upper (outgoing A S) s i t, a, b))
+        (λ (t : any (holds (s .first)) (outgoing A S) ≡ false). inr (s, filter-in (λ s. not (covered (outgoing A S) s)) i (ap not t), a, b))
+        (test (any (holds (s .first)) (outgoing A S)))
 
   pub sink-loop : lower ≤ upper → leaving D (length T) ≡ record { from = length T; kind = 1; first = lower; last = upper; to = length T } ∷ []
   unfolding setTransitions setTransition

@@ -72,7 +72,7 @@ module _ (lower upper : ℕ) (A : Automaton) (ok : InBounds A) where
 
   -- a part leads to the union of the closures of its targets
   pub determinize-targets : (S : Set) (s : Span)
-      → step A S (s .low) ≡ pick (A .size) (λ q. any (λ t. has q (closure A t)) (partOf (A .size) (outgoing A S) s .targets))
+      → step A S (s .first) ≡ pick (A .size) (λ q. any (λ t. has q (closure A t)) (partOf (A .size) (outgoing A S) s .targets))
   determinize-targets = part-step A ok
 
   module _ (D : Automaton) (e : determinize lower upper A ≡ given D) where
@@ -101,7 +101,7 @@ module _ (lower upper : ℕ) (A : Automaton) (ok : InBounds A) where
     pub determinize-between : Between lower upper D
     determinize-between =
         let l = transition-facts lower upper A ok (by .sets) (by .whole) in
-        rw (by .is) (record { above = λ d m. l d m .low; below = λ d m. l d m .high })
+        rw (by .is) (record { above = λ d m. l d m .above; below = λ d m. l d m .below })
 
     -- a word leads to every state but the last
     pub determinize-reached : (j : ℕ) → suc j < D .size → (w : List ℕ) × Word lower upper w × Run D (D .start) w j
@@ -130,8 +130,8 @@ module _ (lower upper : ℕ) (A : Automaton) (ok : InBounds A) where
 
       -- each part of its set has a transition, to the state of exactly the set to which the part leads; that is not the sink
       pub determinize-part : (p : Part) → p ∈ partition (A .size) lower upper (outgoing A (simulate A (startSet A) w))
-          → (k : ℕ) × (suc k < D .size) × ((record { from = j; kind = 1; first = p .low; last = p .high; to = k }) ∈ D .transitions)
-          × ((v : List ℕ) → Word lower upper v → Run D (D .start) v k ↔ (simulate A (startSet A) v ≡ step A (simulate A (startSet A) w) (p .low)))
+          → (k : ℕ) × (suc k < D .size) × ((record { from = j; kind = 1; first = p .first; last = p .last; to = k }) ∈ D .transitions)
+          × ((v : List ℕ) → Word lower upper v → Run D (D .start) v k ↔ (simulate A (startSet A) v ≡ step A (simulate A (startSet A) w) (p .first)))
       unfolding subsetAutomaton
       determinize-part p m =
           let (k, l, t, q) = part-transition lower upper A ok (by .sets) (by .whole) w j run p m in
@@ -139,7 +139,7 @@ module _ (lower upper : ℕ) (A : Automaton) (ok : InBounds A) where
 
       -- each hole of its set has a transition, to the sink
       pub determinize-hole : (s : Span) → s ∈ missing lower upper (outgoing A (simulate A (startSet A) w)) → (k : ℕ) → D .size ≡ suc k
-          → (record { from = j; kind = 1; first = s .low; last = s .high; to = k }) ∈ D .transitions
+          → (record { from = j; kind = 1; first = s .first; last = s .last; to = k }) ∈ D .transitions
       unfolding subsetAutomaton
       determinize-hole s m k n =
           let z : length (by .sets) ≡ k = let y = rw (by .is) at n in omega (arith, y) in
@@ -147,8 +147,8 @@ module _ (lower upper : ℕ) (A : Automaton) (ok : InBounds A) where
 
       -- it has no other transitions
       pub determinize-only : (d : Transition) → d ∈ D .transitions → d .from ≡ j
-          → ((p : Part) × p ∈ partition (A .size) lower upper (outgoing A (simulate A (startSet A) w)) × (d .first ≡ p .low) × (d .last ≡ p .high))
-          ⊎ ((h : Span) × h ∈ missing lower upper (outgoing A (simulate A (startSet A) w)) × (d .first ≡ h .low) × (d .last ≡ h .high))
+          → ((p : Part) × p ∈ partition (A .size) lower upper (outgoing A (simulate A (startSet A) w)) × (d .first ≡ p .first) × (d .last ≡ p .last))
+          ⊎ ((h : Span) × h ∈ missing lower upper (outgoing A (simulate A (startSet A) w)) × (d .first ≡ h .first) × (d .last ≡ h .last))
       determinize-only d m f =
           only-transition lower upper A ok (by .sets) (by .whole) w j run d (subst (λ (E : Automaton). d ∈ E .transitions) (by .is) m) f
 

@@ -16,7 +16,7 @@ use Rattle.words.specs.Simulation.{outgoing, kindOf}
 use Rattle.words.proofs.Kind.{kindOf-some}
 use Rattle.search.specs.Search.{found}
 use Rattle.lists.proofs.Members.{ascending-map, ascending-append}
-use Rattle.ranges.proofs.Spans.{Ahead, cut-ascend}
+use Rattle.ranges.proofs.Spans.{SpanBefore, cut-ascend}
 use Rattle.determinize.specs.Determinize.{setTable, setsAndSink, setTransition, setTransitions, setTransitionsFrom, subsetAutomaton}
 use Rattle.determinize.proofs.Result.{length-states, from-of, from-above, accept-built}
 use Rattle.determinize.proofs.Runs.{transition-facts, built-bounds}
@@ -27,7 +27,7 @@ module _ (lower upper : ℕ) (A : Automaton) (T : List Set) where
   transitions-ascend j [] = Ascending.none
   transitions-ascend j (S ∷ Ss) =
       ascending-append
-      (ascending-map {R = Ahead} (setTransition A T j S) (λ s t h. Lex.later refl (Lex.later refl (Lex.here (omega (arith, h .0, h .1))))) (cut-ascend lower upper (outgoing A S)))
+      (ascending-map {R = SpanBefore} (setTransition A T j S) (λ s t h. Lex.later refl (Lex.later refl (Lex.here (omega (arith, h .0, h .1))))) (cut-ascend lower upper (outgoing A S)))
       (transitions-ascend (suc j) Ss)
       (λ d c m n. let f = from-of lower upper A T j S d m in let g = from-above lower upper A T (suc j) Ss c n in Lex.here (omega arith))
 

@@ -20,7 +20,7 @@ use Rattle.determinize.specs.Partition.{partition}
 
 -- the sets to which the parts of S lead, parts ascending
 unfoldable pub setTargets : ℕ → ℕ → Automaton → Set → List Set
-setTargets lower upper A S = map (λ p. step A S (p .low)) (partition (A .size) lower upper (outgoing A S))
+setTargets lower upper A S = map (λ p. step A S (p .first)) (partition (A .size) lower upper (outgoing A S))
 
 -- those that are not empty
 unfoldable pub nonemptyOf : List Set → List Set
@@ -41,7 +41,7 @@ setsAndSink T = T ++ [] ∷ []
 
 -- state j, which is the set S, has a transition for each span between cuts. No range leaves the sink, so that it has one for all symbols.
 unfoldable pub setTransition : Automaton → List Set → ℕ → Set → Span → Transition
-setTransition A T j S s = record { from = j; kind = 1; first = s .low; last = s .high; to = index same (step A S (s .low)) T }
+setTransition A T j S s = record { from = j; kind = 1; first = s .first; last = s .last; to = index same (step A S (s .first)) T }
 
 unfoldable pub setTransitions : ℕ → ℕ → Automaton → List Set → ℕ → Set → List Transition
 setTransitions lower upper A T j S = map (setTransition A T j S) (cutAll lower upper (outgoing A S))

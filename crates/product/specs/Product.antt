@@ -25,7 +25,7 @@ pub record Joint : Type 0 where
   pub to : Pair
 
 abbrev pub symbolsOf : Transition → Span
-symbolsOf e = record { low = e .first; high = e .last }
+symbolsOf e = record { first = e .first; last = e .last }
 
 unfoldable pub jointOf : Option Span → Pair → List Joint
 jointOf none p = []
@@ -62,7 +62,7 @@ meetingPairs A B = record {
 
 -- the transition of a joint that leaves pair i, where f numbers the pairs
 unfoldable pub transitionOf : (Pair → ℕ) → ℕ → Joint → Transition
-transitionOf f i j = record { from = i; kind = 1; first = j .span .low; last = j .span .high; to = f (j .to) }
+transitionOf f i j = record { from = i; kind = 1; first = j .span .first; last = j .span .last; to = f (j .to) }
 
 -- the transitions of the pairs ps, which are numbered from i on
 unfoldable pub transitionsFrom : (Pair → ℕ) → Automaton → Automaton → ℕ → List Pair → List Transition

@@ -26,7 +26,7 @@ pub fn ranges_of(case: &[u32]) -> bool
     common(case)
 }
 
-// Whether the list has low and high of the common symbols of two ranges, or nothing.
+// Whether the list has first and last of the common symbols of two ranges, or nothing.
 fn is_ends(expected: &[u32], found: Common) -> bool
     ensures { λ r. ⌜ r ≡ isEnds (now (expected .entry)) (spanOf found) ⌝ }
 {

@@ -9,6 +9,7 @@ ghost use Rattle.emptiness.specs.Reachable.{reachableAnswer};
 ghost use Rattle.epsilon.specs.Eliminate.{eliminateAnswer};
 ghost use Rattle.equality.specs.Equality.{equalityAnswer};
 ghost use Rattle.equivalence.specs.Equivalent.{equivalentAnswer};
+ghost use Rattle.nondeterminism.specs.Nondeterminism.{isNfaAnswer};
 ghost use Rattle.output.specs.Made.{outputOf};
 ghost use Rattle.output.specs.Output.{outputs, roomFirst};
 ghost use Rattle.parser.specs.Parsed.{parsed, parsedOf};
@@ -17,7 +18,7 @@ ghost use Rattle.product.specs.Product.{intersectionAnswer};
 ghost use Rattle.refusal.specs.Decision.{decisionOf};
 ghost use Rattle.ringmatch.specs.Reply.{reply, replyBit, replied, built, buildReply, read, readReply, told, tellVerdict, Told};
 ghost use Rattle.subautomaton.specs.Answer.{subautomatonAnswer};
-ghost use Rattle.totality.specs.Answers.{isNfaAnswer, totalizeAnswer, complementAnswer};
+ghost use Rattle.totality.specs.Answers.{totalizeAnswer, complementAnswer};
 ghost use Rattle.words.specs.Acceptance.{acceptsWordsAnswer, acceptsTextAnswer, acceptanceOf};
 use equality::Verdict;
 use output::Made;
@@ -195,7 +196,7 @@ pub extern "C" fn ringmatch_epsilon_eliminate(
 pub extern "C" fn ringmatch_is_nfa(sheet: &[u32], answer: &mut u32) -> u32
     ensures { λ code. ⌜ replied code (now (answer .exit)) ≡ replyBit (now (answer .entry)) (isNfaAnswer 0 4294967295 (now (sheet .entry))) ⌝ }
 {
-    reply_decision(totality::is_nfa(sheet), answer)
+    reply_decision(nondeterminism::is_nfa(sheet), answer)
 }
 
 // Whether a state that accepts is reached from the start: answer is 1 if so, else 0, and then no word is accepted. Refusals: 1 to 6.

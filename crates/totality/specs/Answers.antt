@@ -1,22 +1,20 @@
 -- The answers of the operations, refusals first in document 01's order, and the answers of the code as these.
 use Prim.Native.Nat.{ℕ}
-use mathlib.Core.Bool.{Bool, cond}
+use mathlib.Core.Bool.{cond}
 use mathlib.Core.List.{List, [], _∷_, _++_}
 use Rattle.automata.specs.Automaton.{Automaton}
 use Rattle.labels.specs.Labels.{readLabels}
 use Rattle.labels.specs.Forms.{sinkLabel}
+use Rattle.nondeterminism.specs.Nondeterminism.{isNfa}
 use Rattle.output.specs.Output.{Pattern, labelsFirst, statesFirst, transitionsFirst}
 use Rattle.refusal.specs.Answer.{Answer, given}
 use Rattle.sheets.specs.Checked.{sheetFirst}
 use Rattle.sheets.specs.Sheet.{stateCount, read}
-use Rattle.totality.specs.Totality.{isNfa, totalized, complemented}
+use Rattle.totality.specs.Totality.{totalized, complemented}
 
 -- 21 where there are too many states, 22 where there are too many transitions, or else the result
 unfoldable pub limited : Pattern → Answer Pattern
 limited P = statesFirst (P .automaton) (transitionsFirst (P .automaton) (given P))
-
-unfoldable pub isNfaAnswer : ℕ → ℕ → List ℕ → Answer Bool
-isNfaAnswer lower upper s = sheetFirst s (given (isNfa lower upper (read s)))
 
 -- the totalized automaton, and `sink` behind the labels
 unfoldable pub totalPattern : ℕ → ℕ → Automaton → List (List ℕ) → Pattern

@@ -6,19 +6,20 @@ ghost use lib.ListN.{length, drop};
 ghost use Rattle.stores.specs.Written.{Written};
 ghost use Rattle.automata.specs.Automaton.{states};
 ghost use Rattle.automata.specs.Records.{readRecords, writeRecords};
+ghost use Rattle.nondeterminism.specs.inner.Holes.{HolesInputs};
 ghost use Rattle.sheets.specs.inner.Accepted.{Accepted};
 ghost use Rattle.sheets.specs.Sheet.{stateCount, read, write};
 ghost use Rattle.totality.specs.Totality.{filled, filledIn, totalized};
-ghost use Rattle.totality.specs.inner.Merging.{readSpans, leading, Mergeable, merged, Whole, Fillable, acceptWord, turned, headWords, frontWords, Small, HolesInputs};
+ghost use Rattle.totality.specs.inner.Merging.{readSpans, leading, Mergeable, merged, WholeRecords, Fillable, flippedWordIf, flippedIf, headWords, frontWords, TotalizedRoom};
 
-// The place behind the records from i on that come before a hole that begins at low.
-fn records_before(run: &[u32], i: usize, low: u32) -> usize
+// The place behind the records from i on that come before a hole that begins at first.
+fn records_before(run: &[u32], i: usize, first: u32) -> usize
     requires { ⌜ i ≤ length (now run) ⌝ }
-    ensures { λ r. ⌜ (r ≡ i + 5 * leading low (readRecords (drop i (now (run .entry))))) × (r ≤ length (now (run .entry))) ⌝ }
+    ensures { λ r. ⌜ (r ≡ i + 5 * leading first (readRecords (drop i (now (run .entry))))) × (r ≤ length (now (run .entry))) ⌝ }
 {
     let mut k = i;
     while 5 <= run.len() - k {
-        if low < run[k + 2] {
+        if first < run[k + 2] {
             return k;
         }
         k += 5;
@@ -29,7 +30,7 @@ fn records_before(run: &[u32], i: usize, low: u32) -> usize
 // Writes the records of the run and the holes of its state q, led to the sink, in order: the records before each hole, and then the hole.
 // Like the functions below it answers the place behind what it wrote.
 fn put_merged(run: &[u32], holes: &[u32], q: u32, sink: u32, out: &mut [u32], at: usize) -> usize
-    requires { ⌜ Mergeable sink q (readRecords (now run)) (readSpans (now holes)) × Whole (now run) ⌝ }
+    requires { ⌜ Mergeable sink q (readRecords (now run)) (readSpans (now holes)) × WholeRecords (now run) ⌝ }
     requires { ⌜ at + length (writeRecords (merged sink q (now run) (now holes))) ≤ length (now out) ⌝ }
     ensures { λ r. ⌜ Written (now (out .entry)) at (writeRecords (merged sink q (now (run .entry)) (now (holes .entry)))) (now (out .exit)) r ⌝ }
 {
@@ -91,8 +92,8 @@ fn put_rows(
 }
 
 // The accept word that is written for x: 1 for 0 and 0 for others where acceptance is flipped.
-fn accept_word(flip: bool, x: u32) -> u32
-    ensures { λ r. ⌜ r ≡ acceptWord flip x ⌝ }
+fn flipped_word_if(flip: bool, x: u32) -> u32
+    ensures { λ r. ⌜ r ≡ flippedWordIf flip x ⌝ }
 {
     if flip {
         if x == 0 {
@@ -106,12 +107,12 @@ fn accept_word(flip: bool, x: u32) -> u32
 // Writes accept words, flipped or not.
 fn put_accepts(words: &[u32], flip: bool, out: &mut [u32], at: usize) -> usize
     requires { ⌜ at + length (now words) ≤ length (now out) ⌝ }
-    ensures { λ r. ⌜ Written (now (out .entry)) at (map (acceptWord flip) (now (words .entry))) (now (out .exit)) r ⌝ }
+    ensures { λ r. ⌜ Written (now (out .entry)) at (map (flippedWordIf flip) (now (words .entry))) (now (out .exit)) r ⌝ }
 {
     let mut end = at;
     let mut i = 0;
     while i < words.len() {
-        out[end] = accept_word(flip, words[i]);
+        out[end] = flipped_word_if(flip, words[i]);
         end += 1;
         i += 1;
     }
@@ -134,7 +135,7 @@ fn put_front(s: &[u32], flip: bool, count: u32, out: &mut [u32]) -> usize
     ensures { λ r. ⌜ Written (now (out .entry)) 0 (frontWords flip (now (s .entry)) count) (now (out .exit)) r ⌝ }
 {
     let sink = put_head(s, flip, s[2] + 1, out);
-    let at = stores::put_word(out, sink, accept_word(flip, 0));
+    let at = stores::put_word(out, sink, flipped_word_if(flip, 0));
     stores::put_word(out, at, count)
 }
 
@@ -149,8 +150,8 @@ pub fn put_total(
     holes: &mut [u32],
     out: &mut [u32],
 ) -> usize
-    requires { ⌜ HolesInputs (now s) (now starts) (now holes) × Small lower upper (now s) (now out) count ⌝ }
-    ensures { λ r. ⌜ Written (now (out .entry)) 0 (write (turned flip (totalized lower upper (read (now (s .entry)))))) (now (out .exit)) r ⌝ }
+    requires { ⌜ HolesInputs (now s) (now starts) (now holes) × TotalizedRoom lower upper (now s) (now out) count ⌝ }
+    ensures { λ r. ⌜ Written (now (out .entry)) 0 (write (flippedIf flip (totalized lower upper (read (now (s .entry)))))) (now (out .exit)) r ⌝ }
 {
     let n = s[2];
     let rows = put_front(s, flip, count, out);

@@ -38,7 +38,7 @@ setNumber (q ∷ S) T = index same (q ∷ S) T
 
 -- the transition of a span of state j, which is the set S, as it is noted
 unfoldable pub noteOf : Automaton → List Set → ℕ → Set → Span → Transition
-noteOf A T j S s = record { from = j; kind = 1; first = s .low; last = s .high; to = setNumber (step A S (s .low)) T }
+noteOf A T j S s = record { from = j; kind = 1; first = s .first; last = s .last; to = setNumber (step A S (s .first)) T }
 
 unfoldable pub notesOf : ℕ → ℕ → Automaton → List Set → ℕ → Set → List Transition
 notesOf lower upper A T j S = map (noteOf A T j S) (cutAll lower upper (outgoing A S))

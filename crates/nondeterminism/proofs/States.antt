@@ -1,7 +1,7 @@
--- The loops over the states of a sheet: laws of `is_nfa_sheet` and `count_holes`, and what a state's run has.
-use Prim.Native.Nat.{ℕ, suc, _+_, _*_, _^_, _≤_, _<_, min, max}
+-- The loops over the states of a sheet: what a state's run has, laws of `is_nfa_sheet` and `count_holes`, and the tables that both are given.
+use Prim.Native.Nat.{ℕ, suc, _+_, _*_, _≤_, _<_}
 use mathlib.Core.Bool.{Bool, true, false, _||_}
-use mathlib.Core.List.{List, [], _∷_, flatMap, append-assoc}
+use mathlib.Core.List.{List, [], _∷_, flatMap}
 use mathlib.Core.Path.{_≡_, refl, sym, _∙_, ap}
 use native.Mathlib.Nat.{suc-mul, mul-le-mul, suc-le-suc-iff}
 use native.Mathlib.Omega.{arith}
@@ -9,33 +9,31 @@ use mir.Syntax.{w64}
 use mir.Val.{Fits}
 use borrow.Author.Needs.{needs}
 use lib.Dec.{eqb}
-use lib.ListN.{length, take, drop, length-append}
-use lib.Seq.{take-at, length-take-le, sets, sets-eq, length-sets}
-use Rattle.stores.specs.Written.{Written}
+use lib.ListN.{length, drop, replicate, length-append, length-replicate}
+use lib.Seq.{sets}
 use Rattle.lists.specs.Lists.{any}
 use Rattle.lists.proofs.Lists.{length-filter}
-use Rattle.automata.specs.Automaton.{Transition, Automaton, leaving, rangesOf, states}
+use Rattle.automata.specs.Automaton.{Automaton, leaving, rangesOf, states}
 use Rattle.automata.specs.Records.{readRecords, writeRecords}
 use Rattle.automata.proofs.States.{length-states, states-at, states-end}
 use Rattle.automata.proofs.Records.{read-write, length-write}
 use Rattle.automata.specs.WellFormed.{WellFormed}
-use Rattle.ranges.specs.Span.{Span}
 use Rattle.ranges.specs.Missing.{SortedRanges, missing}
-use Rattle.ranges.specs.inner.Missing.{gap, scan, spanWords}
 use Rattle.ranges.proofs.Missing.{missing-scan}
-use Rattle.ranges.proofs.Writing.{words-length, gap-short}
+use Rattle.ranges.proofs.Writing.{scan-short}
 use Rattle.ranges.proofs.Sorting.{leaving-sorted}
-use Rattle.sheets.specs.inner.Runs.{RunAt}
+use Rattle.sheets.specs.inner.Accepted.{Accepted}
+use Rattle.sheets.specs.inner.Runs.{startsOf, RunAt}
 use Rattle.sheets.specs.Sheet.{stateCount, read}
 use Rattle.sheets.proofs.Meaning.{read-well, read-fits}
-use Rattle.sheets.proofs.Runs.{run-at}
-use Rattle.totality.specs.Totality.{holesOf, isNfaAt, isNfaIn, isNfa, filled, holesIn}
-use Rattle.totality.specs.inner.Merging.{readSpans, Mergeable, merged, Fillable, HolesInputs}
+use Rattle.sheets.proofs.Runs.{run-at, starts-indexed}
+use Rattle.nondeterminism.specs.Nondeterminism.{holesOf, isNfaAt, isNfaIn, isNfa, holesIn}
+use Rattle.nondeterminism.specs.inner.Holes.{HolesInputs}
 
 -- the run of a state of a sheet
 module _ (s starts holes : List ℕ) (r : HolesInputs s starts holes) where
-  pub ready-run : (q : ℕ) → q < stateCount s → RunAt s starts q
-  ready-run q h = run-at s (r .accepted) starts q (r .indexed) h
+  pub state-run : (q : ℕ) → q < stateCount s → RunAt s starts q
+  state-run q h = run-at s (r .accepted) starts q (r .indexed) h
 
   module _ (q : ℕ) (run : List ℕ) (e : run ≡ writeRecords (leaving (read s) q)) where
     pub run-records : readRecords run ≡ leaving (read s) q
@@ -77,16 +75,7 @@ module _ (lower upper : ℕ) (s : List ℕ) (q : ℕ) (e : isNfa lower upper (re
     pub nfa-next : b ≡ false → isNfa lower upper (read s) ≡ isNfaIn lower upper (read s) (drop (q + 1) (states (stateCount s)))
     nfa-next p = nfa-at ∙ rw p
 
-pub ruleset sheetLaws = (nfa-start, nfa-ended, nfa-found, nfa-next, ready-run, run-sorted, run-room, needs)
-
--- sorted ranges leave at most one hole more than they are
-scan-short : (c upper : ℕ) (es : List Transition) → length (scan c upper es) ≤ suc (length es)
-unfolding scan
-scan-short c upper [] = gap-short c (suc upper)
-scan-short c upper (e ∷ es) =
-    let b = min (e .first) (suc upper) in
-    let d = max c (suc (e .last)) in
-    omega (arith, length-append (gap c b) (scan d upper es), gap-short c b, scan-short d upper es)
+pub ruleset sheetLaws = (nfa-start, nfa-ended, nfa-found, nfa-next, state-run, run-sorted, run-room, needs)
 
 -- a state has at most one hole more than its automaton has transitions
 holes-few : (lower upper : ℕ) (A : Automaton) → WellFormed A → (qs : List ℕ) → length (holesIn lower upper A qs) ≤ length qs * suc (length (A .transitions))
@@ -134,63 +123,18 @@ module _ (lower upper : ℕ) (s : List ℕ) (count q : ℕ) (e : count + length 
     pub count-fits : (starts holes : List ℕ) → HolesInputs s starts holes → Fits w64 (count + k)
     count-fits starts holes r = record { fits = omega (arith, count-next, holes-bound lower upper s starts holes r) }
 
-pub ruleset countLaws = (count-start, count-ended, count-next, count-fits, ready-run, run-sorted, run-room, needs)
+pub ruleset countLaws = (count-start, count-ended, count-next, count-fits, state-run, run-sorted, run-room, needs)
 
--- spans as words, and read again
-read-spans : (hs : List Span) → readSpans (spanWords hs) ≡ hs
-unfolding readSpans spanWords
-read-spans [] = refl
-read-spans (s ∷ hs) = ap (λ l. s ∷ l) (read-spans hs)
+-- an accepted sheet, where its runs begin, and room for holes
+pub holes-inputs : (s old starts holes : List ℕ) → Accepted s → starts ≡ sets old 0 (startsOf s) → length old ≡ 257 → length holes ≡ 4098 → HolesInputs s starts holes
+holes-inputs s old starts holes a e l m = record { accepted = a; indexed = starts-indexed s old starts e (omega (arith, a .few-states)); long = m }
 
--- the holes of a run are found and stand at the front of h′
-module _ (lower upper sink q : ℕ) (run h h′ : List ℕ) (f : Fillable lower upper sink q run h) (k : ℕ) (e : k ≡ length (missing lower upper (rangesOf (readRecords run))))
-    (w : h′ ≡ sets h 0 (spanWords (missing lower upper (rangesOf (readRecords run))))) where
-  hs : List Span
-  hs = missing lower upper (rangesOf (readRecords run))
+-- the same in new arrays
+pub fresh-inputs : (s starts : List ℕ) → Accepted s → starts ≡ sets (replicate 257 0) 0 (startsOf s) → HolesInputs s starts (replicate 4098 0)
+fresh-inputs s starts a e = holes-inputs s (replicate 257 0) starts (replicate 4098 0) a e (length-replicate {A = ℕ} 257 0) (length-replicate {A = ℕ} 4098 0)
 
-  half-room : 2 * k ≤ length h
-  unfolding rangesOf
-  half-room =
-      omega (
-        arith,
-        f .room,
-        f .whole,
-        e,
-        ap length (missing-scan lower upper (rangesOf (readRecords run)) (f .sorted)),
-        scan-short lower upper (rangesOf (readRecords run)),
-        length-filter (λ e. eqb (e .kind) 1) (readRecords run),
-      )
+-- the same where holes were written
+pub inputs-after : (s starts h h′ : List ℕ) → HolesInputs s starts h → length h′ ≡ length h → HolesInputs s starts h′
+inputs-after s starts h h′ r e = record { accepted = r .accepted; indexed = r .indexed; long = e ∙ r .long }
 
-  pub half-within : 2 * k ≤ length h′
-  half-within = omega (arith, half-room, ap length w, length-sets h 0 (spanWords (missing lower upper (rangesOf (readRecords run)))))
-
-  pub half-fits : length h < 2 ^ 64 → Fits w64 (2 * k)
-  half-fits l = record { fits = omega (arith, half-room) }
-
-  pub half-length : 2 * k ≡ length (take (2 * k) h′)
-  half-length = sym (length-take-le (2 * k) h′ half-within)
-
-  half-words : take (2 * k) h′ ≡ spanWords hs
-  unfolding hs
-  half-words =
-      let n : length (spanWords hs) ≡ 2 * k = omega (arith, words-length hs, e) in
-      rw (w, sets-eq (spanWords hs) h 0 (omega (arith, half-room)), append-assoc [] (spanWords hs) (drop (0 + length (spanWords hs)) h)) (take-at (spanWords hs) _ (2 * k) n)
-
-  half-spans : readSpans (take (2 * k) h′) ≡ holesOf lower upper (readRecords run)
-  unfolding hs holesOf
-  half-spans = rw half-words (read-spans hs)
-
-  pub half-mergeable : Mergeable sink q (readRecords run) (readSpans (take (2 * k) h′))
-  half-mergeable = rw half-spans (f .mergeable)
-
-  half-merged : merged sink q run (take (2 * k) h′) ≡ filled lower upper sink q (readRecords run)
-  unfolding merged filled
-  half-merged = rw half-spans
-
-  pub half-room-out : (o : List ℕ) (at : ℕ) → at + length (writeRecords (filled lower upper sink q (readRecords run))) ≤ length o → at + length (writeRecords (merged sink q run (take (2 * k) h′))) ≤ length o
-  half-room-out o at r = rw half-merged r
-
-  pub half-written : (o o′ : List ℕ) (at end : ℕ) → Written o at (writeRecords (merged sink q run (take (2 * k) h′))) o′ end → Written o at (writeRecords (filled lower upper sink q (readRecords run))) o′ end
-  half-written o o′ at end v = rw half-merged at v
-
-pub ruleset filledLaws = (half-within, half-fits, half-length, half-mergeable, half-room-out, half-written, needs)
+pub ruleset inputsLaws = (fresh-inputs, needs)

@@ -1,7 +1,6 @@
--- When `is_nfa` is true, and when it is false: exactly where every symbol has one transition in every state and no epsilon stands. And the words of the
--- complement.
+-- When `is_nfa` is true, and when it is false: exactly where every symbol has one transition in every state and no epsilon stands.
 use Prim.Native.Nat.{ℕ, suc, _+_, _≤_, _<_}
-use mathlib.Core.Bool.{Bool, true, false, cond, false≢true}
+use mathlib.Core.Bool.{true, false, cond, false≢true}
 use mathlib.Core.List.{List, [], _∷_, List·Memᴰ·head, List·Memᴰ·not-nil}
 use mathlib.Core.Logic.{⊎-elim, _↔_}
 use mathlib.Core.Path.{_≡_, refl, sym, _∙_, ap}
@@ -14,34 +13,31 @@ use lib.Seq.{getD-drop}
 use Rattle.lists.specs.Lists.{_∈_, any, filter}
 use Rattle.lists.proofs.Tests.{test, and-both, and-parts, or-cases, or-false}
 use Rattle.lists.proofs.Lists.{any-in, any-out}
-use Rattle.automata.specs.Automaton.{Transition, Automaton, Accepts, Word, holds, carries, leaving, rangesOf, states, hasEpsilon, EpsilonFree}
+use Rattle.automata.specs.Automaton.{Transition, Automaton, holds, carries, leaving, rangesOf, states, hasEpsilon}
 use Rattle.automata.specs.WellFormed.{WellFormed, lastSymbol}
 use Rattle.ranges.specs.Missing.{missing, Free}
-use Rattle.ranges.specs.Span.{Span, overlapping, OverlapFree}
+use Rattle.ranges.specs.Span.{Span, overlapping}
 use Rattle.lists.proofs.Every.{any-none}
 use Rattle.automata.proofs.States.{states-in, states-out}
 use Rattle.ranges.proofs.Held.{held}
 use Rattle.ranges.proofs.Overlap.{overlap-shared, one-each}
-use Rattle.ranges.proofs.Functional.{overlap-functional}
 use Rattle.ranges.proofs.Sorting.{leaving-sorted}
 use Rattle.sheets.specs.Sheet.{recordsAt, read}
 use Rattle.automata.specs.Deterministic.{Deterministic}
-use Rattle.totality.specs.Totality.{holesOf, isNfaAt, isNfaIn, isNfa, Settled, Unsettled, epsilon, overlap, hole, Complete, totalized, flipped, complemented}
-use Rattle.automata.proofs.Leaving.{leaves, leaving-in, leaving-range}
+use Rattle.nondeterminism.specs.Nondeterminism.{holesOf, isNfaAt, isNfaIn, isNfa, DeterministicAt, Nondeterministic, epsilon, overlap, hole, CompleteAutomaton}
+use Rattle.automata.proofs.Leaving.{leaves, leaving-in, leaving-range, range-leaves}
 use Rattle.automata.proofs.Records.{records-most}
-use Rattle.totality.proofs.Rows.{state-holes}
-use Rattle.totality.proofs.Totalized.{totalized-well}
-use Rattle.totality.proofs.Words.{unranged, held-or-free, words-kept, flipped-words, total-complete, total-functional}
+use Rattle.nondeterminism.proofs.Holes.{state-holes, held-or-free}
 
 none-long : {X : Type 0} (l : List X) → ltb 0 (length l) ≡ false → l ≡ []
 none-long [] h = refl
 none-long (x ∷ l) h = absurd (omega (arith, ltb-false 0 (suc (length l)) h))
 
 module _ (lower upper : ℕ) (A : Automaton) where
-  -- `is_nfa` is false exactly where this holds of every state
-  pub settled-exact : (isNfa lower upper A ≡ false) ↔ ((q : ℕ) → q < A .size → Settled lower upper (leaving A q))
+  -- `is_nfa` is false exactly where no state has an epsilon, an overlap or a hole
+  pub deterministic-at-exact : (isNfa lower upper A ≡ false) ↔ ((q : ℕ) → q < A .size → DeterministicAt lower upper (leaving A q))
   unfolding isNfa isNfaIn isNfaAt
-  settled-exact = (
+  deterministic-at-exact = (
     λ h q l.
         let a = or-false (hasEpsilon (leaving A q)) _ (any-none (λ q. isNfaAt lower upper (leaving A q)) (states (A .size)) h q (states-in (A .size) q l)) in
         let b = or-false (overlapping (rangesOf (leaving A q))) _ (a .1) in
@@ -51,26 +47,27 @@ module _ (lower upper : ℕ) (A : Automaton) where
         (λ (t : isNfa lower upper A ≡ true).
         let (q, m, k) = any-out (λ q. isNfaAt lower upper (leaving A q)) (states (A .size)) t in
         let s = f q (states-out (A .size) q m) in
-        absurd (false≢true (sym (settled-not q s) ∙ k)))
+        absurd (false≢true (sym (at-false q s) ∙ k)))
         (λ t. t) (test (isNfa lower upper A)),
   )
     where
-      settled-not : (q : ℕ) → Settled lower upper (leaving A q) → isNfaAt lower upper (leaving A q) ≡ false
-      settled-not q s = rw (s .no-epsilon, s .no-overlap, s .no-hole)
+      at-false : (q : ℕ) → DeterministicAt lower upper (leaving A q) → isNfaAt lower upper (leaving A q) ≡ false
+      at-false q s = rw (s .no-epsilon, s .no-overlap, s .no-hole)
 
   module _ (v : WellFormed A) where
-    own-complete : isNfa lower upper A ≡ false → Complete lower upper A
-    own-complete n =
+    -- then every symbol has a transition in every state
+    pub deterministic-complete : isNfa lower upper A ≡ false → CompleteAutomaton lower upper A
+    deterministic-complete n =
         record {
-          next = λ p x h l u. ⊎-elim (λ r. r) (λ (s, m, i). absurd (List·Memᴰ·not-nil (rw (settled-exact .0 n p h .no-hole) at m))) (held-or-free lower upper A v p x l u);
+          next = λ p x h l u. ⊎-elim (λ r. r) (λ (s, m, i). absurd (List·Memᴰ·not-nil (rw (deterministic-at-exact .0 n p h .no-hole) at m))) (held-or-free A v p lower upper x l u);
         }
 
-    no-unsettled : isNfa lower upper A ≡ false → Unsettled lower upper A → ⊥
+    not-nondeterministic : isNfa lower upper A ≡ false → Nondeterministic lower upper A → ⊥
     unfolding hasEpsilon carries
-    no-unsettled n (epsilon e m k) = false≢true (sym (settled-exact .0 n (e .from) (v .states .froms e m) .no-epsilon) ∙ any-in (λ e. eqb (e .kind) 0) (leaving-in A (e .from) e m refl) (eq-eqb _ _ k))
-    no-unsettled n (overlap q l s) = false≢true (sym (settled-exact .0 n q l .no-overlap) ∙ overlap-shared (rangesOf (leaving A q)) (leaving-sorted A q v) .1 s)
-    no-unsettled n (hole q x l a b f) =
-        let (e, m, c, k, i, j) = own-complete n .next q x l a b in
+    not-nondeterministic n (epsilon e m k) = false≢true (sym (deterministic-at-exact .0 n (e .from) (v .states .froms e m) .no-epsilon) ∙ any-in (λ e. eqb (e .kind) 0) (leaving-in A (e .from) e m refl) (eq-eqb _ _ k))
+    not-nondeterministic n (overlap q l s) = false≢true (sym (deterministic-at-exact .0 n q l .no-overlap) ∙ overlap-shared (rangesOf (leaving A q)) (leaving-sorted A q v) .1 s)
+    not-nondeterministic n (hole q x l a b f) =
+        let (e, m, c, k, i, j) = deterministic-complete n .next q x l a b in
         false≢true (sym (f e m) ∙ and-both _ _ (eq-eqb _ _ c) (and-both _ _ (eq-eqb _ _ k) (held x e i j)))
 
     unheld : (q x : ℕ) → Free x (rangesOf (leaving A q)) → (e : Transition) → e ∈ A .transitions → carries q x e ≡ false
@@ -83,17 +80,17 @@ module _ (lower upper : ℕ) (A : Automaton) where
         absurd (false≢true (sym (free e (leaving-range A q e (leaving-in A q e m (eqb-true _ _ (p .0))) (eqb-true _ _ (r .0)))) ∙ r .1)))
         (λ t. t) (test (carries q x e))
 
-    first-hole : (q : ℕ) → q < A .size → (hs : List Span) → holesOf lower upper (leaving A q) ≡ hs → 0 < length hs → Unsettled lower upper A
+    first-hole : (q : ℕ) → q < A .size → (hs : List Span) → holesOf lower upper (leaving A q) ≡ hs → 0 < length hs → Nondeterministic lower upper A
     first-hole q l [] c n = absurd (omega arith)
     first-hole q l (h ∷ hs) c n =
         let m : h ∈ holesOf lower upper (leaving A q) = rw c (List·Memᴰ·head refl) in
-        let (a, b, free) = state-holes A v q lower upper .exact (h .low) .0 (h, m, record { above = omega arith; below = state-holes A v q lower upper .full h m }) in
-        hole q (h .low) l a b (unheld q (h .low) free)
+        let (a, b, free) = state-holes A v q lower upper .exact (h .first) .0 (h, m, record { above = omega arith; below = state-holes A v q lower upper .full h m }) in
+        hole q (h .first) l a b (unheld q (h .first) free)
 
     -- `is_nfa` is true exactly where there is an epsilon, an overlap or a hole
-    pub unsettled-exact : (isNfa lower upper A ≡ true) ↔ Unsettled lower upper A
+    pub nondeterministic-exact : (isNfa lower upper A ≡ true) ↔ Nondeterministic lower upper A
     unfolding isNfa isNfaIn isNfaAt hasEpsilon
-    unsettled-exact = (
+    nondeterministic-exact = (
       λ h.
           let (q, m, k) = any-out (λ q. isNfaAt lower upper (leaving A q)) (states (A .size)) h in
           let l = states-out (A .size) q m in
@@ -102,19 +99,8 @@ module _ (lower upper : ℕ) (A : Automaton) where
           ⊎-elim (λ u. overlap q l (overlap-shared (rangesOf (leaving A q)) (leaving-sorted A q v) .0 u)) (λ u. first-hole q l (holesOf lower upper (leaving A q)) refl (ltb-true 0 _ u))
           (or-cases (overlapping (rangesOf (leaving A q))) _ t))
           (or-cases (hasEpsilon (leaving A q)) _ k),
-      λ u. ⊎-elim (λ t. t) (λ (n : isNfa lower upper A ≡ false). absurd (no-unsettled n u)) (test (isNfa lower upper A)),
+      λ u. ⊎-elim (λ t. t) (λ (n : isNfa lower upper A ≡ false). absurd (not-nondeterministic n u)) (test (isNfa lower upper A)),
     )
-
-    -- where no epsilon and no overlap stood, the complement's words are the others
-    pub other-words : lower ≤ upper → EpsilonFree A → OverlapFree A → (w : List ℕ) → Word lower upper w → Accepts (complemented lower upper A) w ↔ (Accepts A w → ⊥)
-    unfolding complemented
-    other-words c ranges apart w i = go (isNfa lower upper A) refl
-      where
-        go : (b : Bool) → isNfa lower upper A ≡ b → Accepts (flipped (cond b (totalized lower upper A) A)) w ↔ (Accepts A w → ⊥)
-        go true e =
-            let f = flipped-words lower upper (totalized lower upper A) (totalized-well lower upper A v c) (total-complete lower upper A v) (total-functional lower upper A v ranges apart) w i in
-            (λ a n. f .0 a (words-kept lower upper A v w .1 n), λ n. f .1 (λ a. n (words-kept lower upper A v w .0 a)))
-        go false e = flipped-words lower upper A v (own-complete e) (overlap-functional A v ranges apart) w i
 
 -- the transitions under a symbol are the ranges of the state that hold it
 carried : (q x : ℕ) (ts : List Transition) → filter (carries q x) ts ≡ filter (holds x) (filter (λ e. eqb (e .kind) 1) (filter (λ e. eqb (e .from) q) ts))
@@ -129,7 +115,7 @@ carried q x (e ∷ ts) =
 
 module _ (lower upper : ℕ) (A : Automaton) (v : WellFormed A) (within : (e : Transition) → e ∈ A .transitions → e .kind ≡ 1 → (lower ≤ e .first) × (e .last ≤ upper)) where
   each : (q : ℕ) → ((overlapping (rangesOf (leaving A q)) ≡ false) × (missing lower upper (rangesOf (leaving A q)) ≡ [])) ↔ ((x : ℕ) → lower ≤ x → x ≤ upper → (d : Transition) × (filter (holds x) (rangesOf (leaving A q)) ≡ d ∷ []))
-  each q = one-each lower upper (rangesOf (leaving A q)) (leaving-sorted A q v) (λ e m. let (i, c, k) = unranged lower upper A v q e m in within e i k)
+  each q = one-each lower upper (rangesOf (leaving A q)) (leaving-sorted A q v) (λ e m. let (i, c, k) = range-leaves A q e m in within e i k)
 
   held-are : (q x : ℕ) → filter (carries q x) (A .transitions) ≡ filter (holds x) (rangesOf (leaving A q))
   unfolding rangesOf leaving
@@ -141,16 +127,16 @@ module _ (lower upper : ℕ) (A : Automaton) (v : WellFormed A) (within : (e : T
   deterministic-exact = (
     λ n. record {
       ranges = λ e m.
-          let s = settled-exact lower upper A .0 n (e .from) (v .states .froms e m) in
+          let s = deterministic-at-exact lower upper A .0 n (e .from) (v .states .froms e m) in
           let k = eqb-false (e .kind) 0 (any-none (λ e. eqb (e .kind) 0) (leaving A (e .from)) (s .no-epsilon) e (leaving-in A (e .from) e m refl)) in
           ⊎-elim (λ c. c) (λ (c : e .kind < 1). absurd (k (omega arith))) (eq-or-lt-of-le (v .sound e m .known));
       one = λ q x h l u.
-          let s = settled-exact lower upper A .0 n q h in
+          let s = deterministic-at-exact lower upper A .0 n q h in
           let (d, c) = each q .0 (s .no-overlap, s .no-hole) x l u in
           (d, held-are q x ∙ c);
     },
     λ d.
-        settled-exact lower upper A .1
+        deterministic-at-exact lower upper A .1
         (λ q h.
         let p = each q .1 (λ x l u. let (t, c) = d .one q x h l u in (t, sym (held-are q x) ∙ c)) in
         record { no-epsilon = silent d q; no-overlap = p .0; no-hole = p .1 }),

@@ -1,13 +1,16 @@
-// Epsilons, overlaps and holes of the states of a sheet. Each record is read once: the holes of a state are found in one pass over its run.
+// `is_nfa`: epsilons, overlaps and holes of the states of a sheet. Each record is read once: the holes of a state are found in one pass over its run.
 ghost use mathlib.Core.Path.{_≡_};
 ghost use Prim.Native.Nat.{_+_, _*_, _≤_, _<_};
 ghost use lib.ListN.{length};
 ghost use Rattle.automata.specs.Automaton.{states, rangesOf, hasEpsilon};
 ghost use Rattle.automata.specs.Records.{readRecords};
 ghost use Rattle.ranges.specs.Missing.{SortedRanges};
+ghost use Rattle.refusal.specs.Decision.{decisionOf};
+ghost use Rattle.sheets.specs.inner.Accepted.{Accepted};
 ghost use Rattle.sheets.specs.Sheet.{stateCount, read};
-ghost use Rattle.totality.specs.Totality.{isNfaAt, isNfa, holesIn};
-ghost use Rattle.totality.specs.inner.Merging.{HolesInputs};
+ghost use Rattle.nondeterminism.specs.Nondeterminism.{isNfaAt, isNfa, isNfaAnswer, holesIn};
+ghost use Rattle.nondeterminism.specs.inner.Holes.{HolesInputs};
+use refusal::Decision;
 
 // Whether an epsilon stands in the run.
 fn has_epsilon(run: &[u32]) -> bool
@@ -38,7 +41,7 @@ fn is_nfa_run(run: &[u32], lower: u32, upper: u32, holes: &mut [u32]) -> bool
 }
 
 // Whether some state has an epsilon, an overlap or a hole from lower to upper.
-pub fn is_nfa_sheet(s: &[u32], starts: &[u32], lower: u32, upper: u32, holes: &mut [u32]) -> bool
+fn is_nfa_sheet(s: &[u32], starts: &[u32], lower: u32, upper: u32, holes: &mut [u32]) -> bool
     requires { ⌜ HolesInputs (now s) (now starts) (now holes) ⌝ }
     ensures { λ r. ⌜ r ≡ isNfa lower upper (read (now (s .entry))) ⌝ }
 {
@@ -66,4 +69,25 @@ pub fn count_holes(s: &[u32], starts: &[u32], lower: u32, upper: u32, holes: &mu
         q += 1;
     }
     count
+}
+
+// Whether some state of an accepted sheet has an epsilon, an overlap or a hole from lower to upper.
+pub fn is_nfa_between(s: &[u32], lower: u32, upper: u32) -> bool
+    requires { ⌜ Accepted (now s) ⌝ }
+    ensures { λ r. ⌜ r ≡ isNfa lower upper (read (now (s .entry))) ⌝ }
+{
+    let mut starts = [0u32; 257];
+    let mut holes = [0u32; 4098];
+    sheets::run_starts(s, &mut starts);
+    is_nfa_sheet(s, &starts, lower, upper, &mut holes)
+}
+
+// Whether a sheet has an epsilon, an overlap or a hole.
+pub fn is_nfa(s: &[u32]) -> Decision
+    ensures { λ r. ⌜ decisionOf r ≡ isNfaAnswer 0 4294967295 (now (s .entry)) ⌝ }
+{
+    match sheets::check(s) {
+        sheets::Checked::Accepted => Decision::Is(is_nfa_between(s, 0, 4294967295)),
+        sheets::Checked::Refused(r) => Decision::Refused(r),
+    }
 }

@@ -4,9 +4,9 @@ use mathlib.Core.Path.{_≡_}
 use lib.ListN.{length, drop}
 use Rattle.automata.specs.Records.{readRecords}
 use Rattle.automata.specs.Automaton.{hasEpsilon}
-use Rattle.totality.proofs.Runs.{epsilonLaws}
-use Rattle.totality.proofs.nfa.has_epsilon.Statement.{statement}
-use Rattle.totality.proofs.nfa.has_epsilon.Tie as tie
+use Rattle.nondeterminism.proofs.Runs.{epsilonLaws}
+use Rattle.nondeterminism.proofs.has_epsilon.Statement.{statement}
+use Rattle.nondeterminism.proofs.has_epsilon.Tie as tie
 
 abbrev Inv-loop : tie.InvT-loop
 Inv-loop run at₀ at = (at ≤ length run) × (hasEpsilon (readRecords run) ≡ hasEpsilon (readRecords (drop at run)))

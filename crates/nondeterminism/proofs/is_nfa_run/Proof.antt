@@ -1,7 +1,7 @@
 -- `is_nfa_run` meets its contract: the three tests are those of the definition.
-use Rattle.totality.proofs.Runs.{nfaLaws}
-use Rattle.totality.proofs.nfa.is_nfa_run.Statement.{statement}
-use Rattle.totality.proofs.nfa.is_nfa_run.Tie as tie
+use Rattle.nondeterminism.proofs.Runs.{nfaLaws}
+use Rattle.nondeterminism.proofs.is_nfa_run.Statement.{statement}
+use Rattle.nondeterminism.proofs.is_nfa_run.Tie as tie
 
 pub is-nfa-run-spec : {M : Type 1} → statement M
 is-nfa-run-spec =

@@ -4,10 +4,10 @@ use mathlib.Core.Path.{_≡_}
 use lib.ListN.{length, drop}
 use Rattle.automata.specs.Automaton.{states}
 use Rattle.sheets.specs.Sheet.{stateCount, read}
-use Rattle.totality.specs.Totality.{isNfaIn, isNfa}
-use Rattle.totality.proofs.States.{sheetLaws}
-use Rattle.totality.proofs.nfa.is_nfa_sheet.Statement.{statement}
-use Rattle.totality.proofs.nfa.is_nfa_sheet.Tie as tie
+use Rattle.nondeterminism.specs.Nondeterminism.{isNfaIn, isNfa}
+use Rattle.nondeterminism.proofs.States.{sheetLaws}
+use Rattle.nondeterminism.proofs.is_nfa_sheet.Statement.{statement}
+use Rattle.nondeterminism.proofs.is_nfa_sheet.Tie as tie
 
 abbrev Inv-loop : tie.InvT-loop
 Inv-loop s starts lower upper holes₀ n q₀ holes q = (n ≡ stateCount s) × (q ≤ n) × (length holes ≡ length holes₀) × (isNfa lower upper (read s) ≡ isNfaIn lower upper (read s) (drop q (states (stateCount s))))

@@ -4,10 +4,10 @@ use mathlib.Core.Path.{_≡_}
 use lib.ListN.{length, drop}
 use Rattle.automata.specs.Automaton.{states}
 use Rattle.sheets.specs.Sheet.{stateCount, read}
-use Rattle.totality.specs.Totality.{holesIn}
-use Rattle.totality.proofs.States.{countLaws}
-use Rattle.totality.proofs.nfa.count_holes.Statement.{statement}
-use Rattle.totality.proofs.nfa.count_holes.Tie as tie
+use Rattle.nondeterminism.specs.Nondeterminism.{holesIn}
+use Rattle.nondeterminism.proofs.States.{countLaws}
+use Rattle.nondeterminism.proofs.count_holes.Statement.{statement}
+use Rattle.nondeterminism.proofs.count_holes.Tie as tie
 
 abbrev Inv-loop : tie.InvT-loop
 Inv-loop s starts lower upper holes₀ n count₀ q₀ holes count q = (n ≡ stateCount s) × (q ≤ n) × (length holes ≡ length holes₀) × (count + length (holesIn lower upper (read s) (drop q (states (stateCount s)))) ≡ length (holesIn lower upper (read s) (states (stateCount s))))

@@ -13,7 +13,7 @@ use Rattle.automata.specs.Records.{readRecords}
 use Rattle.automata.proofs.Records.{records-at, records-end}
 use Rattle.ranges.specs.Span.{overlapping}
 use Rattle.ranges.specs.Missing.{missing}
-use Rattle.totality.specs.Totality.{holesOf, isNfaAt}
+use Rattle.nondeterminism.specs.Nondeterminism.{holesOf, isNfaAt}
 
 -- the records from `at` on decide whether there is an epsilon
 module _ (s : List ℕ) (at : ℕ) (e : hasEpsilon (readRecords s) ≡ hasEpsilon (readRecords (drop at s))) where
