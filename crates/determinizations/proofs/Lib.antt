@@ -1,0 +1,3 @@
+-- The theory of two determinizations, and what the functions' proofs cite.
+pub mod Theorems
+pub mod Fronts
