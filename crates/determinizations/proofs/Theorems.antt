@@ -26,15 +26,7 @@ use Rattle.determinize.specs.Reached.{MoreThan}
 use Rattle.determinize.proofs.Theorems.{determinize-words, determinize-deterministic, determinize-wellformed, determinize-fits, determinize-given, refused-21, refused-22}
 use Rattle.determinizations.specs.Two.{Two, totalSize}
 use Rattle.determinizations.specs.Determinizations.{withSecond, withFirst, determinized, Overfull, Limits}
-
-module _ {X : Type 0} where
-  -- an answer is not both refused and given
-  pub not-given : {a : Answer X} {n : ℕ} {x : X} → a ≡ refused n → a ≡ given x → ⊥
-  not-given e f = let z : _≡_ {A = ℕ} 0 1 = cc in omega arith
-
-  -- and not refused with two numbers
-  pub one-number : {a : Answer X} {m n : ℕ} → a ≡ refused m → a ≡ refused n → m ≡ n
-  one-number e f = cc
+use Rattle.determinizations.proofs.Answers.{not-given, one-number}
 
 -- one determinization
 module _ (lower upper : ℕ) (A : Automaton) (ok : InBounds A) where
@@ -58,7 +50,7 @@ module _ (lower upper : ℕ) (A : Automaton) (ok : InBounds A) where
       not-given e (d .1)
 
 -- t are both determinizations
-pub record Parts (lower upper : ℕ) (A B : Automaton) (t : Two) : Type 0 where
+pub record BothGiven (lower upper : ℕ) (A B : Automaton) (t : Two) : Type 0 where
   pub first : determinize lower upper A ≡ given (t .one)
   pub second : determinize lower upper B ≡ given (t .two)
   pub are : t ≡ record { one = t .one; two = t .two; lower = lower; upper = upper }
@@ -86,7 +78,7 @@ module _ (lower upper : ℕ) (A B : Automaton) where
   unfolding determinized withFirst withSecond
   determinized-both D E d e = rw (d, e)
 
-  pub determinized-parts : (t : Two) → determinized lower upper A B ≡ given t → Parts lower upper A B t
+  pub determinized-parts : (t : Two) → determinized lower upper A B ≡ given t → BothGiven lower upper A B t
   unfolding determinized
   determinized-parts t e =
       let d = answers-given lower upper t (determinize lower upper A) (determinize lower upper B) e in

@@ -20,7 +20,8 @@ use Rattle.sheets.proofs.Numbers.{sheet-first, sheet-given, sheet-number}
 use Rattle.output.proofs.Left.{number-some}
 use Rattle.determinizations.specs.Two.{Two}
 use Rattle.determinizations.specs.Determinizations.{determinized, Limits}
-use Rattle.determinizations.proofs.Theorems.{not-given, one-number, determinized-number, determinized-given}
+use Rattle.determinizations.proofs.Answers.{not-given, one-number}
+use Rattle.determinizations.proofs.Theorems.{determinized-number, determinized-given}
 use Rattle.equality.specs.declared.Verdict.{Verdict}
 use Rattle.equality.specs.declared.Verdict.the-variants.{Same, Different, Refused}
 use Rattle.equality.specs.Verdict.{Decided}
