@@ -6,8 +6,8 @@ use mathlib.Core.Path.{_≡_, refl, sym, subst}
 use native.Mathlib.Omega.{arith}
 use lib.ListN.{length}
 use Rattle.automata.specs.WellFormed.{lastSymbol}
+use Rattle.determinizations.specs.Two.{Two, totalSize}
 use Rattle.equality.specs.Equality.{wordSize, Differs, Exact}
-use Rattle.equality.specs.Forced.{Two, totalSize}
 use Rattle.equality.specs.declared.Verdict.{Verdict}
 use Rattle.equality.specs.declared.Verdict.the-variants.{Same, Different, Refused}
 use Rattle.ringmatch.specs.Reply.{VerdictReply, tellVerdict}

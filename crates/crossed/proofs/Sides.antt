@@ -47,7 +47,7 @@ module _ (s : List ℕ) (f : fault s ≡ 0) (D : Automaton) (e : determinize 0 l
   pub between : Between 0 lastSymbol D
   between = determinize-between 0 lastSymbol (read s) (well-read .states) D e
 
-  pub fits : Fits D
+  fits : Fits D
   fits = determinize-fits 0 lastSymbol (read s) (well-read .states) D e
 
   pub no-fault : fault (write D) ≡ 0

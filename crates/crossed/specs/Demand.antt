@@ -6,10 +6,13 @@ use mathlib.Core.Logic.{_⊎_, _↔_}
 use mathlib.Core.Path.{_≡_}
 use Rattle.automata.specs.Automaton.{Automaton}
 use Rattle.automata.specs.WellFormed.{mostStates, mostTransitions, lastSymbol}
+use Rattle.automata.specs.SameWords.{SameWords}
 use Rattle.determinize.specs.Determinize.{determinize}
+use Rattle.determinizations.specs.Two.{Two, totalSize}
+use Rattle.determinizations.specs.Determinizations.{Limits}
 use Rattle.dsu.specs.Classes.{Classes}
-use Rattle.equality.specs.Equality.{wordSize, Limits, SameWords, Differs}
-use Rattle.equality.specs.Forced.{Two, totalSize, Forced, Smallest}
+use Rattle.equality.specs.Equality.{wordSize, Differs}
+use Rattle.equality.specs.Forced.{Forced, Smallest}
 use Rattle.product.specs.Reached.{ManyPairs, ManyTransitions}
 use Rattle.refusal.specs.Answer.{given}
 use Rattle.sheets.specs.Fault.{fault}

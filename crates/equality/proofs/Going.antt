@@ -11,14 +11,15 @@ use Rattle.sheets.specs.inner.Runs.{startsOf, RunAt}
 use Rattle.sheets.specs.Sheet.{stateCount, read}
 use Rattle.sheets.proofs.Runs.{run-at, starts-indexed}
 use lib.Seq.{sets}
+use Rattle.determinizations.specs.Two.{totalSize}
+use Rattle.determinizations.specs.inner.Sheets.{twoOf}
 use Rattle.equality.specs.declared.pairs.Seen.{Seen}
 use Rattle.equality.specs.declared.pairs.Seen.the-variants.{Alike, Differ}
 use Rattle.equality.specs.declared.Verdict.the-variants.{Same, Different}
 use Rattle.automata.specs.Successors.{stateAfter}
-use Rattle.equality.specs.Forced.{totalSize}
 use Rattle.equality.specs.inner.Walking.{trail, Closed, Chained, Spelled}
 use Rattle.equality.specs.Verdict.{Decided}
-use Rattle.equality.specs.inner.Code.{twoOf, Pairs, classes, queue, Begun, Ready, Saw, Given, Going}
+use Rattle.equality.specs.inner.Code.{Pairs, classes, queue, Begun, Ready, Saw, Given, Going}
 use Rattle.equality.proofs.Queue.{room, begun, ended, short}
 use Rattle.equality.proofs.Spelling.{chained, differs}
 use Rattle.equality.proofs.Onward.{total}

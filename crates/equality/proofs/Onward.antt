@@ -8,9 +8,10 @@ use Rattle.sheets.proofs.Meaning.{read-well}
 use Rattle.dsu.specs.inner.Generated.{Merges}
 use Rattle.automata.specs.Successors.{successor}
 use Rattle.automata.specs.Automaton.{acceptOf}
-use Rattle.equality.specs.Forced.{totalSize}
+use Rattle.determinizations.specs.Two.{totalSize}
+use Rattle.determinizations.specs.inner.Sheets.{twoOf, Sheets}
 use Rattle.equality.specs.inner.Walking.{Queue}
-use Rattle.equality.specs.inner.Code.{twoOf, Pairs, classes, queue, Sheets, Offered, had, put, Good}
+use Rattle.equality.specs.inner.Code.{Pairs, classes, queue, Offered, had, put, Good}
 use Rattle.equality.proofs.Forced.{Total, total-of}
 use Rattle.equality.proofs.Queue.{renamed, pushed}
 

@@ -10,7 +10,8 @@ use Rattle.dsu.proofs.Classes.{classes-moved}
 use Rattle.dsu.proofs.Generated.{generated-into, spanned-alone, spanned-more, spanned-renamed, spanned-room}
 use Rattle.automata.specs.Successors.{successor}
 use Rattle.automata.specs.Automaton.{acceptOf}
-use Rattle.equality.specs.Forced.{Two, Symbol, totalSize, left, right, successorIn, JoinsSuccessors, Forced}
+use Rattle.determinizations.specs.Two.{Two, Symbol, totalSize}
+use Rattle.equality.specs.Forced.{left, right, successorIn, JoinsSuccessors, Forced}
 use Rattle.equality.proofs.Forced.{acceptIn, Total, successor-left, accept-left, successor-right, accept-right, forced-least, forced-in, agree-words}
 use Rattle.equality.specs.inner.Walking.{Queue, Met, Walking, Closed, Pushed}
 use Rattle.equality.specs.Verdict.{Equal}

@@ -8,7 +8,7 @@ use lib.ListN.{length, getD, set, take, drop, length-set}
 use lib.Seq.{drop-cons, getD-set-same, drop-set-lt, length-take-le}
 use Rattle.automata.specs.Automaton.{Word, none, more, acceptOf}
 use Rattle.automata.specs.Successors.{successor, stateAfter}
-use Rattle.equality.specs.Forced.{Two, Symbol}
+use Rattle.determinizations.specs.Two.{Two, Symbol}
 use Rattle.equality.specs.inner.Walking.{Queue, Trail, trail, Walking, Chained, Leads, here, back, Spelled}
 use Rattle.equality.specs.Verdict.{Apart}
 use Rattle.equality.proofs.Forced.{Total}

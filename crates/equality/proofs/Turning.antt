@@ -13,11 +13,12 @@ use Rattle.automata.proofs.Records.{part-record}
 use Rattle.sheets.specs.inner.Accepted.{Accepted}
 use Rattle.sheets.specs.Sheet.{stateCount, read}
 use Rattle.sheets.proofs.Meaning.{read-well}
+use Rattle.determinizations.specs.inner.Sheets.{twoOf}
 use Rattle.equality.specs.declared.pairs.First.{First}
 use Rattle.equality.specs.declared.pairs.First.the-variants.{Symbol, Nothing}
 use Rattle.equality.specs.declared.pairs.Seen.the-variants.{Alike, Differ}
 use Rattle.automata.specs.Successors.{successor}
-use Rattle.equality.specs.inner.Code.{twoOf, Pairs, Common, FirstOf, classes, queue, Offerable, Offered, Ready, Saw}
+use Rattle.equality.specs.inner.Code.{Pairs, Common, FirstOf, classes, queue, Offerable, Offered, Ready, Saw}
 use Rattle.equality.proofs.Queue.{room}
 use Rattle.equality.proofs.Runs.{In, RunOf, up-to, run-of}
 use Rattle.equality.proofs.Onward.{total, onward}

@@ -15,10 +15,10 @@ use Rattle.refusal.specs.declared.InputRefusal.{InputRefusal}
 use Rattle.words.specs.Acceptance.{acceptanceOf}
 use Rattle.words.specs.declared.Acceptance.{Acceptance}
 use Rattle.words.specs.declared.Acceptance.the-variants
+use Rattle.determinizations.specs.Two.{Two}
 use Rattle.equality.specs.declared.Verdict.{Verdict}
 use Rattle.equality.specs.declared.Verdict.the-variants as verdict
 use Rattle.equality.specs.Equality.{Judged}
-use Rattle.equality.specs.Forced.{Two}
 use Rattle.parser.specs.declared.Parsed.{Parsed}
 use Rattle.parser.specs.declared.Parsed.the-variants as parsed
 use Rattle.parser.specs.Parsed.{parsedOf}

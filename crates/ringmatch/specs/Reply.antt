@@ -3,10 +3,10 @@ use Prim.Native.Nat.{ℕ}
 use mathlib.Core.Bool.{Bool, true, false}
 use mathlib.Core.List.{List}
 use mathlib.Core.Path.{_≡_}
+use Rattle.determinizations.specs.Two.{Two}
 use Rattle.equality.specs.declared.Verdict.{Verdict}
 use Rattle.equality.specs.declared.Verdict.the-variants.{Same, Different, Refused}
 use Rattle.equality.specs.Equality.{Judged}
-use Rattle.equality.specs.Forced.{Two}
 use Rattle.output.specs.Output.{Lengths, Output}
 use Rattle.parser.specs.Parsed
 use Rattle.refusal.specs.Number.{numberOf}

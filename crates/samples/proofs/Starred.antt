@@ -11,12 +11,13 @@ use Rattle.automata.specs.Records.{readRecords}
 use Rattle.automata.specs.WellFormed.{lastSymbol}
 use Rattle.determinize.specs.Partition.{partOf, partition}
 use Rattle.determinize.specs.Determinize.{determinize}
+use Rattle.determinizations.specs.Two.{totalSize}
 use Rattle.ranges.specs.Span.{intersectRanges, overlapsFrom, overlapping}
 use Rattle.ranges.specs.Cuts.{nearer, nextCut, spans, cutAll}
 use Rattle.ranges.specs.Missing.{covered, missing}
 use Rattle.dsu.specs.Classes.{Classes}
 use Rattle.equality.specs.Equality.{equalityAnswer, Judged}
-use Rattle.equality.specs.Forced.{Forced, totalSize}
+use Rattle.equality.specs.Forced.{Forced}
 use Rattle.equality.specs.declared.Verdict.{Verdict}
 use Rattle.equality.specs.declared.Verdict.the-variants.{Same, Different}
 use Rattle.refusal.specs.Answer.{given}

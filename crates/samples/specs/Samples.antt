@@ -3,8 +3,8 @@ use Prim.Native.Nat.{ℕ}
 use mathlib.Core.List.{List, [], _∷_}
 use Rattle.automata.specs.Automaton.{Transition, Automaton}
 use Rattle.automata.specs.WellFormed.{lastSymbol}
-use Rattle.equality.specs.Forced.{Two}
 use Rattle.determinize.specs.Partition.{Part}
+use Rattle.determinizations.specs.Two.{Two}
 use Rattle.ranges.specs.Span.{Span}
 use Rattle.sets.specs.Sets.{Set}
 

@@ -9,7 +9,7 @@ use borrow.Author.Needs.{needs}
 use lib.Dec.{eqb}
 use lib.ListN.{length, take, drop}
 use lib.Seq.{take-at, length-take-le, sets, sets-eq, length-sets}
-use Rattle.lists.specs.Written.{Written}
+use Rattle.stores.specs.Written.{Written}
 use Rattle.lists.proofs.Lists.{length-filter}
 use Rattle.automata.specs.Automaton.{rangesOf}
 use Rattle.automata.specs.Records.{readRecords, writeRecords}

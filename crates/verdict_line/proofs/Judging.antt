@@ -22,15 +22,15 @@ use Rattle.refusal.specs.declared.Refusal.the-variants.{Input}
 use Rattle.sheets.specs.Checked.{sheetFirst}
 use Rattle.sheets.specs.Fault.{fault}
 use Rattle.sheets.specs.Sheet.{read}
-use Rattle.determinize.specs.Determinize.{determinize}
-use Rattle.determinize.proofs.Theorems.{determinize-fits}
 use Rattle.parser.specs.Pattern.{Reading, parseAnswer}
 use Rattle.parser.specs.declared.Parsed.{Parsed}
 use Rattle.parser.specs.declared.Parsed.the-variants.{Read}
 use Rattle.parser.proofs.Outcomes.{answers-given}
-use Rattle.equality.specs.Forced.{Two, totalSize}
+use Rattle.determinizations.specs.Two.{Two, totalSize}
+use Rattle.determinizations.specs.Determinizations.{determinized}
+use Rattle.determinizations.proofs.Theorems.{total-few}
 use Rattle.equality.specs.Verdict.{Decided}
-use Rattle.equality.specs.Equality.{withSecond, withFirst, determinized, equalityAnswer, Judged}
+use Rattle.equality.specs.Equality.{equalityAnswer, Judged}
 use Rattle.equality.specs.declared.Verdict.{Verdict}
 use Rattle.equality.specs.declared.Verdict.the-variants.{Same, Different, Refused}
 use Rattle.verdict_line.specs.declared.Second.{Second}
@@ -103,25 +103,15 @@ pub ruleset inputLaws = (input-long, input-outside, input-judged, at-inside, nee
 
 -- both determinizations have at most 256 states
 module _ (lower upper : ℕ) where
-  two-few : (x y : Answer Automaton) (w : Two) → ((D : Automaton) → x ≡ given D → D .size ≤ 256) → ((E : Automaton) → y ≡ given E → E .size ≤ 256) → withFirst lower upper x y ≡ given w → totalSize w ≤ 512
-  unfolding withFirst withSecond
-  two-few (refused n) y w f g e = absurd (let z : _≡_ {A = ℕ} 0 1 = cc in omega arith)
-  two-few (given D) (refused n) w f g e = absurd (let z : _≡_ {A = ℕ} 0 1 = cc in omega arith)
-  two-few (given D) (given E) w f g e =
-      let z : _≡_ {A = Two} (record { one = D; two = E; lower = lower; upper = upper }) w = cc in
-      omega (arith, f D refl, g E refl, ap (λ (x : Two). x .one .size) z, ap (λ (x : Two). x .two .size) z)
-
   texts-few : (t s : List ℕ) (w : Two) → withFirstText lower upper (parseAnswer t) (parseAnswer s) ≡ given w → totalSize w ≤ 512
-  unfolding withFirstText withSecondText determinized
+  unfolding withFirstText withSecondText
   texts-few t s w e = by-answers (parseAnswer t) (parseAnswer s) refl refl e
     where
       by-answers : (x y : Answer Reading) → parseAnswer t ≡ x → parseAnswer s ≡ y → withFirstText lower upper x y ≡ given w → totalSize w ≤ 512
       by-answers (refused n) y p q h = absurd (let z : _≡_ {A = ℕ} 0 1 = cc in omega arith)
       by-answers (given R) (refused n) p q h = absurd (let z : _≡_ {A = ℕ} 0 1 = cc in omega arith)
       by-answers (given R) (given S) p q h =
-          two-few (determinize lower upper (R .pattern .automaton)) (determinize lower upper (S .pattern .automaton)) w
-          (λ D d. determinize-fits lower upper _ (answers-given t R p .writable .well .states) D d .few-states)
-          (λ E d. determinize-fits lower upper _ (answers-given s S q .writable .well .states) E d .few-states) h
+          total-few lower upper (R .pattern .automaton) (S .pattern .automaton) (answers-given t R p .writable .well .states) (answers-given s S q .writable .well .states) w h
 
   compared-few : (t : List ℕ) (w : Two) → verdictAnswer lower upper t ≡ given w → totalSize w ≤ 512
   unfolding verdictAnswer

@@ -8,8 +8,8 @@ use Rattle.automata.specs.Automaton.{Automaton}
 use Rattle.grammar.specs.Grammar.{ReadResult, nothing, found, follow, Mark, mark, space, wholeText}
 use Rattle.refusal.specs.Answer.{Answer, refused, given}
 use Rattle.parser.specs.Pattern.{Reading, parseAnswer}
-use Rattle.equality.specs.Forced.{Two}
-use Rattle.equality.specs.Equality.{determinized}
+use Rattle.determinizations.specs.Two.{Two}
+use Rattle.determinizations.specs.Determinizations.{determinized}
 
 -- two texts of the grammar with optional space between and after: the place where the second begins
 unfoldable pub twoTexts : List ℕ → ReadResult Mark

@@ -6,26 +6,21 @@ use lib.ListN.{length, getD}
 use lib.Seq.{sets}
 use Rattle.automata.specs.Automaton.{Transition, leaving, acceptOf}
 use Rattle.automata.specs.Records.{writeRecords}
-use Rattle.sheets.specs.inner.Accepted.{Accepted}
 use Rattle.sheets.specs.inner.Runs.{Indexed}
 use Rattle.sheets.specs.Sheet.{stateCount, read}
-use Rattle.automata.specs.Deterministic.{Deterministic}
 use Rattle.dsu.specs.declared.DSU.{DSU}
 use Rattle.dsu.specs.Classes.{Classes}
 use Rattle.dsu.specs.inner.Generated.{Merges}
 use Rattle.dsu.specs.Laws.{Valid, classOf}
 use Rattle.dsu.specs.inner.Lent.{setsOf}
+use Rattle.determinizations.specs.Two.{Two, totalSize}
+use Rattle.determinizations.specs.inner.Sheets.{twoOf, Sheets}
 use Rattle.equality.specs.declared.pairs.First.{First}
 use Rattle.equality.specs.declared.pairs.First.the-variants.{Symbol, Nothing}
 use Rattle.equality.specs.declared.pairs.Seen.{Seen}
 use Rattle.equality.specs.declared.pairs.Seen.the-variants.{Alike, Differ}
 use Rattle.automata.specs.Successors.{successor}
-use Rattle.equality.specs.Forced.{Two, totalSize}
 use Rattle.equality.specs.inner.Walking.{Queue, Walking, Closed, Pushed}
-
--- the two automata of two sheets
-abbrev pub twoOf : List ℕ → List ℕ → ℕ → ℕ → Two
-twoOf a b lower upper = record { one = read a; two = read b; lower = lower; upper = upper }
 
 -- x is a symbol from lower to upper that both transitions hold
 pub record Common (d e : Transition) (lower upper x : ℕ) : Type 0 where
@@ -103,13 +98,6 @@ pub data Offered (w r : Pairs) (n1 i x p q : ℕ) : Type 0 where
 pub record Good (t : Two) (w : Pairs) : Type 0 where
   pub sets : Sets w (totalSize t)
   pub walking : Walking t (classes w) (queue w) (w .made)
-
--- two sheets in which every symbol has exactly one transition in every state
-pub record Sheets (a b : List ℕ) (lower upper : ℕ) : Type 0 where
-  pub first : Accepted a
-  pub second : Accepted b
-  pub one : Deterministic lower upper (read a)
-  pub two : Deterministic lower upper (read b)
 
 -- the walk stands before pair i, whose records are ra and rb
 pub record Ready (a b : List ℕ) (lower upper : ℕ) (ra rb : List ℕ) (n1 i : ℕ) (w : Pairs) : Type 0 where

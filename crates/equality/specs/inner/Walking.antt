@@ -6,7 +6,8 @@ use lib.ListN.{length, take, drop}
 use Rattle.dsu.specs.inner.Generated.{Spanned}
 use Rattle.automata.specs.Successors.{successor}
 use Rattle.automata.specs.Automaton.{acceptOf}
-use Rattle.equality.specs.Forced.{Two, Symbol, totalSize, left, right}
+use Rattle.determinizations.specs.Two.{Two, Symbol, totalSize}
+use Rattle.equality.specs.Forced.{left, right}
 
 -- pair i: its states, the pair that it was met from and the symbol, and how many symbols lead to it
 pub record Queue : Type 0 where

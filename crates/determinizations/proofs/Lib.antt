@@ -1,0 +1,4 @@
+-- The theory of two determinizations, and what the functions' proofs cite.
+pub mod Answers
+pub mod Theorems
+pub mod Fronts
