@@ -83,7 +83,8 @@ module _ (n lower upper : ℕ) (es : List Transition) (states-in : (e : Transiti
               (omega (arith, r .above), omega (arith, r .below), (k .0, k .1, cut-alike lower upper es s (d .in) x a b (k .0) (k .1) ∙ k .2)),
           λ (l, u, (e, i, h)).
               let s = containing lower upper es x l u in
-              (partOf n es (s .span), part-in n lower upper es (s .span) (s .in) (any-in (holds (s .span .low)) i (sym (cut-alike lower upper es (s .span) (s .in) x (s .low) (s .high) e i) ∙ h)), s .low, s .high),
+              let held = any-in (holds (s .span .low)) i (sym (cut-alike lower upper es (s .span) (s .in) x (s .low) (s .high) e i) ∙ h) in
+              (partOf n es (s .span), part-in n lower upper es (s .span) (s .in) held, s .low, s .high),
         );
         targets = λ p m. let d = at p m in rw (d .is) (part-targets (d .span) (d .in));
       }
