@@ -95,36 +95,36 @@ module _ (lower upper : ℕ) (A : Automaton) (T : List Set) where
 
 -- in a finished table the notes stand for the transitions
 module _ (lower upper : ℕ) (A : Automaton) (ok : InBounds A) (T : List Set) (e : setTable lower upper A ≡ found T) where
-  settled : (R : Set) → In T R → cond (eqb (setNumber R T) mostStates) (length T) (setNumber R T) ≡ index same R T
+  noted-number : (R : Set) → In T R → cond (eqb (setNumber R T) mostStates) (length T) (setNumber R T) ≡ index same R T
   unfolding setNumber
-  settled [] m = sym (sink-index lower upper A ok T e)
-  settled (q ∷ R) (inl z) = let y : _≡_ {A = ℕ} 0 1 = cc in absurd (omega arith)
-  settled (q ∷ R) (inr m) =
+  noted-number [] m = sym (sink-index lower upper A ok T e)
+  noted-number (q ∷ R) (inl z) = let y : _≡_ {A = ℕ} 0 1 = cc in absurd (omega arith)
+  noted-number (q ∷ R) (inr m) =
       let l = index-lt same same-decides (q ∷ R) m in
       let k = table-few lower upper A ok T e in
       rw (ne-eqb (index same (q ∷ R) T) mostStates (λ z. omega arith))
 
-  settle-of : (j : ℕ) (S : Set) → ((a : ℕ) → lower ≤ a → a ≤ upper → In T (step A S a)) → map (notedTransition (length T)) (notesOf lower upper A T j S) ≡ setTransitions lower upper A T j S
+  noted-of : (j : ℕ) (S : Set) → ((a : ℕ) → lower ≤ a → a ≤ upper → In T (step A S a)) → map (notedTransition (length T)) (notesOf lower upper A T j S) ≡ setTransitions lower upper A T j S
   unfolding notesOf noteOf setTransitions setTransition notedTransition
-  settle-of j S c =
+  noted-of j S c =
       map-ext (notedTransition (length T)) (noteOf A T j S) (setTransition A T j S) (cutAll lower upper (outgoing A S))
       (λ s m.
       let v = cut-stretch lower upper (outgoing A S) s m in
       ap (λ t. record { from = j; kind = 1; first = s .first; last = s .last; to = t })
-      (settled (step A S (s .first)) (c (s .first) (v .above) (omega (arith, v .full, v .below)))))
+      (noted-number (step A S (s .first)) (c (s .first) (v .above) (omega (arith, v .full, v .below)))))
 
-  settle-from : (j : ℕ) (Ss : List Set) → ((S : Set) → S ∈ Ss → (a : ℕ) → lower ≤ a → a ≤ upper → In T (step A S a))
+  noted-from : (j : ℕ) (Ss : List Set) → ((S : Set) → S ∈ Ss → (a : ℕ) → lower ≤ a → a ≤ upper → In T (step A S a))
       → map (notedTransition (length T)) (notesFrom lower upper A T j Ss) ≡ setTransitionsFrom lower upper A T j Ss
   unfolding notesFrom setTransitionsFrom
-  settle-from j [] c = refl
-  settle-from j (S ∷ Ss) c =
+  noted-from j [] c = refl
+  noted-from j (S ∷ Ss) c =
       map-append (notedTransition (length T)) (notesOf lower upper A T j S) (notesFrom lower upper A T (suc j) Ss)
-      ∙ ap₂ _++_ (settle-of j S (c S (List·Memᴰ·head refl))) (settle-from (suc j) Ss (λ R m. c R (List·Memᴰ·tail m)))
+      ∙ ap₂ _++_ (noted-of j S (c S (List·Memᴰ·head refl))) (noted-from (suc j) Ss (λ R m. c R (List·Memᴰ·tail m)))
 
-  pub settle-states : map (notedTransition (length T)) (notesFrom lower upper A T 0 (setsAndSink T)) ≡ setTransitionsFrom lower upper A T 0 (setsAndSink T)
+  pub noted-states : map (notedTransition (length T)) (notesFrom lower upper A T 0 (setsAndSink T)) ≡ setTransitionsFrom lower upper A T 0 (setsAndSink T)
   unfolding setsAndSink
-  settle-states =
-      settle-from 0 (T ++ [] ∷ [])
+  noted-states =
+      noted-from 0 (T ++ [] ∷ [])
       (λ S m a l u.
       let i : In T S = ⊎-elim (λ k. inr k) (λ k. inl (List·Memᴰ·eq-of-singleton k)) (List·Memᴰ·append-cases T m) in
       rw (at-index T S i) at (table-closed lower upper A ok T e (index same S T) a l u))

@@ -83,7 +83,8 @@ module _ (n lower upper : ℕ) (es : List Transition) (states-in : (e : Transiti
               (omega (arith, r .above), omega (arith, r .below), (k .0, k .1, cut-alike lower upper es s (d .in) x a b (k .0) (k .1) ∙ k .2)),
           λ (l, u, (e, i, h)).
               let s = containing lower upper es x l u in
-              (partOf n es (s .span), part-in n lower upper es (s .span) (s .in) (any-in (holds (s .span .first)) i (sym (cut-alike lower upper es (s .span) (s .in) x (s .above) (s .below) e i) ∙ h)), s .above, s .below),
+              let held = any-in (holds (s .span .first)) i (sym (cut-alike lower upper es (s .span) (s .in) x (s .above) (s .below) e i) ∙ h) in
+              (partOf n es (s .span), part-in n lower upper es (s .span) (s .in) held, s .above, s .below),
         );
         targets = λ p m. let d = at p m in rw (d .is) (part-targets (d .span) (d .in));
       }

@@ -40,7 +40,7 @@ module _ (l m note : List ℕ) (at sink r : ℕ) where
   unfolding notedTransition writeRecords
   note-set h w = rw (ne-eqb (getD note 4 0) 256 h) w
 
-pub ruleset settleLaws = (note-sink, note-set, needs)
+pub ruleset notedLaws = (note-sink, note-set, needs)
 
 -- the records that the notes stand for, one after the other
 module _ (notes : List ℕ) (sink : ℕ) (l : List ℕ) (at : ℕ) where

@@ -27,7 +27,7 @@ use Rattle.determinize.specs.inner.Notes.{notesFrom, notedTransition, Ca
 use Rattle.determinize.specs.inner.Attempts.{TableResultWithRoom}
 use Rattle.determinize.specs.inner.Sheets.{notedAutomaton, sheetOutput, determinizedOf}
 use Rattle.determinize.proofs.Answers.{answer-over, answer-many, answer-given}
-use Rattle.determinize.proofs.Notes.{settle-states}
+use Rattle.determinize.proofs.Notes.{noted-states}
 
 take-sets : (l vs : List ℕ) → length vs ≤ length l → take (length vs) (sets l 0 vs) ≡ vs
 take-sets l vs h = ap (take (length vs)) (sets-eq vs l 0 (omega arith)) ∙ take-append-seam vs (drop (0 + length vs) l)
@@ -49,7 +49,7 @@ module _ (lower upper : ℕ) (A : Automaton) (ok : InBounds A) (before t r : Lis
 
   finished-transitions : map (notedTransition (length T)) all ≡ subsetAutomaton lower upper A T .transitions
   unfolding all T subsetAutomaton
-  finished-transitions = settle-states lower upper A ok (entries t n) (f .whole)
+  finished-transitions = noted-states lower upper A ok (entries t n) (f .whole)
 
   pub finished-count : m ≡ length (subsetAutomaton lower upper A (entries t n) .transitions)
   unfolding T

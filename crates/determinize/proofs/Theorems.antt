@@ -219,23 +219,23 @@ module _ (lower upper : ℕ) (A : Automaton) (ok : InBounds A) where
       go (fits T e h q) = (subsetAutomaton lower upper A T, q)
 
 -- the answer with labels is refused and given where the answer is
-labelled-refused : (a : Answer Automaton) (n : ℕ) → (subsetPattern a ≡ refused n) ↔ (a ≡ refused n)
+pattern-refused : (a : Answer Automaton) (n : ℕ) → (subsetPattern a ≡ refused n) ↔ (a ≡ refused n)
 unfolding subsetPattern
-labelled-refused (refused m) n = (λ e. let z : m ≡ n = cc in ap refused z, λ e. let z : m ≡ n = cc in ap refused z)
-labelled-refused (given D) n = (λ e. let z : _≡_ {A = ℕ} 0 1 = cc in absurd (omega arith), λ e. let z : _≡_ {A = ℕ} 0 1 = cc in absurd (omega arith))
+pattern-refused (refused m) n = (λ e. let z : m ≡ n = cc in ap refused z, λ e. let z : m ≡ n = cc in ap refused z)
+pattern-refused (given D) n = (λ e. let z : _≡_ {A = ℕ} 0 1 = cc in absurd (omega arith), λ e. let z : _≡_ {A = ℕ} 0 1 = cc in absurd (omega arith))
 
 -- the result with its labels
 abbrev pattern : Automaton → Pattern
 pattern D = record { automaton = D; labels = numbered (D .size) }
 
-labelled-given : (a : Answer Automaton) (P : Pattern) → subsetPattern a ≡ given P → (D : Automaton) × (a ≡ given D)
+pattern-given : (a : Answer Automaton) (P : Pattern) → subsetPattern a ≡ given P → (D : Automaton) × (a ≡ given D)
 unfolding subsetPattern
-labelled-given (refused m) P e = let z : _≡_ {A = ℕ} 0 1 = cc in absurd (omega arith)
-labelled-given (given D) P e = (D, refl)
+pattern-given (refused m) P e = let z : _≡_ {A = ℕ} 0 1 = cc in absurd (omega arith)
+pattern-given (given D) P e = (D, refl)
 
-given-labelled : (a : Answer Automaton) (D : Automaton) → a ≡ given D → subsetPattern a ≡ given (pattern D)
+given-pattern : (a : Answer Automaton) (D : Automaton) → a ≡ given D → subsetPattern a ≡ given (pattern D)
 unfolding subsetPattern
-given-labelled a D e = ap subsetPattern e
+given-pattern a D e = ap subsetPattern e
 
 -- what the call leaves: r is its answer, o and l are the outputs before it, o′ and l′ after it
 module _ (s o l o′ l′ : List ℕ) (r : Made) (call : outputOf r o′ l′ ≡ outputs o l (determinizeAnswer s o l)) where
@@ -251,13 +251,13 @@ module _ (s o l o′ l′ : List ℕ) (r : Made) (call : outputOf r o′ l′ �
   well f = read-well s (accepted s f)
 
   over-20 : (n : ℕ) → answer ≡ refused n → 20 < n
-  over-20 n e = refused-above 0 lastSymbol (read s) n (labelled-refused (determinize 0 lastSymbol (read s)) n .0 e)
+  over-20 n e = refused-above 0 lastSymbol (read s) n (pattern-refused (determinize 0 lastSymbol (read s)) n .0 e)
 
   module _ (w b : ℕ) (lengths : r ≡ Lengths w b) where
     made : (fault s ≡ 0) × ((D : Automaton) × (determinize 0 lastSymbol (read s) ≡ given D))
     made =
         let (room, f, (P, e)) = sheet-call-given s o l o′ l′ r answer contract .0 (ap madeNumber lengths) in
-        (f, labelled-given (determinize 0 lastSymbol (read s)) P e)
+        (f, pattern-given (determinize 0 lastSymbol (read s)) P e)
 
     writable : (D : Automaton) → determinize 0 lastSymbol (read s) ≡ given D → Writable (pattern D)
     unfolding numbered
@@ -275,7 +275,7 @@ module _ (s o l o′ l′ : List ℕ) (r : Made) (call : outputOf r o′ l′ �
     pub determinize-left : (D : Automaton) × (determinize 0 lastSymbol (read s) ≡ given D) × Leaves o l o′ l′ w b D (numbered (D .size))
     determinize-left =
         let (D, e) = made .1 in
-        (D, e, sheet-call-leaves s o l o′ l′ r answer contract w b lengths (pattern D) (given-labelled (determinize 0 lastSymbol (read s)) D e) (writable D e))
+        (D, e, sheet-call-leaves s o l o′ l′ r answer contract w b lengths (pattern D) (given-pattern (determinize 0 lastSymbol (read s)) D e) (writable D e))
 
     -- what is read from the output accepts the words of the input
     pub determinize-left-words : (v : List ℕ) → Word 0 lastSymbol v → Accepts (read (take w o′)) v ↔ Accepts (read s) v
@@ -300,7 +300,7 @@ module _ (s o l o′ l′ : List ℕ) (r : Made) (call : outputOf r o′ l′ �
   limit : (n : ℕ) → 20 < n → (madeNumber r ≡ n) ↔ (Room o l × (fault s ≡ 0) × (determinize 0 lastSymbol (read s) ≡ refused n))
   limit n k =
       let c = sheet-call-number s o l o′ l′ r answer contract n (omega arith) (λ z. omega arith) in
-      let q = labelled-refused (determinize 0 lastSymbol (read s)) n in
+      let q = pattern-refused (determinize 0 lastSymbol (read s)) n in
       (λ e. let (m, f, h) = c .0 e in (m, f, q .0 h), λ (m, f, h). c .1 (m, f, q .1 h))
 
   -- 21 is answered exactly where there is room, the sheet has no fault, and words reach more than 255 nonempty sets
@@ -327,12 +327,12 @@ module _ (s o l o′ l′ : List ℕ) (r : Made) (call : outputOf r o′ l′ �
       let c = sheet-call-given s o l o′ l′ r answer contract in (
         λ e.
             let (m, f, (P, h)) = c .0 e in
-            let (D, q) = labelled-given (determinize 0 lastSymbol (read s)) P h in
+            let (D, q) = pattern-given (determinize 0 lastSymbol (read s)) P h in
             let few : MoreThan 255 0 lastSymbol (read s) → ⊥ = λ n. given-not _ _ (sym q ∙ refused-21 0 lastSymbol (read s) (well f .states) .1 n) in
             (m, f, few, λ k. given-not _ _ (sym q ∙ refused-22 0 lastSymbol (read s) (well f .states) .1 (few, k))),
         λ (m, f, n, k).
             let (D, q) = determinize-given 0 lastSymbol (read s) (well f .states) n k in
-            c .1 (m, f, (pattern D, given-labelled (determinize 0 lastSymbol (read s)) D q)),
+            c .1 (m, f, (pattern D, given-pattern (determinize 0 lastSymbol (read s)) D q)),
       )
 
   -- a refusal leaves the outputs as they were

@@ -21,7 +21,7 @@ use Rattle.words.specs.Simulation.{outgoing, step}
 use Rattle.words.proofs.Stepping.{step-canon}
 use Rattle.ranges.specs.Cuts.{nextCut}
 use Rattle.determinize.specs.declared.Progress.the-variants.{Sets, Over}
-use Rattle.determinize.specs.Determinize.{setTargets, setsAndSink}
+use Rattle.determinize.specs.Determinize.{setTargets}
 use Rattle.determinize.specs.inner.Notes.{setNumber, notesOf, Canonical, SetPlaced, SpanVisited, SpansResult, addSet, meetSets}
 use Rattle.determinize.proofs.Tables.{add-extends, add-in, meet-out}
 use Rattle.determinize.proofs.Targets.{spanTargets}

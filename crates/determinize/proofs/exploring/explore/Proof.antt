@@ -70,5 +70,6 @@ explore-spec =
     let at-note-sink = at-is-full .before .before .before .before in
     let at-loop-test = at-note-sink .before .before in
     let at-loop = at-loop-test .before in
-    let ended = explore-ended _ _ _ _ _ _ _ _ _ (at-loop .loop .inv .7) (at-loop .loop .inv .4) (at-loop-test .loop-test .left) (at-loop .loop .inv .3) (at-loop .loop .inv .6) _ _ (at-note-sink .note-sink .ensures) in
+    let ended =
+    explore-ended _ _ _ _ _ _ _ _ _ (at-loop .loop .inv .7) (at-loop .loop .inv .4) (at-loop-test .loop-test .left) (at-loop .loop .inv .3) (at-loop .loop .inv .6) _ _ (at-note-sink .note-sink .ensures) in
     attempt-done _ _ _ _ _ _ _ _ ended (search needs) _ (at-is-full .is-full2 .ensures) (c .if2 .left)))
