@@ -147,7 +147,13 @@ pub fn long_names(count: usize) -> Vec<String> {
     (0..count).map(|i| format!("{}{i:05}", "s".repeat(59))).collect()
 }
 
-/// The same, all with one remainder by 256 of the polynomial in 31 that has the bytes as coefficients.
+/// Names of two bytes.
+pub fn short_names(count: usize) -> Vec<String> {
+    let letter = |i: usize| char::from(b'a' + (i % 26) as u8);
+    (0..count).map(|i| format!("{}{}", letter(i / 26), letter(i))).collect()
+}
+
+/// Names of 64 bytes that differ in their last bytes, all with one remainder by 256 of the polynomial in 31 that has the bytes as coefficients.
 pub fn colliding_names(count: usize) -> Vec<String> {
     let remainder = |name: &str| name.bytes().fold(0u32, |h, b| (31 * h + u32::from(b)) % 256);
     let letters: Vec<char> = ('a'..='z').chain('A'..='Z').chain('0'..='9').collect();

@@ -35,7 +35,7 @@ equal-4 = record { words = agree; number = 3; counted = three; joined = refl }
         (test (eqb (acceptAfter DA w) (acceptAfter DB w)))
 
 abbrev others : Two
-others = record { one = DA; two = DC; low = 0; high = lastSymbol }
+others = record { one = DA; two = DC; lower = 0; upper = lastSymbol }
 
 apart-9 : Apart others (9 ∷ [])
 unfolding stateAfter successor filter carries holds

@@ -85,16 +85,16 @@ module _ (x : ℕ) (h : x ≤ lastSymbol) where
       (λ q i. rw (successor-right both q x) (class-b q i))
 
 -- states of one class have successors of one class
-such : JoinsSuccessors both (λ p q. class p ≡ class q)
-such =
+joins : JoinsSuccessors both (λ p q. class p ≡ class q)
+joins =
     record {
-      equivalence = record { same = λ p h. refl; turn = λ p q h k e. sym e; chain = λ p q r h k l e f. e ∙ f };
+      equivalence = record { reflexive = λ p h. refl; symmetric = λ p q h k e. sym e; transitive = λ p q r h k l e f. e ∙ f };
       starts = refl;
       follow = λ p q x h k s e. class-both x (s .1) p h ∙ ap (λ (c : ℕ). next c x) e ∙ sym (class-both x (s .1) q k);
     }
 
 apart : {p q : ℕ} → Forced both p q → class p ≡ class q
-apart {p} {q} f = smallest-two 0 lastSymbol (read A) (read B) well-a well-b DA DB (determinized .0) (determinized .1) .least (λ p q. class p ≡ class q) such p q f
+apart {p} {q} f = smallest-two 0 lastSymbol (read A) (read B) well-a well-b DA DB (determinized .0) (determinized .1) .least (λ p q. class p ≡ class q) joins p q f
 
 -- the starts are joined, and with them their successors under 0, 5 and 10
 joined : Forced both 0 3 × Forced both 1 4 × Forced both 1 5 × Forced both 2 6

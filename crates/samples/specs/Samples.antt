@@ -45,7 +45,7 @@ DB = record {
 
 -- these two side by side, over all symbols
 abbrev pub both : Two
-both = record { one = DA; two = DB; low = 0; high = lastSymbol }
+both = record { one = DA; two = DB; lower = 0; upper = lastSymbol }
 
 -- a span of symbols, and a part with its targets
 abbrev pub span : ℕ → ℕ → Span

@@ -145,12 +145,13 @@ fn acceptance() {
 
 fn parsing() {
     for (case, names) in [
-        ("in their last bytes", hostile::long_names(256)),
-        ("in their last bytes, one remainder", hostile::colliding_names(256)),
-        ("in the middle", hostile::alike_at_both_ends(256)),
+        ("2 bytes", hostile::short_names(256)),
+        ("64 bytes that differ in their last bytes", hostile::long_names(256)),
+        ("64 bytes that differ in their last bytes, one remainder", hostile::colliding_names(256)),
+        ("64 bytes that differ in the middle", hostile::alike_at_both_ends(256)),
     ] {
         for n in doubling(16_384) {
-            let case = format!("{n} transitions, 256 names of 64 bytes that differ {case}");
+            let case = format!("{n} transitions, 256 names of {case}");
             calls::parse_automaton(&case, &hostile::text(&names, n));
         }
     }
