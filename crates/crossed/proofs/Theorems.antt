@@ -41,7 +41,7 @@ module _ (a b : List ℕ) (f : fault a ≡ 0) (g : fault b ≡ 0) (D E : Automat
         λ s. (k .1 (λ w v h. by-b w v .1 (s w v .0 (by-a w v .0 h))), m .1 (λ w v h. by-a w v .1 (s w v .1 (by-b w v .0 h)))),
       )
 
-  crossed : (c : Compared a b) → (c .memory .after .same ≡ 1) ↔ EqualWords a b → (x : Crossing a b) → Crossed c x
+  crossed : (c : Compared a b) → (c .memory .after .cells .same ≡ 1) ↔ EqualWords a b → (x : Crossing a b) → Crossed c x
   crossed c equal x =
       let k = both-empty x in
       record {
@@ -58,8 +58,8 @@ module _ (a b : List ℕ) (f : fault a ≡ 0) (g : fault b ≡ 0) (D E : Automat
   report c =
       let m = c .memory in
       let few = total-few 0 lastSymbol (read a) (read b) (read-well a (accepted a f) .states) (read-well b (accepted b g) .states) (beside D E) both in
-      reported a b (beside D E) few (m .word) (m .word-after) (m .same) (m .number) (m .room) (m .after) (c .call .verdict) (c .call .is)
-      (equality-exact 0 lastSymbol a b f g (m .word) (m .word-after) (c .call .verdict) (m .room) (c .call .judged) D E d e)
+      reported a b (beside D E) few (m .word) (m .after .memory) (m .same) (m .number) (m .room) (m .after) (c .call .verdict) (c .call .is)
+      (equality-exact 0 lastSymbol a b f g (m .word) (m .after .memory) (c .call .verdict) (m .room) (c .call .judged) D E d e)
 
   demanded : (c : Compared a b) → Demanded c
   demanded c =

@@ -59,7 +59,7 @@ module _ (s o l : List ℕ) (b : Bool) (f : b ≡ (ltb (length o) 10500 || ltb (
           go (refused n) y =
               let u = ap (λ x. x .answer) y in
               let v : stateNumber q ≡ n = cc in
-              let w : o′ ≡ o = ap (λ x. x .sheet) y in
+              let w : o′ ≡ o = ap (λ x. x .memory) y in
               rw (v, w)
           go (given D) y = let u = ap (λ x. x .answer) y in let v : _≡_ {A = ℕ} 0 1 = cc in absurd (omega arith)
 
@@ -83,7 +83,7 @@ module _ (s o l : List ℕ) (b : Bool) (f : b ≡ (ltb (length o) 10500 || ltb (
                   result = D;
                   is = i;
                   states = ap (λ x. x .states) v;
-                  written = record { stored = ap (λ x. x .sheet) y; behind = ap (λ x. x .words) v ∙ omega arith };
+                  written = record { stored = ap (λ x. x .memory) y; behind = ap (λ x. x .words) v ∙ omega arith };
                 }
 
         pub made-few : n ≤ 256

@@ -13,7 +13,7 @@ ghost use Rattle.labels.specs.Labels.{labelsFault, readLabels};
 ghost use Rattle.output.specs.inner.Gathering.{Memory, Open, Gathered, Collected};
 ghost use Rattle.output.specs.Made.{outputOf};
 ghost use Rattle.output.specs.inner.Ordered.{recordsIn};
-ghost use Rattle.output.specs.Output.{outputs, roomFirst, labelsFirst};
+ghost use Rattle.output.specs.Output.{outputs, labelsFirst};
 ghost use Rattle.sets.specs.inner.BitSet.{setAt};
 ghost use Rattle.sets.specs.inner.Members.{Canon};
 ghost use Rattle.sheets.specs.inner.Accepted.{Accepted};
@@ -290,7 +290,7 @@ fn eliminate_checked(s: &[u32], labels: &[u8], out: &mut [u32], names: &mut [u8]
 
 // The same states and start, each with the ranges and the acceptance of its closure; the labels are kept.
 pub fn epsilon_eliminate(s: &[u32], labels: &[u8], out: &mut [u32], names: &mut [u8]) -> Made
-    ensures { λ r. ⌜ outputOf r (now (out .exit)) (now (names .exit)) ≡ outputs (now (out .entry)) (now (names .entry)) (roomFirst (now (out .entry)) (now (names .entry)) (eliminateAnswer (now (s .entry)) (now (labels .entry)))) ⌝ }
+    ensures { λ r. ⌜ outputOf r (now (out .exit)) (now (names .exit)) ≡ outputs (now (out .entry)) (now (names .entry)) (eliminateAnswer (now (s .entry)) (now (labels .entry)) (now (out .entry)) (now (names .entry))) ⌝ }
 {
     if output::lacks_room(out, names) {
         return Made::Refused(Refusal::State(StateRefusal::OutputLength));

@@ -1,15 +1,14 @@
 -- Exact equality of two sheets (document 01, "Equality"): when it is refused, what holds of the verdict, and what demand 3 asks of it.
 use Prim.Native.Nat.{ℕ, _+_, _≤_}
-use mathlib.Core.Bool.{cond}
 use mathlib.Core.List.{List}
 use mathlib.Core.Logic.{_↔_}
 use mathlib.Core.Path.{_≡_}
-use lib.Dec.{ltb}
 use lib.ListN.{length, take, drop}
 use Rattle.automata.specs.Automaton.{Automaton, Word}
 use Rattle.automata.specs.SameWords.{SameWords, ExactlyOne}
 use Rattle.refusal.specs.Answer.{Answer, refused, given}
 use Rattle.refusal.specs.Number.{numberOf}
+use Rattle.refusal.specs.Outcome.{lengthFirst}
 use Rattle.sheets.specs.Checked.{sheetFirst}
 use Rattle.sheets.specs.Fault.{fault}
 use Rattle.sheets.specs.Sheet.{read}
@@ -27,7 +26,7 @@ wordSize = 510
 
 -- the two automata that are walked, or the refusal: 20 where the buffer o is too short; the first sheet's faults, the second's; 21 and 22
 unfoldable pub equalityAnswer : ℕ → ℕ → List ℕ → List ℕ → List ℕ → Answer Two
-equalityAnswer lower upper a b o = cond (ltb (length o) wordSize) (refused 20) (sheetFirst a (sheetFirst b (determinized lower upper (read a) (read b))))
+equalityAnswer lower upper a b o = lengthFirst wordSize o (sheetFirst a (sheetFirst b (determinized lower upper (read a) (read b))))
 
 -- what holds of a verdict: after a refusal its number and an unchanged buffer, else what the walk decides
 unfoldable pub Judged : Answer Two → List ℕ → List ℕ → Verdict → Type 0

@@ -8,7 +8,6 @@ ghost use Rattle.grammar.specs.inner.Parts.{toldFrom};
 ghost use Rattle.grammar.specs.inner.Places.{Spelt, Laid};
 ghost use Rattle.labels.specs.Labels.{entry, writeLabels};
 ghost use Rattle.stores.specs.Written.{Written};
-ghost use Rattle.output.specs.Output.{roomFirst};
 ghost use Rattle.output.specs.inner.Gathering.{Memory, Gathered};
 ghost use Rattle.refusal.specs.Answer.{given};
 ghost use Rattle.parser.specs.inner.Arrows.{Fitting, ArrowsRead, StoppedAt};
@@ -225,7 +224,7 @@ fn from_start(text: &[u8], x: Span, arrows: Cursor, out: &mut [u32], names: &mut
 
 // The pattern at the front of a text: its sheet and its labels into the lent outputs, and how many bytes were read.
 pub fn parse_automaton(text: &[u8], out: &mut [u32], names: &mut [u8]) -> Parsed
-    ensures { λ r. ⌜ parsedOf r (now (out .exit)) (now (names .exit)) ≡ parsed (now (out .entry)) (now (names .entry)) (roomFirst (now (out .entry)) (now (names .entry)) (parseAnswer (now (text .entry)))) ⌝ }
+    ensures { λ r. ⌜ parsedOf r (now (out .exit)) (now (names .exit)) ≡ parsed (now (out .entry)) (now (names .entry)) (parseAnswer (now (text .entry)) (now (out .entry)) (now (names .entry))) ⌝ }
 {
     if output::lacks_room(out, names) {
         return Parsed::Refused(Refusal::State(StateRefusal::OutputLength));

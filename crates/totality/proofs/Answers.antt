@@ -11,7 +11,7 @@ use Rattle.labels.proofs.Labels.{label-list}
 use Rattle.output.specs.declared.Made.{Made}
 use Rattle.output.specs.declared.Made.the-variants.{Refused}
 use Rattle.output.specs.Made.{outputOf}
-use Rattle.output.specs.Output.{Pattern, outputs, roomFirst, statesFirst, transitionsFirst}
+use Rattle.output.specs.Output.{Pattern, outputs, statesFirst, transitionsFirst}
 use Rattle.refusal.specs.Answer.{refused, given}
 use Rattle.refusal.specs.declared.Refusal.{Refusal}
 use Rattle.sheets.specs.inner.Accepted.{Accepted}
@@ -42,19 +42,19 @@ module _ (s b o l : List ℕ) (r : inputs.Inputs) (e : inputsOf r ≡ inputsFirs
   inputs-accepted h = let p = passed-inputs s b o l passed r e h .0 in (p .sheet, p .label-list, p .words, p .bytes)
 
   module _ (lower upper : ℕ) where
-    pub totalize-made : r ≡ input.Good → (m : Made) (o′ l′ : List ℕ) → outputOf m o′ l′ ≡ outputs o l (limited (totalPatternFlippedIf false lower upper (read s) (readLabels b))) → outputOf m o′ l′ ≡ outputs o l (roomFirst o l (totalizeAnswer lower upper s b))
+    pub totalize-made : r ≡ input.Good → (m : Made) (o′ l′ : List ℕ) → outputOf m o′ l′ ≡ outputs o l (limited (totalPatternFlippedIf false lower upper (read s) (readLabels b))) → outputOf m o′ l′ ≡ outputs o l (totalizeAnswer lower upper s b o l)
     unfolding totalizeAnswer inputsFirst totalPattern totalPatternFlippedIf
     totalize-made h m o′ l′ f = f ∙ ap (outputs o l) (sym (passed-inputs s b o l (limited (totalPattern lower upper (read s) (readLabels b))) r e h .1))
 
-    pub totalize-refused : (x : Refusal) → r ≡ input.Refused x → outputOf (Refused x) o l ≡ outputs o l (roomFirst o l (totalizeAnswer lower upper s b))
+    pub totalize-refused : (x : Refusal) → r ≡ input.Refused x → outputOf (Refused x) o l ≡ outputs o l (totalizeAnswer lower upper s b o l)
     unfolding totalizeAnswer inputsFirst outputs
     totalize-refused x h = ap (outputs o l) (sym (refused-inputs s b o l (limited (totalPattern lower upper (read s) (readLabels b))) r e x h))
 
-    pub complement-made : r ≡ input.Good → (m : Made) (o′ l′ : List ℕ) → outputOf m o′ l′ ≡ outputs o l (limited (complementPattern lower upper (read s) (readLabels b))) → outputOf m o′ l′ ≡ outputs o l (roomFirst o l (complementAnswer lower upper s b))
+    pub complement-made : r ≡ input.Good → (m : Made) (o′ l′ : List ℕ) → outputOf m o′ l′ ≡ outputs o l (limited (complementPattern lower upper (read s) (readLabels b))) → outputOf m o′ l′ ≡ outputs o l (complementAnswer lower upper s b o l)
     unfolding complementAnswer inputsFirst
     complement-made h m o′ l′ f = f ∙ ap (outputs o l) (sym (passed-inputs s b o l (limited (complementPattern lower upper (read s) (readLabels b))) r e h .1))
 
-    pub complement-refused : (x : Refusal) → r ≡ input.Refused x → outputOf (Refused x) o l ≡ outputs o l (roomFirst o l (complementAnswer lower upper s b))
+    pub complement-refused : (x : Refusal) → r ≡ input.Refused x → outputOf (Refused x) o l ≡ outputs o l (complementAnswer lower upper s b o l)
     unfolding complementAnswer inputsFirst outputs
     complement-refused x h = ap (outputs o l) (sym (refused-inputs s b o l (limited (complementPattern lower upper (read s) (readLabels b))) r e x h))
 

@@ -35,7 +35,7 @@ use Rattle.output.specs.declared.Made.{Made}
 use Rattle.output.specs.declared.Made.the-variants.{Lengths}
 use Rattle.output.specs.Left.{madeNumber, Room, Leaves, Unchanged}
 use Rattle.output.specs.Made.{outputOf}
-use Rattle.output.specs.Output.{Pattern, outputs, roomFirst}
+use Rattle.output.specs.Output.{Pattern, outputs}
 use Rattle.output.proofs.Left.{call-refused}
 use Rattle.ranges.specs.Span.{OverlapFree}
 use Rattle.sheets.specs.Fault.{fault}
@@ -61,7 +61,7 @@ module _ (lower upper : ℕ) (A : Automaton) (v : WellFormed A) where
   complement-words = other-words lower upper A v
 
 -- the call of `totalize` on the sheet s with the labels b: r is its answer, o and l are the outputs before it, o′ and l′ after it
-module _ (s b o l o′ l′ : List ℕ) (r : Made) (call : outputOf r o′ l′ ≡ outputs o l (roomFirst o l (totalizeAnswer 0 lastSymbol s b))) where
+module _ (s b o l o′ l′ : List ℕ) (r : Made) (call : outputOf r o′ l′ ≡ outputs o l (totalizeAnswer 0 lastSymbol s b o l)) where
   abbrev total : Pattern
   total = totalPattern 0 lastSymbol (read s) (readLabels b)
 
@@ -117,10 +117,11 @@ module _ (s b o l o′ l′ : List ℕ) (r : Made) (call : outputOf r o′ l′ 
 
   -- a refusal leaves both outputs as they were
   pub totalize-unchanged : (madeNumber r ≡ 0 → ⊥) → Unchanged o l o′ l′
-  totalize-unchanged = call-refused o l o′ l′ r (totalizeAnswer 0 lastSymbol s b) call
+  unfolding totalizeAnswer
+  totalize-unchanged = call-refused o l o′ l′ r _ call
 
 -- the call of `complement` likewise
-module _ (s b o l o′ l′ : List ℕ) (r : Made) (call : outputOf r o′ l′ ≡ outputs o l (roomFirst o l (complementAnswer 0 lastSymbol s b))) where
+module _ (s b o l o′ l′ : List ℕ) (r : Made) (call : outputOf r o′ l′ ≡ outputs o l (complementAnswer 0 lastSymbol s b o l)) where
   abbrev complement-pattern : Pattern
   complement-pattern = complementPattern 0 lastSymbol (read s) (readLabels b)
 
@@ -174,4 +175,5 @@ module _ (s b o l o′ l′ : List ℕ) (r : Made) (call : outputOf r o′ l′ 
 
   -- a refusal leaves both outputs as they were
   pub complement-unchanged : (madeNumber r ≡ 0 → ⊥) → Unchanged o l o′ l′
-  complement-unchanged = call-refused o l o′ l′ r (complementAnswer 0 lastSymbol s b) call
+  unfolding complementAnswer
+  complement-unchanged = call-refused o l o′ l′ r _ call

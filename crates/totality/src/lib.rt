@@ -6,7 +6,7 @@ ghost use Rattle.labels.specs.Checked.{checkedNumber};
 ghost use Rattle.labels.specs.Labels.{labelsFault, readLabels};
 ghost use Rattle.nondeterminism.specs.inner.Holes.{HolesInputs};
 ghost use Rattle.output.specs.Made.{outputOf};
-ghost use Rattle.output.specs.Output.{outputs, roomFirst};
+ghost use Rattle.output.specs.Output.{outputs};
 ghost use Rattle.refusal.specs.Answer.{given};
 ghost use Rattle.sheets.specs.inner.Accepted.{Accepted};
 ghost use Rattle.sheets.specs.Sheet.{stateCount, read};
@@ -138,7 +138,7 @@ fn make_complement(
 
 // Adds the sink and sends each state's holes there.
 pub fn totalize(s: &[u32], labels: &[u8], out: &mut [u32], names: &mut [u8]) -> Made
-    ensures { λ r. ⌜ outputOf r (now (out .exit)) (now (names .exit)) ≡ outputs (now (out .entry)) (now (names .entry)) (roomFirst (now (out .entry)) (now (names .entry)) (totalizeAnswer 0 4294967295 (now (s .entry)) (now (labels .entry)))) ⌝ }
+    ensures { λ r. ⌜ outputOf r (now (out .exit)) (now (names .exit)) ≡ outputs (now (out .entry)) (now (names .entry)) (totalizeAnswer 0 4294967295 (now (s .entry)) (now (labels .entry)) (now (out .entry)) (now (names .entry))) ⌝ }
 {
     match check_inputs(s, labels, out, names) {
         Inputs::Good => make_total(s, labels, false, 0, 4294967295, out, names),
@@ -148,7 +148,7 @@ pub fn totalize(s: &[u32], labels: &[u8], out: &mut [u32], names: &mut [u8]) -> 
 
 // Flips acceptance, after totalizing where the sheet has an epsilon, an overlap or a hole.
 pub fn complement(s: &[u32], labels: &[u8], out: &mut [u32], names: &mut [u8]) -> Made
-    ensures { λ r. ⌜ outputOf r (now (out .exit)) (now (names .exit)) ≡ outputs (now (out .entry)) (now (names .entry)) (roomFirst (now (out .entry)) (now (names .entry)) (complementAnswer 0 4294967295 (now (s .entry)) (now (labels .entry)))) ⌝ }
+    ensures { λ r. ⌜ outputOf r (now (out .exit)) (now (names .exit)) ≡ outputs (now (out .entry)) (now (names .entry)) (complementAnswer 0 4294967295 (now (s .entry)) (now (labels .entry)) (now (out .entry)) (now (names .entry))) ⌝ }
 {
     match check_inputs(s, labels, out, names) {
         Inputs::Good => make_complement(s, labels, 0, 4294967295, out, names),

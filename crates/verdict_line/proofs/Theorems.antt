@@ -15,7 +15,7 @@ use Rattle.refusal.specs.Answer.{Answer, given}
 use Rattle.determinize.specs.Determinize.{determinize}
 use Rattle.determinizations.specs.Two.{Two, totalSize}
 use Rattle.determinizations.proofs.Theorems.{determinized-both, same-words, one-word}
-use Rattle.parser.specs.Pattern.{Reading, parseAnswer}
+use Rattle.parser.specs.Pattern.{Reading, readingAnswer}
 use Rattle.parser.proofs.Outcomes.{answers-given}
 use Rattle.equality.specs.Verdict.{Equal, Apart}
 use Rattle.verdict_line.specs.Texts.{twoTexts, withFirstText, withSecondText, onTexts, verdictAnswer}
@@ -45,7 +45,7 @@ module _ (lower upper : ℕ) (A B : Automaton) (well-a : WellFormed A) (well-b :
   line-says x bytes e (differs t w h) = let z : t ≡ two = cc in says-differ w (subst (λ (u : Two). Apart u w) z h)
 
 -- an input of two texts that are read as the automata A and B, both within the limits of determinizing
-module _ (lower upper : ℕ) (t : List ℕ) (at : ℕ) (few : length t ≤ 65536) (texts : twoTexts t ≡ found mark at) (R S : Reading) (first : parseAnswer t ≡ given R) (second : parseAnswer (drop at t) ≡ given S)
+module _ (lower upper : ℕ) (t : List ℕ) (at : ℕ) (few : length t ≤ 65536) (texts : twoTexts t ≡ found mark at) (R S : Reading) (first : readingAnswer t ≡ given R) (second : readingAnswer (drop at t) ≡ given S)
     (D E : Automaton) (is-d : determinize lower upper (R .pattern .automaton) ≡ given D) (is-e : determinize lower upper (S .pattern .automaton) ≡ given E) where
   is-two : verdictAnswer lower upper t ≡ given (record { one = D; two = E; lower = lower; upper = upper })
   unfolding verdictAnswer withFirstText withSecondText
