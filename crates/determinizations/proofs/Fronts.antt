@@ -59,7 +59,7 @@ module _ (lower upper : ℕ) (s old new : List ℕ) (r : Determinized) (e : dete
         let z : determinizedOf (Sheet n m) new ≡ sheetOutput old (given D) = ap (λ (r : Determinized). determinizedOf r new) (sym q) ∙ e ∙ ap (sheetOutput old) h in
         let y = ap (λ (o : SheetOutput). o .answer) z in
         let v : _≡_ {A = SheetSize} (record { words = n; states = m }) (record { words = length (write D); states = D .size }) = cc in
-        record { is-n = ap (λ (x : SheetSize). x .words) v; is-new = ap (λ (o : SheetOutput). o .sheet) z }
+        record { is-n = ap (λ (x : SheetSize). x .words) v; is-new = ap (λ (o : SheetOutput). o .memory) z }
 
     some : (D : Automaton) × (determinize lower upper (read s) ≡ given D)
     unfolding sheetOutput

@@ -15,7 +15,8 @@ use Rattle.parser.specs.Pattern.{parseAnswer}
 use Rattle.product.specs.Product.{intersectionAnswer}
 use Rattle.refusal.specs.Reply.{Reply}
 use Rattle.subautomaton.specs.Answer.{subautomatonAnswer}
-use Rattle.totality.specs.Answers.{isNfaAnswer, totalizeAnswer, complementAnswer}
+use Rattle.nondeterminism.specs.Nondeterminism.{isNfaAnswer}
+use Rattle.totality.specs.Answers.{totalizeAnswer, complementAnswer}
 use Rattle.words.specs.Acceptance.{acceptsWordsAnswer, acceptsTextAnswer}
 use Rattle.ringmatch.specs.Reply.{replyNumber, replyBit, replyPattern, replyReading, VerdictCells, replyVerdict}
 
