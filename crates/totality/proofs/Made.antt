@@ -65,8 +65,8 @@ module _ (lower upper : ℕ) (s starts holes : List ℕ) (r : HolesInputs s star
   pub total-fits : Fits w64 (recordCount s + k + 1)
   total-fits = record { fits = omega (arith, e, holes-bound lower upper s starts holes r, r .accepted .few-records) }
 
-  pub total-small : (o : List ℕ) → stateCount s ≤ 255 → recordCount s + k + 1 ≤ 2048 → 10500 ≤ length o → TotalizedRoom lower upper s o (recordCount s + k + 1)
-  total-small o h m g = record { few-states = omega arith; few-transitions = m; counted = count-is; room = g }
+  pub totalized-room : (o : List ℕ) → stateCount s ≤ 255 → recordCount s + k + 1 ≤ 2048 → 10500 ≤ length o → TotalizedRoom lower upper s o (recordCount s + k + 1)
+  totalized-room o h m g = record { few-states = omega arith; few-transitions = m; counted = count-is; room = g }
 
 -- the totalized sheet
 module _ (b : Bool) (lower upper : ℕ) (s : List ℕ) (ls : List (List ℕ)) (o l : List ℕ) where
@@ -95,7 +95,7 @@ module _ (b : Bool) (lower upper : ℕ) (s : List ℕ) (ls : List (List ℕ)) (o
         made-given o l o′ l′ w y (totalPatternFlippedIf b lower upper (read s) ls) p q
         ∙ ap (outputs o l) (sym (limited-given (totalPatternFlippedIf b lower upper (read s) ls) (rw size-is (omega arith)) (rw transitions-are g)))
 
-pub ruleset totalMadeLaws = (total-states, count-fits, total-fits, total-small, total-transitions, total-given, inputs-after, needs)
+pub ruleset totalMadeLaws = (total-states, count-fits, total-fits, totalized-room, total-transitions, total-given, inputs-after, needs)
 
 -- what stands behind the accept words of a sheet
 behind-accepts : (s : List ℕ) → Accepted s → drop (stateCount s + 3) s ≡ length (read s .transitions) ∷ writeRecords (read s .transitions)

@@ -49,7 +49,7 @@ module _ (A : Automaton) (w : WellFormed A) (q lower upper sink : ℕ) where
       subst (Before (holeTo sink q s)) e (later refl (later refl (here l))))
       (holes-ascend a (λ h m. f h (List·Memᴰ·tail m)))
 
-  -- and they can be merged with its transitions
+  -- the holes of a state can be merged with its transitions
   pub state-mergeable : Mergeable sink q (leaving A q) (holesOf lower upper (leaving A q))
   state-mergeable =
       record {

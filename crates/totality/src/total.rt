@@ -12,7 +12,7 @@ ghost use Rattle.sheets.specs.Sheet.{stateCount, read, write};
 ghost use Rattle.totality.specs.Totality.{filled, filledIn, totalized};
 ghost use Rattle.totality.specs.inner.Merging.{readSpans, leading, Mergeable, merged, WholeRecords, Fillable, flippedWordIf, flippedIf, headWords, frontWords, TotalizedRoom};
 
-// The place behind the records from i on that come before a hole that begins at first.
+// The place behind the records from i on that come before a hole that begins at `first`.
 fn records_before(run: &[u32], i: usize, first: u32) -> usize
     requires { ⌜ i ≤ length (now run) ⌝ }
     ensures { λ r. ⌜ (r ≡ i + 5 * leading first (readRecords (drop i (now (run .entry))))) × (r ≤ length (now (run .entry))) ⌝ }

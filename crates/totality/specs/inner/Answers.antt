@@ -14,7 +14,7 @@ use Rattle.totality.specs.declared.Inputs.the-variants as inputs
 use Rattle.totality.specs.inner.Merging.{flippedIf}
 use Rattle.totality.specs.Totality.{totalized, flipped}
 
--- the same with acceptance flipped, or not
+-- the totalized automaton with acceptance flipped, or not, and `sink` behind the labels
 unfoldable pub totalPatternFlippedIf : Bool → ℕ → ℕ → Automaton → List (List ℕ) → Pattern
 totalPatternFlippedIf flip lower upper A ls = record { automaton = flippedIf flip (totalized lower upper A); labels = ls ++ sinkLabel ∷ [] }
 

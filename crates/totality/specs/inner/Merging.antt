@@ -22,7 +22,7 @@ readSpans [] = []
 readSpans (a ∷ []) = []
 readSpans (a ∷ b ∷ ws) = record { first = a; last = b } ∷ readSpans ws
 
--- how many transitions, from the first on, come before a hole that begins at first
+-- how many transitions, from the first on, come before a hole that begins at `first`
 unfoldable pub leading : ℕ → List Transition → ℕ
 leading first [] = 0
 leading first (e ∷ es) = cond (leb (e .first) first) (suc (leading first es)) 0
