@@ -7,9 +7,9 @@ use Rattle.lists.specs.Lists.{_∈_, Ascending}
 use Rattle.lists.proofs.Members.{ascending-first, ascending-rest}
 use Rattle.automata.specs.Automaton.{Transition}
 use Rattle.automata.proofs.Ordered.{lex-trans, lex-irreflexive}
+use Rattle.pairs.specs.inner.Pairs.{Pairs, classes, PairsKept}
 use Rattle.equivalence.specs.Triggers.{SameTrigger, TriggersWithin}
 use Rattle.equivalence.specs.inner.Rows.{Lower}
-use Rattle.equivalence.specs.inner.Walking.{Pairs, classes, Grown}
 use Rattle.equivalence.proofs.Triggers.{trigger-turn, trigger-chain}
 use Rattle.equivalence.proofs.Rows.{lower-apart, lower-right}
 
@@ -36,11 +36,11 @@ module _ {n1 : ℕ} {w : Pairs} {F G : List Transition} (f : Ascending Lower F) 
   right-sorted whole = g
   right-sorted (next s j z) = ascending-rest (right-sorted z)
 
--- the classes grow
-pub zipped-grown : {n1 : ℕ} {w r : Pairs} {F G ds es : List Transition} → Grown w r → ((d : Transition) → d ∈ F → d .to < w .sets .n) → ((e : Transition) → e ∈ G → n1 + e .to < w .sets .n) → Zipped n1 w F G ds es → Zipped n1 r F G ds es
-zipped-grown k a b whole = whole
-zipped-grown {n1} k a b (next {d} {e} s j z) =
-    next s (k .kept (d .to) (n1 + e .to) (a d (zipped-left z d (List·Memᴰ·head refl))) (b e (zipped-right z e (List·Memᴰ·head refl))) j) (zipped-grown k a b z)
+-- more classes joined
+pub zipped-kept : {n1 : ℕ} {w r : Pairs} {F G ds es : List Transition} → PairsKept w r → ((d : Transition) → d ∈ F → d .to < w .sets .n) → ((e : Transition) → e ∈ G → n1 + e .to < w .sets .n) → Zipped n1 w F G ds es → Zipped n1 r F G ds es
+zipped-kept k a b whole = whole
+zipped-kept {n1} k a b (next {d} {e} s j z) =
+    next s (k .joins (d .to) (n1 + e .to) (a d (zipped-left z d (List·Memᴰ·head refl))) (b e (zipped-right z e (List·Memᴰ·head refl))) j) (zipped-kept k a b z)
 
 -- equal triggers, which are joined
 pub record Matched (n1 : ℕ) (w : Pairs) (ds es : List Transition) : Type 0 where

@@ -1,4 +1,4 @@
--- The loop over two runs: its laws, in the words of the code. Assumes nothing.
+-- Two runs compared in one pass: the laws of the loop, in the words of the code. Assumes nothing.
 use Prim.Native.Nat.{ℕ, _+_, _-_, _≤_, _<_}
 use mathlib.Core.Bool.{Bool, true, false, not}
 use mathlib.Core.List.{List, [], _∷_, List·Memᴰ·head}
@@ -15,30 +15,15 @@ use Rattle.automata.specs.Automaton.{Transition}
 use Rattle.automata.specs.Records.{readRecords}
 use Rattle.automata.specs.inner.Records.{recordAt}
 use Rattle.automata.proofs.Records.{records-at, records-end}
-use Rattle.dsu.proofs.Generated.{spanned-room}
+use Rattle.pairs.specs.inner.Pairs.{Pairs, ValidPairs, PairsKept, PairFits, PairJoined}
+use Rattle.pairs.proofs.Laws.{pair-fits, kept-self, kept-chain}
 use Rattle.equivalence.specs.Triggers.{SameTrigger, TriggersWithin, sameTrigger}
 use Rattle.equivalence.specs.inner.Rows.{leadersBehind, leaders, RowEnd}
-use Rattle.equivalence.specs.inner.Walking.{Pairs, Good, Grown, CanOffer, Offered, Runs, CanTurn, Comes, Saw, Turned}
+use Rattle.equivalence.specs.inner.Walking.{Runs, ComparableRuns, NewPairsFrom, RunsAlike, RunsCompared}
 use Rattle.equivalence.proofs.Triggers.{trigger-test, trigger-apart, trigger-chain}
 use Rattle.equivalence.proofs.Reading.{test-parts}
 use Rattle.equivalence.proofs.Rows.{leaders-rest, leaders-out, leaders-led}
-use Rattle.equivalence.proofs.Turning.{Zipped, whole, next, zipped-left, zipped-right, zipped-grown, zipped-matched, zipped-heads, zipped-left-over, zipped-right-over}
-
--- fewer pairs than states
-pub room : (n1 x : ℕ) (w : Pairs) → Good n1 w → x < w .sets .n → w .made < 512
-room n1 x w g h = omega (arith, g .few, spanned-room (g .spanned) (omega arith))
-
-grown-self : (w : Pairs) → Grown w w
-grown-self w = record { same-n = refl; more = omega arith; one = λ i h. refl; two = λ i h. refl; kept = λ x y h k e. e }
-
-grown-chain : {v w r : Pairs} → Grown v w → Grown w r → Grown v r
-grown-chain {v} {w} {r} a b = record {
-  same-n = b .same-n ∙ a .same-n;
-  more = omega (arith, a .more, b .more);
-  one = λ i h. b .one i (omega (arith, a .more)) ∙ a .one i h;
-  two = λ i h. b .two i (omega (arith, a .more)) ∙ a .two i h;
-  kept = λ x y h k e. b .kept x y (omega (arith, a .same-n)) (omega (arith, a .same-n)) (a .kept x y h k e);
-}
+use Rattle.equivalence.proofs.Zipped.{Zipped, whole, next, zipped-left, zipped-right, zipped-kept, zipped-matched, zipped-heads, zipped-left-over, zipped-right-over}
 
 -- the rows of a run from a place on
 leaders-at : (s : List ℕ) (at : ℕ) → 5 ≤ length s - at → leaders (readRecords (drop at s)) ≡ recordAt s at ∷ leadersBehind (recordAt s at) (readRecords (drop (at + 5) s))
@@ -59,48 +44,48 @@ within-leaders {ds} {es} w d m = let (e, n, s) = w d (leaders-out ds d m) in let
 leaders-within : {ds es : List Transition} → TriggersWithin (leaders ds) (leaders es) → TriggersWithin ds es
 leaders-within {ds} {es} w d m = let (l, n, s) = leaders-led ds d m in let (e, k, t) = w l n in (e, leaders-out es e k, trigger-chain s t)
 
--- the rows before j and k are done
-pub record Comparing (n1 : ℕ) (ra rb : List ℕ) (v w : Pairs) (j k : ℕ) : Type 0 where
+-- the rows before j and k have equal triggers, whose targets are joined
+pub record RunsInvariant (n1 : ℕ) (ra rb : List ℕ) (v w : Pairs) (j k : ℕ) : Type 0 where
   pub runs : Runs n1 (w .sets .n) (readRecords ra) (readRecords rb)
-  pub good : Good n1 w
-  pub grown : Grown v w
-  pub comes : Comes (readRecords ra) (readRecords rb) v w
+  pub valid : ValidPairs n1 w
+  pub kept : PairsKept v w
+  pub new-from : NewPairsFrom (readRecords ra) (readRecords rb) v w
   pub left : Zipped n1 w (leaders (readRecords ra)) (leaders (readRecords rb)) (leaders (readRecords (drop j ra))) (leaders (readRecords (drop k rb)))
   pub j-in : j ≤ length ra
   pub k-in : k ≤ length rb
 
-pub turn-begin : (n1 : ℕ) (ra rb : List ℕ) (w : Pairs) → CanTurn n1 (readRecords ra) (readRecords rb) w → Comparing n1 ra rb w w 0 0
-turn-begin n1 ra rb w c = record { runs = c .runs; good = c .good; grown = grown-self w; comes = λ i h k. absurd (omega arith); left = whole; j-in = omega arith; k-in = omega arith }
+pub runs-begin : (n1 : ℕ) (ra rb : List ℕ) (w : Pairs) → ComparableRuns n1 (readRecords ra) (readRecords rb) w → RunsInvariant n1 ra rb w w 0 0
+runs-begin n1 ra rb w c = record { runs = c .runs; valid = c .valid; kept = kept-self w; new-from = λ i h k. absurd (omega arith); left = whole; j-in = omega arith; k-in = omega arith }
 
-module _ (n1 : ℕ) (ra rb : List ℕ) (v w : Pairs) (j k : ℕ) (c : Comparing n1 ra rb v w j k) where
+module _ (n1 : ℕ) (ra rb : List ℕ) (v w : Pairs) (j k : ℕ) (c : RunsInvariant n1 ra rb v w j k) where
   abbrev F : List Transition
   F = leaders (readRecords ra)
 
   abbrev G : List Transition
   G = leaders (readRecords rb)
 
-  -- what was seen at the end
-  seen : (b : Bool) → Saw n1 (readRecords ra) (readRecords rb) w b → Turned n1 (readRecords ra) (readRecords rb) v w b
-  seen b s = record { good = c .good; grown = c .grown; comes = c .comes; saw = s }
+  -- the answer at the end
+  answered : (b : Bool) → RunsAlike n1 (readRecords ra) (readRecords rb) w b → RunsCompared n1 (readRecords ra) (readRecords rb) v w b
+  answered b s = record { valid = c .valid; kept = c .kept; new-from = c .new-from; answer = s }
 
   -- the second has no more triggers
-  pub turn-short : 5 ≤ length ra - j → length rb - k < 5 → Turned n1 (readRecords ra) (readRecords rb) v w false
-  turn-short h l =
+  pub runs-short : 5 ≤ length ra - j → length rb - k < 5 → RunsCompared n1 (readRecords ra) (readRecords rb) v w false
+  runs-short h l =
       let z = subst (λ (ds : List Transition). Zipped n1 w F G ds []) (leaders-at ra j h) (subst (λ (es : List Transition). Zipped n1 w F G (leaders (readRecords (drop j ra))) es) (leaders-end rb k l) (c .left)) in
-      seen false (λ there back. zipped-left-over (c .runs .first) (c .runs .second) z (within-leaders there))
+      answered false (λ there back. zipped-left-over (c .runs .first) (c .runs .second) z (within-leaders there))
 
   -- the first has no more
-  pub turn-done : length ra - j < 5 → Turned n1 (readRecords ra) (readRecords rb) v w (ltb (length rb - k) 5)
-  turn-done h =
+  pub runs-done : length ra - j < 5 → RunsCompared n1 (readRecords ra) (readRecords rb) v w (ltb (length rb - k) 5)
+  runs-done h =
       let y = subst (λ (ds : List Transition). Zipped n1 w F G ds (leaders (readRecords (drop k rb)))) (leaders-end ra j h) (c .left) in
       ⊎-elim
       (λ (t : ltb (length rb - k) 5 ≡ true).
       let z = subst (λ (es : List Transition). Zipped n1 w F G [] es) (leaders-end rb k (ltb-true (length rb - k) 5 t)) y in
       let m = zipped-matched (c .runs .first) (c .runs .second) z (record { there = λ d i. elim i [ ]; back = λ d i. elim i [ ]; joined = λ d e i. elim i [ ] }) in
-      rw t (seen true (leaders-within (m .there), leaders-within (m .back), m .joined)))
+      rw t (answered true (leaders-within (m .there), leaders-within (m .back), m .joined)))
       (λ (t : ltb (length rb - k) 5 ≡ false).
       let z = subst (λ (es : List Transition). Zipped n1 w F G [] es) (leaders-at rb k (ltb-false (length rb - k) 5 t)) y in
-      rw t (seen false (λ there back. zipped-right-over (c .runs .first) (c .runs .second) z (within-leaders back))))
+      rw t (answered false (λ there back. zipped-right-over (c .runs .first) (c .runs .second) z (within-leaders back))))
       (test (ltb (length rb - k) 5))
 
   module _ (h : 5 ≤ length ra - j) (l : 5 ≤ length rb - k) where
@@ -125,44 +110,44 @@ module _ (n1 : ℕ) (ra rb : List ℕ) (v w : Pairs) (j k : ℕ) (c : Comparing 
     q-in : n1 + getD rb (k + 4) 0 < w .sets .n
     q-in = c .runs .second-in e (leaders-out (readRecords rb) e e-in)
 
-    pub turn-can : CanOffer n1 (getD ra (j + 4) 0) (getD rb (k + 4) 0) w
-    turn-can = record { good = c .good; room = room n1 (getD ra (j + 4) 0) w (c .good) p-in; p-in = p-in; q-in = q-in }
+    pub runs-fit : PairFits n1 (getD ra (j + 4) 0) (getD rb (k + 4) 0) w
+    runs-fit = pair-fits n1 (getD ra (j + 4) 0) (getD rb (k + 4) 0) w (c .valid) p-in q-in
 
     module _ (b : Bool) (is-b : b ≡ sameTrigger (recordAt (take (j + 5 - j) (drop j ra)) 0) (recordAt (take (k + 5 - k) (drop k rb)) 0)) where
       -- the next triggers differ
-      pub turn-apart : not b ≡ true → Turned n1 (readRecords ra) (readRecords rb) v w false
-      turn-apart f =
-          seen false (λ there back. zipped-heads (c .runs .first) (c .runs .second) zipped (trigger-apart d e (sym (test-parts ra rb j k b is-b) ∙ not-true b f)) (within-leaders there) (within-leaders back))
+      pub runs-apart : not b ≡ true → RunsCompared n1 (readRecords ra) (readRecords rb) v w false
+      runs-apart f =
+          answered false (λ there back. zipped-heads (c .runs .first) (c .runs .second) zipped (trigger-apart d e (sym (test-parts ra rb j k b is-b) ∙ not-true b f)) (within-leaders there) (within-leaders back))
 
       -- they are equal, and their targets are joined
-      module _ (f : not b ≡ false) (r : Pairs) (o : Offered n1 (getD ra (j + 4) 0) (getD rb (k + 4) 0) w r) where
+      module _ (f : not b ≡ false) (r : Pairs) (o : PairJoined n1 (getD ra (j + 4) 0) (getD rb (k + 4) 0) w r) where
         same : SameTrigger d e
         same = trigger-test d e (sym (test-parts ra rb j k b is-b) ∙ not-false b f)
 
-        came : Comes (readRecords ra) (readRecords rb) v r
+        came : NewPairsFrom (readRecords ra) (readRecords rb) v r
         came i m n =
             ⊎-elim
             (λ (t : ltb i (w .made) ≡ true).
             let u = ltb-true i (w .made) t in
-            let x = c .comes i m u in
-            record { left = x .left; right = x .right; in-left = x .in-left; in-right = x .in-right; same = x .same; to-left = o .grown .one i u ∙ x .to-left; to-right = o .grown .two i u ∙ x .to-right })
+            let x = c .new-from i m u in
+            record { left = x .left; right = x .right; in-left = x .in-left; in-right = x .in-right; same = x .same; to-left = o .kept .one i u ∙ x .to-left; to-right = o .kept .two i u ∙ x .to-right })
             (λ (t : ltb i (w .made) ≡ false).
             let x = o .new i (ltb-false i (w .made) t) n in
-            record { left = d; right = e; in-left = d-in; in-right = e-in; same = same; to-left = x .0; to-right = x .1 })
+            record { left = d; right = e; in-left = d-in; in-right = e-in; same = same; to-left = x .1; to-right = x .2 })
             (test (ltb i (w .made)))
 
-        pub turn-next : (x y : ℕ) → RowEnd ra j x → RowEnd rb k y → Comparing n1 ra rb v r x y
-        turn-next x y ex ey =
-            let z = zipped-grown (o .grown) (λ a m. c .runs .first-in a (leaders-out (readRecords ra) a m)) (λ a m. c .runs .second-in a (leaders-out (readRecords rb) a m)) zipped in
+        pub runs-next : (x y : ℕ) → RowEnd ra j x → RowEnd rb k y → RunsInvariant n1 ra rb v r x y
+        runs-next x y ex ey =
+            let z = zipped-kept (o .kept) (λ a m. c .runs .first-in a (leaders-out (readRecords ra) a m)) (λ a m. c .runs .second-in a (leaders-out (readRecords rb) a m)) zipped in
             let rest = next same (o .joined) z in
             record {
-              runs = subst (λ (n : ℕ). Runs n1 n (readRecords ra) (readRecords rb)) (sym (o .grown .same-n)) (c .runs);
-              good = o .good;
-              grown = grown-chain (c .grown) (o .grown);
-              comes = came;
+              runs = subst (λ (n : ℕ). Runs n1 n (readRecords ra) (readRecords rb)) (sym (o .kept .same-n)) (c .runs);
+              valid = o .valid;
+              kept = kept-chain (c .kept) (o .kept);
+              new-from = came;
               left = subst (λ (ds : List Transition). Zipped n1 r F G ds (leaders (readRecords (drop y rb)))) (sym (row-rest ra j x ex)) (subst (λ (es : List Transition). Zipped n1 r F G (leadersBehind d (readRecords (drop (j + 5) ra))) es) (sym (row-rest rb k y ey)) rest);
               j-in = ex .inside;
               k-in = ey .inside;
             }
 
-pub ruleset turning = (turn-begin, turn-short, turn-done, turn-can, turn-apart, turn-next, needs)
+pub ruleset runLaws = (runs-begin, runs-short, runs-done, runs-fit, runs-apart, runs-next, needs)
