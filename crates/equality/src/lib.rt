@@ -12,7 +12,7 @@ use refusal::Refusal;
 use refusal::StateRefusal;
 use sheets::Checked;
 
-mod pairs;
+mod walk;
 
 // The verdict of exact equality: same with the joins made, different with the length of the word written, or refused.
 pub enum Verdict {
@@ -28,7 +28,7 @@ fn compare_second(d: &[u32], b: &[u32], lower: u32, upper: u32, word: &mut [u32]
 {
     let mut out = [0u32; 10500];
     match determinize::determinize_accepted(b, lower, upper, &mut out) {
-        Determinized::Sheet(n, _) => pairs::walk(d, &out[..n], lower, upper, word),
+        Determinized::Sheet(n, _) => walk::walk(d, &out[..n], lower, upper, word),
         Determinized::Refused(r) => Verdict::Refused(Refusal::State(r)),
     }
 }

@@ -3,6 +3,7 @@ use Prim.Native.Nat.{ℕ, _+_, _*_, _≤_, _<_}
 use mathlib.Core.Bool.{Bool, true, false}
 use mathlib.Core.List.{List}
 use mathlib.Core.Path.{_≡_, refl, sym, ap, subst, _∙_}
+use native.Mathlib.Decide.{ℕ-discrete}
 use native.Mathlib.Omega.{arith}
 use lib.ListN.{length, getD, set, length-set}
 use lib.Seq.{getD-set-same, getD-set-other}
@@ -12,7 +13,7 @@ use Rattle.dsu.specs.inner.Generated.{Spanned}
 use Rattle.dsu.specs.Sets.{newOf}
 use Rattle.dsu.specs.Laws.{classOf}
 use Rattle.dsu.specs.inner.Lent.{JoinLaw, old, new}
-use Rattle.dsu.proofs.Generated.{spanned-alone, spanned-more, spanned-renamed, spanned-room}
+use Rattle.dsu.proofs.Generated.{generated-into, spanned-alone, spanned-more, spanned-renamed, spanned-room}
 use Rattle.dsu.proofs.Laws.{new-law}
 use Rattle.pairs.specs.inner.Pairs.{Pairs, classes, oneAt, twoAt, ValidPairs, NoPairs, PairsKept, PairFits, PairJoined}
 
@@ -34,6 +35,16 @@ no-pairs n few f e queue long =
 -- fewer pairs than states
 pub pairs-fewer : (n1 : ℕ) (w : Pairs) → ValidPairs n1 w → 0 < w .sets .n → w .made < w .sets .n
 pairs-fewer n1 w v h = spanned-room (v .spanned) h
+
+-- where a state of the first automaton and one of the second are joined, there is a pair
+pub pairs-some : (n1 p q : ℕ) (w : Pairs) → ValidPairs n1 w → p < n1 → p < w .sets .n → n1 + q < w .sets .n → classes w p ≡ classes w (n1 + q) → 0 < w .made
+pairs-some n1 p q w v h p-in q-in e = by-number (ℕ-discrete (w .made) 0)
+  where
+    by-number : Dec (w .made ≡ 0) → 0 < w .made
+    by-number (yes z) =
+        let same : p ≡ n1 + q = generated-into (λ (x y : ℕ). x ≡ y) (λ x b. refl) (λ x y l. sym l) (λ x y s l m. l ∙ m) (λ i l. absurd (omega (arith, z))) (v .spanned .only p (n1 + q) p-in q-in e) in
+        absurd (omega arith)
+    by-number (no z) = omega arith
 
 pub pairs-few : (n1 : ℕ) (w : Pairs) → ValidPairs n1 w → w .made ≤ 512
 pairs-few n1 w v = omega (arith, v .spanned .counted, v .few)

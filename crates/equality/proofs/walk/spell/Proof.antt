@@ -4,18 +4,17 @@ use mathlib.Core.Path.{_≡_, refl, _∙_}
 use native.Mathlib.Omega.{arith}
 use lib.ListN.{getD, length, length-set}
 use lib.Seq.{drop-set-lt}
-use Rattle.equality.specs.inner.Walking.{trail}
-use Rattle.equality.specs.inner.Code.{queueOf}
+use Rattle.equality.specs.inner.Walking.{trailOf}
 use Rattle.equality.proofs.Spelling.{Spelling, spell-start, spell-inside, spell-next, spell-done}
 use borrow.Author.Needs.{needs}
-use Rattle.equality.proofs.pairs.spell.Statement.{statement}
-use Rattle.equality.proofs.pairs.spell.Tie as tie
+use Rattle.equality.proofs.walk.spell.Statement.{statement}
+use Rattle.equality.proofs.walk.spell.Tie as tie
 
 abbrev Inv-loop : tie.InvT-loop
-Inv-loop queue i x out₀ at₀ n c₀ out at c = Spelling (trail (queueOf queue)) i x n out₀ out at c
+Inv-loop trail i x out₀ at₀ n c₀ out at c = Spelling (trailOf trail) i x n out₀ out at c
 
 abbrev μ-loop : tie.MeasureT-loop
-μ-loop queue i x out₀ at₀ n c₀ out at c = at
+μ-loop trail i x out₀ at₀ n c₀ out at c = at
 
 loop-holds : tie.Need-loop-holds Inv-loop μ-loop
 loop-holds c = let s = c .before in spell-start _ _ _ (s .args .out .now) _ _ refl (omega (arith, s .pre .2)) refl
@@ -35,21 +34,21 @@ loop-again c =
 same-length : tie.Need-same-length Inv-loop μ-loop
 same-length c =
     let s = c .before .before .before in
-    let at = getD (s .args .queue .now) (5 * s .args .i + 4) 0 in
+    let at = getD (s .args .trail .now) (3 * s .args .i + 2) 0 in
     let l : length (c .before .loop .out) ≡ length (s .args .out .now) = c .before .loop .inv .long ∙ length-set (s .args .out .now) at (s .args .x) in
     search needs
 
 returns : tie.Need-returns Inv-loop μ-loop
 returns c =
     let s = c .before .before .before in
-    let at = getD (s .args .queue .now) (5 * s .args .i + 4) 0 in
+    let at = getD (s .args .trail .now) (3 * s .args .i + 2) 0 in
     spell-done _ _ _ (s .pre .0) _ _ _ _ _ (c .before .loop .inv) (c .loop-test .left) (s .args .out .now) (drop-set-lt (at + 1) (s .args .out .now) at (s .args .x) (omega arith))
 
 pub spell-spec : {M : Type 1} → statement M
 spell-spec =
     tie.close
     (tie.spec Inv-loop μ-loop (λ c. search needs) (λ c. search needs) (λ c. search needs) (λ c. search needs)
-    (λ c. search needs) (λ c. search needs) (λ c. search needs) (λ c. search needs) loop-holds (λ c. search needs)
+    (λ c. search needs) (λ c. search needs) (λ c. search needs) (λ c. search needs) loop-holds
     (λ c. search needs) (λ c. search needs) (λ c. search needs) (λ c. search needs) (λ c. search needs) (λ c. search needs)
     (λ c. search needs) (λ c. search needs) (λ c. search needs) (λ c. search needs) cast-c (λ c. search needs) loop-again
     same-length returns)
