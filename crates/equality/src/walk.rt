@@ -4,7 +4,7 @@
 // The pairs stand in a queue (crate pairs). Beside it stands the trail, three words for each pair: the pair that it was met from, the
 // symbol, and how many symbols lead to it. The first pair was met from none.
 ghost use mathlib.Core.Path.{_≡_};
-ghost use Prim.Native.Nat.{_+_, _*_, _≤_, _<_};
+ghost use Prim.Native.Nat.{_+_, _*_, _<_};
 ghost use lib.ListN.{length, getD};
 ghost use Rattle.automata.specs.inner.Records.{recordAt};
 ghost use Rattle.pairs.specs.inner.Pairs.{pairsOf};

@@ -28,11 +28,28 @@ use Rattle.dsu.specs.Sets.{newOf}
 use Rattle.pairs.specs.inner.Pairs.{Pairs, classes, oneAt, twoAt, ValidPairs, NoPairs, PairFits, PairJoined}
 use Rattle.pairs.proofs.Laws.{no-pairs, pairs-few, pair-fits}
 use Rattle.equivalence.specs.Equivalent.{ReachedByTriggers, start, step, Alike, equivalent}
-use Rattle.equivalence.specs.inner.Walking.{Runs, ComparableRuns, RunsAlike, RunsCompared, FirstTargetsJoined, IndexedSheets, WalkInvariant}
+use Rattle.equivalence.specs.inner.Walking.{Runs, ComparableRuns, RunsAlike, RunsCompared, IndexedSheets}
+use Rattle.equivalence.specs.Triggers.{SameTrigger, First}
 use Rattle.equivalence.proofs.Triggers.{trigger-turn, trigger-chain, first-target}
 use Rattle.equivalence.proofs.Exact.{reached-in, exact, exact-false}
 use Rattle.equivalence.proofs.Rows.{Sorted, leaders-ascend, leaders-first, leaders-led}
 use Rattle.equivalence.proofs.Bisimulation.{walked-alike}
+
+-- the first records of equal triggers of two states lead into one class
+abbrev FirstTargetsJoined : List ℕ → List ℕ → Pairs → ℕ → ℕ → Type 0
+FirstTargetsJoined a b w p q = (d e : Transition) → First (leaving (read a) p) d → First (leaving (read b) q) e → SameTrigger d e → classes w (d .to) ≡ classes w (stateCount a + e .to)
+
+-- the pairs w, of which the first `head` are compared
+pub record WalkInvariant (a b starts-a starts-b : List ℕ) (n1 head : ℕ) (w : Pairs) : Type 0 where
+  pub sheets : IndexedSheets a b starts-a starts-b
+  pub is-n1 : n1 ≡ stateCount a
+  pub valid : ValidPairs n1 w
+  pub is-n : w .sets .n ≡ stateCount a + stateCount b
+  pub started : classes w (getD a 1 0) ≡ classes w (stateCount a + getD b 1 0)
+  pub reached : (i : ℕ) → i < w .made → ReachedByTriggers (read a) (read b) (oneAt w i) (twoAt w i)
+  pub so-far : head ≤ w .made
+  pub alike : (i : ℕ) → i < head → Alike (read a) (read b) (oneAt w i) (twoAt w i)
+  pub follows : (i : ℕ) → i < head → FirstTargetsJoined a b w (oneAt w i) (twoAt w i)
 
 -- the transitions of a state are in order
 leaving-sorted : (A : Automaton) → WellFormed A → (p : ℕ) → Sorted p (leaving A p)

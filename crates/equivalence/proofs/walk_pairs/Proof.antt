@@ -2,8 +2,7 @@
 use Prim.Native.Nat.{_-_}
 use mathlib.Core.Path.{refl}
 use Rattle.pairs.specs.inner.Pairs.{pairsOf}
-use Rattle.equivalence.specs.inner.Walking.{WalkInvariant}
-use Rattle.equivalence.proofs.WalkLaws.{walkLaws, walk-fits, walk-begin, walk-in-a, walk-in-b, walk-rejects, walk-run-a, walk-run-b, walk-runs, walk-lacks, walk-next}
+use Rattle.equivalence.proofs.WalkLaws.{WalkInvariant, walkLaws, walk-fits, walk-begin, walk-in-a, walk-in-b, walk-rejects, walk-run-a, walk-run-b, walk-runs, walk-lacks, walk-next}
 use Rattle.equivalence.proofs.walk_pairs.Statement.{statement}
 use Rattle.equivalence.proofs.walk_pairs.Tie as tie
 

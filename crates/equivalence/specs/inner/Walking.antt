@@ -3,15 +3,12 @@ use Prim.Native.Nat.{ℕ, _+_, _<_, _≤_}
 use mathlib.Core.Bool.{Bool, true, false}
 use mathlib.Core.List.{List}
 use mathlib.Core.Path.{_≡_}
-use lib.ListN.{getD}
 use Rattle.lists.specs.Lists.{_∈_, Ascending}
-use Rattle.automata.specs.Automaton.{Transition, leaving}
+use Rattle.automata.specs.Automaton.{Transition}
 use Rattle.sheets.specs.inner.Accepted.{Accepted}
 use Rattle.sheets.specs.inner.Runs.{Indexed}
-use Rattle.sheets.specs.Sheet.{stateCount, read}
 use Rattle.pairs.specs.inner.Pairs.{Pairs, classes, oneAt, twoAt, ValidPairs, PairsKept}
-use Rattle.equivalence.specs.Triggers.{SameTrigger, First, TriggersWithin}
-use Rattle.equivalence.specs.Equivalent.{ReachedByTriggers, Alike}
+use Rattle.equivalence.specs.Triggers.{SameTrigger, TriggersWithin}
 use Rattle.equivalence.specs.inner.Rows.{leaders, Lower}
 
 -- two runs in order that lead to states, the second's counted behind the first's
@@ -55,25 +52,9 @@ pub record RunsCompared (n1 : ℕ) (ds es : List Transition) (w r : Pairs) (alik
   pub new-from : NewPairsFrom ds es w r
   pub answer : RunsAlike n1 ds es r alike
 
--- the first records of equal triggers of two states lead into one class
-abbrev pub FirstTargetsJoined : List ℕ → List ℕ → Pairs → ℕ → ℕ → Type 0
-FirstTargetsJoined a b w p q = (d e : Transition) → First (leaving (read a) p) d → First (leaving (read b) q) e → SameTrigger d e → classes w (d .to) ≡ classes w (stateCount a + e .to)
-
 -- two accepted sheets, and where the records of each state begin
 pub record IndexedSheets (a b starts-a starts-b : List ℕ) : Type 0 where
   pub first : Accepted a
   pub second : Accepted b
   pub index-a : Indexed a starts-a
   pub index-b : Indexed b starts-b
-
--- the walk with the tables of both sheets, where the first `head` pairs are compared
-pub record WalkInvariant (a b starts-a starts-b : List ℕ) (n1 head : ℕ) (w : Pairs) : Type 0 where
-  pub sheets : IndexedSheets a b starts-a starts-b
-  pub is-n1 : n1 ≡ stateCount a
-  pub valid : ValidPairs n1 w
-  pub is-n : w .sets .n ≡ stateCount a + stateCount b
-  pub started : classes w (getD a 1 0) ≡ classes w (stateCount a + getD b 1 0)
-  pub reached : (i : ℕ) → i < w .made → ReachedByTriggers (read a) (read b) (oneAt w i) (twoAt w i)
-  pub so-far : head ≤ w .made
-  pub alike : (i : ℕ) → i < head → Alike (read a) (read b) (oneAt w i) (twoAt w i)
-  pub follows : (i : ℕ) → i < head → FirstTargetsJoined a b w (oneAt w i) (twoAt w i)
