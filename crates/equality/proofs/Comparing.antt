@@ -29,7 +29,7 @@ use Rattle.equality.specs.declared.Verdict.{Verdict}
 use Rattle.equality.specs.declared.Verdict.the-variants.{Refused}
 use Rattle.equality.specs.Verdict.{Decided}
 use Rattle.equality.specs.Equality.{equalityAnswer, Judged}
-use Rattle.equality.specs.inner.Code.{Given}
+use Rattle.equality.specs.inner.Code.{WalkInput}
 
 judged-refused : (o : List ℕ) (r : Refusal) → Judged (refused (numberOf r)) o o (Refused r)
 unfolding Judged
@@ -58,7 +58,7 @@ module _ (lower upper : ℕ) (a b p q : List ℕ) (r : Both) (is-r : BothDetermi
     pub second-count : n ≡ length (take n q)
     second-count = sym (length-take-le n q second-within)
 
-    pub both-walkable : (o : List ℕ) → 510 ≤ length o → Given (take m p) (take n q) lower upper o
+    pub both-walkable : (o : List ℕ) → 510 ≤ length o → WalkInput (take m p) (take n q) lower upper o
     both-walkable o room = record { sheets = fronts .sheets; room = room }
 
     pub both-judged : (o o′ : List ℕ) (v : Verdict) → Decided (twoOf (take m p) (take n q) lower upper) o o′ v → Judged (determinized lower upper (read a) (read b)) o o′ v

@@ -11,7 +11,7 @@ use refusal::Refusal;
 use refusal::StateRefusal;
 use sheets::Checked;
 
-mod pairs;
+mod walk;
 
 // The verdict of exact equality: same with the joins made, different with the length of the word written, or refused.
 pub enum Verdict {
@@ -28,7 +28,7 @@ fn compare(a: &[u32], b: &[u32], lower: u32, upper: u32, word: &mut [u32]) -> Ve
     let mut out_a = [0u32; 10500];
     let mut out_b = [0u32; 10500];
     match determinizations::determinize_both(a, b, lower, upper, &mut out_a, &mut out_b) {
-        Both::Lengths(m, n) => pairs::walk(&out_a[..m], &out_b[..n], lower, upper, word),
+        Both::Lengths(m, n) => walk::walk(&out_a[..m], &out_b[..n], lower, upper, word),
         Both::Refused(r) => Verdict::Refused(Refusal::State(r)),
     }
 }

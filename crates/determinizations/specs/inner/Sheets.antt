@@ -19,7 +19,7 @@ abbrev pub twoOf : List ℕ → List ℕ → ℕ → ℕ → Two
 twoOf a b lower upper = record { one = read a; two = read b; lower = lower; upper = upper }
 
 -- two sheets in which every symbol has exactly one transition in every state
-pub record Sheets (a b : List ℕ) (lower upper : ℕ) : Type 0 where
+pub record DeterministicSheets (a b : List ℕ) (lower upper : ℕ) : Type 0 where
   pub first : Accepted a
   pub second : Accepted b
   pub one : Deterministic lower upper (read a)
@@ -29,7 +29,7 @@ pub record Sheets (a b : List ℕ) (lower upper : ℕ) : Type 0 where
 pub record FrontsDeterminized (lower upper : ℕ) (A B : Automaton) (o p : List ℕ) (m n : ℕ) : Type 0 where
   pub first-in : m ≤ length o
   pub second-in : n ≤ length p
-  pub sheets : Sheets (take m o) (take n p) lower upper
+  pub sheets : DeterministicSheets (take m o) (take n p) lower upper
   pub are : determinized lower upper A B ≡ given (twoOf (take m o) (take n p) lower upper)
 
 -- what the answer of the code says, with the outputs o and p as they are afterwards
