@@ -4,10 +4,8 @@ use mathlib.Core.List.{List}
 use mathlib.Core.Path.{_≡_}
 use lib.ListN.{length, getD}
 use Rattle.automata.specs.Automaton.{Transition, leaving, acceptOf}
-use Rattle.automata.specs.Deterministic.{Deterministic}
 use Rattle.automata.specs.Records.{writeRecords}
 use Rattle.automata.specs.Successors.{successor}
-use Rattle.sheets.specs.inner.Accepted.{Accepted}
 use Rattle.sheets.specs.inner.Runs.{Indexed}
 use Rattle.sheets.specs.Sheet.{stateCount, read}
 use Rattle.determinizations.specs.Two.{Two}
