@@ -239,33 +239,35 @@ fn eliminate_tables(
     put_result(s, closures, &buf[0..end], labels, out, names)
 }
 
-// Eliminates the epsilons of an accepted sheet with an accepted list of labels. The closures are put into a zeroed table that has a row for each state.
+// Eliminates the epsilons of an accepted sheet with an accepted list of labels. Where the runs begin and the closures are
+// put into tables that have an entry and a zeroed row for each state.
 fn eliminate_in(
     s: &[u32],
+    starts: &mut [u32],
     closures: &mut [u64],
     labels: &[u8],
     out: &mut [u32],
     names: &mut [u8],
 ) -> Made
-    requires { ⌜ Fresh (stateCount (now s)) (now closures) × EliminationInputs (now s) (now out) (now names) × (labelsFault (stateCount (now s)) (now labels) ≡ 0) ⌝ }
+    requires { ⌜ (stateCount (now s) < length (now starts)) × Fresh (stateCount (now s)) (now closures) × EliminationInputs (now s) (now out) (now names) × (labelsFault (stateCount (now s)) (now labels) ≡ 0) ⌝ }
     ensures { λ r. ⌜ outputOf r (now (out .exit)) (now (names .exit)) ≡ outputs (now (out .entry)) (now (names .entry)) (eliminatedWith (read (now (s .entry))) (readLabels (now (labels .entry)))) ⌝ }
 {
-    let mut starts = [0u32; 257];
-    sheets::run_starts(s, &mut starts);
+    sheets::run_starts(s, starts);
     words::state_closures(s, closures);
-    eliminate_tables(s, &starts, closures, labels, out, names, 0)
+    eliminate_tables(s, starts, closures, labels, out, names, 0)
 }
 
-// The same with a table for as many states as a sheet may have.
+// The same with tables for as many states as a sheet may have.
 fn eliminate_many_states(s: &[u32], labels: &[u8], out: &mut [u32], names: &mut [u8]) -> Made
     requires { ⌜ EliminationInputs (now s) (now out) (now names) × (labelsFault (stateCount (now s)) (now labels) ≡ 0) ⌝ }
     ensures { λ r. ⌜ outputOf r (now (out .exit)) (now (names .exit)) ≡ outputs (now (out .entry)) (now (names .entry)) (eliminatedWith (read (now (s .entry))) (readLabels (now (labels .entry)))) ⌝ }
 {
+    let mut starts = [0u32; 257];
     let mut closures = [0u64; 1024];
-    eliminate_in(s, &mut closures, labels, out, names)
+    eliminate_in(s, &mut starts, &mut closures, labels, out, names)
 }
 
-// The same with a table for 32 states where they are enough.
+// The same with tables for 32 states where they are enough.
 fn eliminate_accepted(s: &[u32], labels: &[u8], out: &mut [u32], names: &mut [u8]) -> Made
     requires { ⌜ EliminationInputs (now s) (now out) (now names) × (labelsFault (stateCount (now s)) (now labels) ≡ 0) ⌝ }
     ensures { λ r. ⌜ outputOf r (now (out .exit)) (now (names .exit)) ≡ outputs (now (out .entry)) (now (names .entry)) (eliminatedWith (read (now (s .entry))) (readLabels (now (labels .entry)))) ⌝ }
@@ -273,8 +275,9 @@ fn eliminate_accepted(s: &[u32], labels: &[u8], out: &mut [u32], names: &mut [u8
     if 32 < s[2] {
         return eliminate_many_states(s, labels, out, names);
     }
+    let mut starts = [0u32; 33];
     let mut closures = [0u64; 128];
-    eliminate_in(s, &mut closures, labels, out, names)
+    eliminate_in(s, &mut starts, &mut closures, labels, out, names)
 }
 
 // Eliminates the epsilons of an accepted sheet.
