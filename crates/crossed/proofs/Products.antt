@@ -22,7 +22,7 @@ use Rattle.product.proofs.Given.{given-fits}
 use Rattle.product.proofs.Theorems.{product-words, product-wellformed, product-written, product-read, product-given}
 use Rattle.refusal.specs.Answer.{given}
 use Rattle.refusal.specs.Reply.{Reply}
-use Rattle.ringmatch.specs.Reply.{replyBit}
+use Rattle.ringmatch.specs.Reply.{replyToBool}
 use Rattle.sheets.specs.Checked.{sheetFirst}
 use Rattle.sheets.specs.Fault.{fault}
 use Rattle.sheets.specs.Sheet.{read, write}
@@ -119,10 +119,10 @@ module _ (s : List ℕ) (f : fault s ≡ 0) (D : Automaton) (e : determinize 0 l
     unfolding intersectionAnswer
     product-left = sheet-left (x .product) _ (x .intersects) P answer-is (product-wellformed D (flipped E) P is-p (well s f D e)) (given-fits D (flipped E) P is-p)
 
-    question-left : x .question .after ≡ replyBit (x .question .answer) (given (hasReachableAccepting (P .automaton)))
-    question-left = x .asks ∙ ap (replyBit (x .question .answer)) (ap reachableAnswer product-left ∙ reached-answer P is-p)
+    question-left : x .question .after ≡ replyToBool (x .question .answer) (given (hasReachableAccepting (P .automaton)))
+    question-left = x .asks ∙ ap (replyToBool (x .question .answer)) (ap reachableAnswer product-left ∙ reached-answer P is-p)
 
-    replied-bit : (r : Reply ℕ (Unit {0})) (old : ℕ) (n : Bool) → r ≡ replyBit old (given n) → (r .code ≡ 0) × ((r .cells ≡ 0) ↔ (n ≡ false))
+    replied-bit : (r : Reply ℕ (Unit {0})) (old : ℕ) (n : Bool) → r ≡ replyToBool old (given n) → (r .code ≡ 0) × ((r .cells ≡ 0) ↔ (n ≡ false))
     replied-bit r old true q = (ap (λ z. z .code) q, (λ z. absurd (omega (arith, ap (λ z. z .cells) q)), λ z. absurd (true≢false z)))
     replied-bit r old false q = (ap (λ z. z .code) q, (λ z. refl, λ z. ap (λ z. z .cells) q))
 

@@ -11,7 +11,7 @@ use Rattle.equality.specs.Equality.{wordSize, Differs, Exact}
 use Rattle.equality.specs.declared.Verdict.{Verdict}
 use Rattle.equality.specs.declared.Verdict.the-variants.{Same, Different, Refused}
 use Rattle.refusal.specs.Reply.{Reply}
-use Rattle.ringmatch.specs.Reply.{VerdictCells, replyVerdict}
+use Rattle.ringmatch.specs.Reply.{VerdictCells, replyToVerdict}
 use Rattle.sheets.specs.Sheet.{read}
 use Rattle.crossed.specs.Calls.{Difference}
 use Rattle.crossed.specs.Demand.{EqualWords, Report}
@@ -22,7 +22,7 @@ module _ (a b : List ℕ) (t : Two) (few : totalSize t ≤ 512) (o o′ : List �
   abbrev memory : Reply VerdictCells (List ℕ) → Difference
   memory r = record { word = o; same = s; number = n; room = room; after = r }
 
-  told-exact : (v : Verdict) → Exact 0 lastSymbol (read a) (read b) t o o′ v → Report a b t (memory (replyVerdict s n v o′))
+  told-exact : (v : Verdict) → Exact 0 lastSymbol (read a) (read b) t o o′ v → Report a b t (memory (replyToVerdict s n v o′))
   told-exact (Same j) x =
       let words = x .same .0 (j, refl) in
       let (k, counted, sum, same) = x .joins j refl in
@@ -57,5 +57,5 @@ module _ (a b : List ℕ) (t : Two) (few : totalSize t ≤ 512) (o o′ : List �
       absurd (omega arith)
 
   -- the reply that tells the verdict
-  pub reported : (r : Reply VerdictCells (List ℕ)) (v : Verdict) → r ≡ replyVerdict s n v o′ → Exact 0 lastSymbol (read a) (read b) t o o′ v → Report a b t (memory r)
+  pub reported : (r : Reply VerdictCells (List ℕ)) (v : Verdict) → r ≡ replyToVerdict s n v o′ → Exact 0 lastSymbol (read a) (read b) t o o′ v → Report a b t (memory r)
   reported r v e x = subst (λ (r : Reply VerdictCells (List ℕ)). Report a b t (memory r)) (sym e) (told-exact v x)

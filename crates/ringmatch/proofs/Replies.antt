@@ -30,16 +30,16 @@ use Rattle.words.specs.Acceptance.{acceptanceOf}
 use Rattle.words.specs.declared.Acceptance.{Acceptance}
 use Rattle.words.specs.declared.Acceptance.the-variants
 use Rattle.ringmatch.specs.Calls.{EqualityReply}
-use Rattle.ringmatch.specs.Reply.{numberReply, replyNumber, replyBit, outputsReply, readCells, readingReply, verdictReply, replyVerdict}
+use Rattle.ringmatch.specs.Reply.{numberReply, replyToNumber, replyToBool, outputsReply, readCells, readingReply, verdictReply, replyToVerdict}
 
-pub reply-given : (old k : ℕ) (r : Acceptance) → r ≡ the-variants.Kind k → numberReply 0 k ≡ replyNumber old (acceptanceOf r)
-reply-given old k r e = ap (λ x. replyNumber old (acceptanceOf x)) (sym e)
+pub reply-given : (old k : ℕ) (r : Acceptance) → r ≡ the-variants.Kind k → numberReply 0 k ≡ replyToNumber old (acceptanceOf r)
+reply-given old k r e = ap (λ x. replyToNumber old (acceptanceOf x)) (sym e)
 
-pub reply-refused : (old n : ℕ) (r : Acceptance) (i : InputRefusal) → n ≡ inputNumber i → r ≡ the-variants.Refused i → numberReply n old ≡ replyNumber old (acceptanceOf r)
-reply-refused old n r i h e = ap (λ x. numberReply x old) h ∙ ap (λ x. replyNumber old (acceptanceOf x)) (sym e)
+pub reply-refused : (old n : ℕ) (r : Acceptance) (i : InputRefusal) → n ≡ inputNumber i → r ≡ the-variants.Refused i → numberReply n old ≡ replyToNumber old (acceptanceOf r)
+reply-refused old n r i h e = ap (λ x. numberReply x old) h ∙ ap (λ x. replyToNumber old (acceptanceOf x)) (sym e)
 
-pub reply-passed : (code old new : ℕ) (r : Acceptance) (a : Answer ℕ) → numberReply code new ≡ replyNumber old (acceptanceOf r) → acceptanceOf r ≡ a → numberReply code new ≡ replyNumber old a
-reply-passed code old new r a e h = e ∙ ap (replyNumber old) h
+pub reply-passed : (code old new : ℕ) (r : Acceptance) (a : Answer ℕ) → numberReply code new ≡ replyToNumber old (acceptanceOf r) → acceptanceOf r ≡ a → numberReply code new ≡ replyToNumber old a
+reply-passed code old new r a e h = e ∙ ap (replyToNumber old) h
 
 -- the lengths of an operation's outputs
 pub made-lengths : (x y w b : ℕ) (r : Made) → r ≡ Lengths w b → (o l : List ℕ) → outputsReply 0 w b o l ≡ reply (record { words = x; bytes = y }) (outputOf r o l)
@@ -58,17 +58,17 @@ pub ruleset mades = (made-lengths, made-refused, made-passed, needs)
 pub ruleset replies = (reply-given, reply-refused, reply-passed, needs)
 
 -- the reply to a question
-pub decision-yes : (old : ℕ) (r : Decision) (b : Bool) → r ≡ Is b → b ≡ true → numberReply 0 1 ≡ replyBit old (decisionOf r)
-decision-yes old r b e h = sym (ap (λ x. replyBit old (decisionOf x)) e ∙ ap (λ x. replyBit old (decisionOf (Is x))) h)
+pub decision-yes : (old : ℕ) (r : Decision) (b : Bool) → r ≡ Is b → b ≡ true → numberReply 0 1 ≡ replyToBool old (decisionOf r)
+decision-yes old r b e h = sym (ap (λ x. replyToBool old (decisionOf x)) e ∙ ap (λ x. replyToBool old (decisionOf (Is x))) h)
 
-pub decision-no : (old : ℕ) (r : Decision) (b : Bool) → r ≡ Is b → b ≡ false → numberReply 0 0 ≡ replyBit old (decisionOf r)
-decision-no old r b e h = sym (ap (λ x. replyBit old (decisionOf x)) e ∙ ap (λ x. replyBit old (decisionOf (Is x))) h)
+pub decision-no : (old : ℕ) (r : Decision) (b : Bool) → r ≡ Is b → b ≡ false → numberReply 0 0 ≡ replyToBool old (decisionOf r)
+decision-no old r b e h = sym (ap (λ x. replyToBool old (decisionOf x)) e ∙ ap (λ x. replyToBool old (decisionOf (Is x))) h)
 
-pub decision-refused : (old n : ℕ) (r : Decision) (i : InputRefusal) → n ≡ inputNumber i → r ≡ decision.Refused i → numberReply n old ≡ replyBit old (decisionOf r)
-decision-refused old n r i h e = ap (λ x. numberReply x old) h ∙ ap (λ x. replyBit old (decisionOf x)) (sym e)
+pub decision-refused : (old n : ℕ) (r : Decision) (i : InputRefusal) → n ≡ inputNumber i → r ≡ decision.Refused i → numberReply n old ≡ replyToBool old (decisionOf r)
+decision-refused old n r i h e = ap (λ x. numberReply x old) h ∙ ap (λ x. replyToBool old (decisionOf x)) (sym e)
 
-pub decision-passed : (code old new : ℕ) (r : Decision) (a : Answer Bool) → numberReply code new ≡ replyBit old (decisionOf r) → decisionOf r ≡ a → numberReply code new ≡ replyBit old a
-decision-passed code old new r a e h = e ∙ ap (replyBit old) h
+pub decision-passed : (code old new : ℕ) (r : Decision) (a : Answer Bool) → numberReply code new ≡ replyToBool old (decisionOf r) → decisionOf r ≡ a → numberReply code new ≡ replyToBool old a
+decision-passed code old new r a e h = e ∙ ap (replyToBool old) h
 
 pub ruleset decisions = (decision-yes, decision-no, decision-refused, decision-passed, needs)
 
@@ -86,16 +86,16 @@ parsed-passed code x y z n w b r o l a e h = e o l ∙ ap (reply (readCells x y 
 pub ruleset parses = (parsed-lengths, parsed-refused, parsed-passed, needs)
 
 -- the reply of exact equality
-pub verdict-same : (s n joins : ℕ) (r : Verdict) → r ≡ verdict.Same joins → (o : List ℕ) → verdictReply 0 1 joins o ≡ replyVerdict s n r o
-verdict-same s n joins r e o = ap (λ v. replyVerdict s n v o) (sym e)
+pub verdict-same : (s n joins : ℕ) (r : Verdict) → r ≡ verdict.Same joins → (o : List ℕ) → verdictReply 0 1 joins o ≡ replyToVerdict s n r o
+verdict-same s n joins r e o = ap (λ v. replyToVerdict s n v o) (sym e)
 
-pub verdict-different : (s n m : ℕ) (r : Verdict) → r ≡ verdict.Different m → (o : List ℕ) → verdictReply 0 0 m o ≡ replyVerdict s n r o
-verdict-different s n m r e o = ap (λ v. replyVerdict s n v o) (sym e)
+pub verdict-different : (s n m : ℕ) (r : Verdict) → r ≡ verdict.Different m → (o : List ℕ) → verdictReply 0 0 m o ≡ replyToVerdict s n r o
+verdict-different s n m r e o = ap (λ v. replyToVerdict s n v o) (sym e)
 
-pub verdict-refused : (s n k : ℕ) (r : Verdict) (i : Refusal) → k ≡ numberOf i → r ≡ verdict.Refused i → (o : List ℕ) → verdictReply k s n o ≡ replyVerdict s n r o
-verdict-refused s n k r i h e o = ap (λ x. verdictReply x s n o) h ∙ ap (λ v. replyVerdict s n v o) (sym e)
+pub verdict-refused : (s n k : ℕ) (r : Verdict) (i : Refusal) → k ≡ numberOf i → r ≡ verdict.Refused i → (o : List ℕ) → verdictReply k s n o ≡ replyToVerdict s n r o
+verdict-refused s n k r i h e o = ap (λ x. verdictReply x s n o) h ∙ ap (λ v. replyToVerdict s n v o) (sym e)
 
-pub verdict-passed : (a b o o′ : List ℕ) (s n code s′ n′ : ℕ) (r : Verdict) → Judged (equalityAnswer 0 lastSymbol a b o) o o′ r → ((p : List ℕ) → verdictReply code s′ n′ p ≡ replyVerdict s n r p)
+pub verdict-passed : (a b o o′ : List ℕ) (s n code s′ n′ : ℕ) (r : Verdict) → Judged (equalityAnswer 0 lastSymbol a b o) o o′ r → ((p : List ℕ) → verdictReply code s′ n′ p ≡ replyToVerdict s n r p)
     → EqualityReply a b o s n (verdictReply code s′ n′ o′)
 verdict-passed a b o o′ s n code s′ n′ r j e = record { verdict = r; judged = j; is = e o′ }
 

@@ -17,28 +17,28 @@ use Rattle.refusal.specs.Reply.{Reply, reply}
 abbrev pub numberReply : ℕ → ℕ → Reply ℕ (Unit {0})
 numberReply code answer = record { code = code; cells = answer; memory = tt }
 
-abbrev pub unstored : {P : Type 0} → Unit {0} → P → Unit {0}
-unstored m p = m
+abbrev pub nothingStored : {P : Type 0} → Unit {0} → P → Unit {0}
+nothingStored m p = m
 
 -- old is what the cell held
-abbrev pub replyNumber : ℕ → Answer ℕ → Reply ℕ (Unit {0})
-replyNumber old a = reply old (outcome (λ k. k) unstored tt a)
+abbrev pub replyToNumber : ℕ → Answer ℕ → Reply ℕ (Unit {0})
+replyToNumber old a = reply old (outcome (λ k. k) nothingStored tt a)
 
 -- a yes is 1, a no 0
 abbrev pub bit : Bool → ℕ
 bit true = 1
 bit false = 0
 
-abbrev pub replyBit : ℕ → Answer Bool → Reply ℕ (Unit {0})
-replyBit old a = reply old (outcome bit unstored tt a)
+abbrev pub replyToBool : ℕ → Answer Bool → Reply ℕ (Unit {0})
+replyToBool old a = reply old (outcome bit nothingStored tt a)
 
 -- of a function with two outputs: cells for their lengths
 abbrev pub outputsReply : ℕ → ℕ → ℕ → List ℕ → List ℕ → Reply Lengths Outputs
 outputsReply code words bytes o l = record { code = code; cells = record { words = words; bytes = bytes }; memory = record { sheet = o; labels = l } }
 
 -- for what was lent for the outputs and for their lengths
-abbrev pub replyPattern : List ℕ → List ℕ → ℕ → ℕ → Answer Pattern → Reply Lengths Outputs
-replyPattern o l words bytes a = reply (record { words = words; bytes = bytes }) (outputs o l a)
+abbrev pub replyToPattern : List ℕ → List ℕ → ℕ → ℕ → Answer Pattern → Reply Lengths Outputs
+replyToPattern o l words bytes a = reply (record { words = words; bytes = bytes }) (outputs o l a)
 
 -- of the pattern reader: a cell for the number of bytes read too
 abbrev pub readCells : ℕ → ℕ → ℕ → ReadLengths
@@ -47,8 +47,8 @@ readCells n words bytes = record { read = n; outputs = record { words = words; b
 abbrev pub readingReply : ℕ → ℕ → ℕ → ℕ → List ℕ → List ℕ → Reply ReadLengths Outputs
 readingReply code n words bytes o l = record { code = code; cells = readCells n words bytes; memory = record { sheet = o; labels = l } }
 
-abbrev pub replyReading : List ℕ → List ℕ → ℕ → ℕ → ℕ → Answer Reading → Reply ReadLengths Outputs
-replyReading o l n words bytes a = reply (readCells n words bytes) (parsed o l a)
+abbrev pub replyToReading : List ℕ → List ℕ → ℕ → ℕ → ℕ → Answer Reading → Reply ReadLengths Outputs
+replyToReading o l n words bytes a = reply (readCells n words bytes) (parsed o l a)
 
 -- of exact equality: 1 and the joins, or 0 and the length of the difference word
 pub record VerdictCells : Type 0 where
@@ -67,5 +67,5 @@ verdictOf (Same joins) o = record { answer = given (verdictCells 1 joins); memor
 verdictOf (Different n) o = record { answer = given (verdictCells 0 n); memory = o }
 verdictOf (Refused r) o = record { answer = refused (numberOf r); memory = o }
 
-abbrev pub replyVerdict : ℕ → ℕ → Verdict → List ℕ → Reply VerdictCells (List ℕ)
-replyVerdict same number v o = reply (verdictCells same number) (verdictOf v o)
+abbrev pub replyToVerdict : ℕ → ℕ → Verdict → List ℕ → Reply VerdictCells (List ℕ)
+replyToVerdict same number v o = reply (verdictCells same number) (verdictOf v o)

@@ -9,7 +9,7 @@ ghost use Rattle.refusal.specs.Decision.{decisionOf};
 ghost use Rattle.refusal.specs.Reply.{reply};
 ghost use Rattle.ringmatch.specs.Calls.{acceptsWordsReply, acceptsTextReply, isNfaReply, reachableReply, equivalentReply, subautomatonReply};
 ghost use Rattle.ringmatch.specs.Calls.{determinizeReply, totalizeReply, complementReply, eliminateReply, intersectionReply, parseReply, EqualityReply};
-ghost use Rattle.ringmatch.specs.Reply.{numberReply, replyNumber, replyBit, outputsReply, readCells, readingReply, verdictReply, replyVerdict};
+ghost use Rattle.ringmatch.specs.Reply.{numberReply, replyToNumber, replyToBool, outputsReply, readCells, readingReply, verdictReply, replyToVerdict};
 ghost use Rattle.words.specs.Acceptance.{acceptanceOf};
 use equality::Verdict;
 use output::Made;
@@ -19,7 +19,7 @@ use words::Acceptance;
 
 // The number of an acceptance's refusal, or 0 with the answer stored.
 fn reply_acceptance(r: Acceptance, answer: &mut u32) -> u32
-    ensures { λ code. ⌜ numberReply code (now (answer .exit)) ≡ replyNumber (now (answer .entry)) (acceptanceOf r) ⌝ }
+    ensures { λ code. ⌜ numberReply code (now (answer .exit)) ≡ replyToNumber (now (answer .entry)) (acceptanceOf r) ⌝ }
 {
     match r {
         Acceptance::Kind(k) => {
@@ -46,7 +46,7 @@ fn reply_made(r: Made, words: &mut u64, bytes: &mut u64) -> u32
 
 // The number of the refusal, or 0 with the answer stored: 1 for true, 0 for false.
 fn reply_decision(r: Decision, answer: &mut u32) -> u32
-    ensures { λ code. ⌜ numberReply code (now (answer .exit)) ≡ replyBit (now (answer .entry)) (decisionOf r) ⌝ }
+    ensures { λ code. ⌜ numberReply code (now (answer .exit)) ≡ replyToBool (now (answer .entry)) (decisionOf r) ⌝ }
 {
     match r {
         Decision::Is(b) => {
@@ -79,7 +79,7 @@ fn reply_parsed(r: Parsed, bytes_read: &mut u64, words: &mut u64, bytes: &mut u6
 // The number of a verdict's refusal, or 0 with the verdict stored: same is 1 and number the joins, or same is 0 and number the
 // length of the difference word.
 fn reply_verdict(r: Verdict, same: &mut u32, number: &mut u64) -> u32
-    ensures { λ code. ⌜ ((o : List ℕ) → verdictReply code (now (same .exit)) (now (number .exit)) o ≡ replyVerdict (now (same .entry)) (now (number .entry)) r o) ⌝ }
+    ensures { λ code. ⌜ ((o : List ℕ) → verdictReply code (now (same .exit)) (now (number .exit)) o ≡ replyToVerdict (now (same .entry)) (now (number .entry)) r o) ⌝ }
 {
     match r {
         Verdict::Same(joins) => {

@@ -35,7 +35,7 @@ sizeOf D = record { words = length (write D); states = D .size }
 abbrev pub storedSheet : List ℕ → Automaton → List ℕ
 storedSheet o D = sets o 0 (write D)
 
-abbrev pub SheetOutput : Type 1
+abbrev pub SheetOutput : Type 0
 SheetOutput = Outcome SheetSize (List ℕ)
 
 -- the outcome of an answer, where o is lent for the sheet
