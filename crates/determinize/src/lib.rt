@@ -6,7 +6,7 @@ ghost use lib.ListN.{length};
 ghost use Rattle.sheets.specs.inner.Accepted.{Accepted};
 ghost use Rattle.sheets.specs.Sheet.{read};
 ghost use Rattle.output.specs.Made.{outputOf};
-ghost use Rattle.output.specs.Output.{outputs};
+ghost use Rattle.output.specs.Output.{outputs, sheetSize};
 ghost use Rattle.determinize.specs.Determinize.{determinize};
 ghost use Rattle.determinize.specs.Sheets.{determinizeAnswer};
 ghost use Rattle.determinize.specs.inner.Memory.{StartTable};
@@ -49,7 +49,7 @@ fn finish(
     progress: Progress,
     out: &mut [u32],
 ) -> Determinized
-    requires { ⌜ Accepted (now s) × TableResultWithRoom (symbols .lower) (symbols .upper) (read (now s)) (now table) (now notes) progress × (length (now table) ≡ 1024) × (10500 ≤ length (now out)) ⌝ }
+    requires { ⌜ Accepted (now s) × TableResultWithRoom (symbols .lower) (symbols .upper) (read (now s)) (now table) (now notes) progress × (length (now table) ≡ 1024) × (sheetSize ≤ length (now out)) ⌝ }
     ensures { λ r. ⌜ determinizedOf r (now (out .exit)) ≡ sheetOutput (now (out .entry)) (determinize (symbols .lower) (symbols .upper) (read (now (s .entry)))) ⌝ }
 {
     match progress {
@@ -73,7 +73,7 @@ fn determinize_large(
     table: &mut [u64],
     out: &mut [u32],
 ) -> Determinized
-    requires { ⌜ StartTable (now s) (now starts) (now closures) (now table) × (10500 ≤ length (now out)) ⌝ }
+    requires { ⌜ StartTable (now s) (now starts) (now closures) (now table) × (sheetSize ≤ length (now out)) ⌝ }
     ensures { λ r. ⌜ determinizedOf r (now (out .exit)) ≡ sheetOutput (now (out .entry)) (determinize (symbols .lower) (symbols .upper) (read (now (s .entry)))) ⌝ }
 {
     let mut notes = [0u32; 10240];
@@ -102,7 +102,7 @@ fn determinize_small(
     table: &mut [u64],
     out: &mut [u32],
 ) -> Determinized
-    requires { ⌜ StartTable (now s) (now starts) (now closures) (now table) × (10500 ≤ length (now out)) ⌝ }
+    requires { ⌜ StartTable (now s) (now starts) (now closures) (now table) × (sheetSize ≤ length (now out)) ⌝ }
     ensures { λ r. ⌜ determinizedOf r (now (out .exit)) ≡ sheetOutput (now (out .entry)) (determinize (symbols .lower) (symbols .upper) (read (now (s .entry)))) ⌝ }
 {
     let mut notes = [0u32; 640];
@@ -114,7 +114,7 @@ fn determinize_small(
 
 // Determinizes an accepted sheet over the symbols from lower to upper, without labels.
 pub fn determinize_accepted(s: &[u32], lower: u32, upper: u32, out: &mut [u32]) -> Determinized
-    requires { ⌜ Accepted (now s) × (10500 ≤ length (now out)) ⌝ }
+    requires { ⌜ Accepted (now s) × (sheetSize ≤ length (now out)) ⌝ }
     ensures { λ r. ⌜ determinizedOf r (now (out .exit)) ≡ sheetOutput (now (out .entry)) (determinize lower upper (read (now (s .entry)))) ⌝ }
 {
     let mut starts = [0u32; 257];

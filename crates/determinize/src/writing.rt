@@ -12,6 +12,7 @@ ghost use Rattle.sheets.specs.Sheet.{stateCount, read, write};
 ghost use Rattle.words.specs.Simulation.{kindOf};
 ghost use Rattle.determinize.specs.inner.Notes.{notedTransition, Canonical};
 ghost use Rattle.determinize.specs.inner.Sheets.{notedAutomaton};
+ghost use Rattle.output.specs.Output.{sheetSize};
 
 // The accept word of the set in row j of the table.
 fn accept_word(s: &[u32], table: &[u64], n: usize, j: usize) -> u32
@@ -65,7 +66,7 @@ fn put_notes(notes: &[u32], sink: u32, out: &mut [u32], at: usize) -> usize
 
 // The sheet of a table of n sets and the notes of its transitions.
 pub fn write_sheet(s: &[u32], table: &[u64], n: usize, notes: &[u32], out: &mut [u32]) -> usize
-    requires { ⌜ Accepted (now s) × Canonical (stateCount (now s)) (entries (now table) n) × (n < 256) × (length (now table) ≡ 1024) × (length (now notes) ≤ 10240) × (10500 ≤ length (now out)) ⌝ }
+    requires { ⌜ Accepted (now s) × Canonical (stateCount (now s)) (entries (now table) n) × (n < 256) × (length (now table) ≡ 1024) × (length (now notes) ≤ 10240) × (sheetSize ≤ length (now out)) ⌝ }
     ensures { λ r. ⌜ Written (now (out .entry)) 0 (write (notedAutomaton (read (now (s .entry))) (entries (now (table .entry)) n) (readRecords (now (notes .entry))))) (now (out .exit)) r ⌝ }
 {
     let start = output::put_start(out, 0, n as u32 + 1);

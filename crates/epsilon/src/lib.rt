@@ -13,7 +13,7 @@ ghost use Rattle.labels.specs.Labels.{labelsFault, readLabels};
 ghost use Rattle.output.specs.inner.Gathering.{Memory, Open, Gathered, Collected};
 ghost use Rattle.output.specs.Made.{outputOf};
 ghost use Rattle.output.specs.inner.Ordered.{recordsIn};
-ghost use Rattle.output.specs.Output.{outputs, labelsFirst};
+ghost use Rattle.output.specs.Output.{outputs, labelsFirst, sheetSize};
 ghost use Rattle.sets.specs.inner.BitSet.{setAt};
 ghost use Rattle.sets.specs.inner.Members.{Canon};
 ghost use Rattle.sheets.specs.inner.Accepted.{Accepted};
@@ -166,7 +166,7 @@ fn put_accepts(s: &[u32], closures: &[u64], out: &mut [u32], at: usize) -> usize
 
 // The sheet whose records are these words; its length.
 fn put_sheet(s: &[u32], closures: &[u64], records: &[u32], out: &mut [u32]) -> usize
-    requires { ⌜ ClosuresOf (now s) (now closures) × TransitionsOf (now s) (now records) × (10500 ≤ length (now out)) ⌝ }
+    requires { ⌜ ClosuresOf (now s) (now closures) × TransitionsOf (now s) (now records) × (sheetSize ≤ length (now out)) ⌝ }
     ensures { λ r. ⌜ Written (now (out .entry)) 0 (write (eliminated (read (now (s .entry))))) (now (out .exit)) r ⌝ }
 {
     let first = output::put_start(out, s[1], s[2]);
@@ -214,7 +214,7 @@ fn eliminate_large(
 }
 
 // The same; memory for 128 transitions is tried first, and where it is too small the call is made again. Met is how many words of transitions were met
-// there, or 0. The compiler does not take a function with a large array into one that calls itself, so few transitions do not pay for the large memory.
+// there, or at first those that the sheet has, so that a long sheet takes the large memory at once. The compiler does not take a function with a large array into one that calls itself, so few transitions do not pay for the large memory.
 fn eliminate_tables(
     s: &[u32],
     starts: &[u32],
@@ -254,7 +254,8 @@ fn eliminate_in(
 {
     sheets::run_starts(s, starts);
     words::state_closures(s, closures);
-    eliminate_tables(s, starts, closures, labels, out, names, 0)
+    let given = s.len() - s[2] as usize;
+    eliminate_tables(s, starts, closures, labels, out, names, given)
 }
 
 // The same with tables for as many states as a sheet may have.

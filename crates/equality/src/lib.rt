@@ -5,7 +5,7 @@ ghost use Rattle.sheets.specs.inner.Accepted.{Accepted};
 ghost use Rattle.sheets.specs.Sheet.{read};
 ghost use Rattle.automata.specs.WellFormed.{lastSymbol};
 ghost use Rattle.determinizations.specs.Determinizations.{determinized};
-ghost use Rattle.equality.specs.Equality.{equalityAnswer, Judged};
+ghost use Rattle.equality.specs.Equality.{equalityAnswer, Judged, wordSize};
 use determinizations::Both;
 use refusal::Refusal;
 use refusal::StateRefusal;
@@ -22,7 +22,7 @@ pub enum Verdict {
 
 // The walk over the determinizations of two accepted sheets over the symbols from lower to upper.
 fn compare(a: &[u32], b: &[u32], lower: u32, upper: u32, word: &mut [u32]) -> Verdict
-    requires { ⌜ Accepted (now a) × Accepted (now b) × (510 ≤ length (now word)) ⌝ }
+    requires { ⌜ Accepted (now a) × Accepted (now b) × (wordSize ≤ length (now word)) ⌝ }
     ensures { λ r. ⌜ Judged (determinized lower upper (read (now (a .entry))) (read (now (b .entry)))) (now (word .entry)) (now (word .exit)) r ⌝ }
 {
     let mut out_a = [0u32; 10500];

@@ -10,6 +10,7 @@ ghost use Rattle.sheets.specs.inner.Accepted.{Accepted};
 ghost use Rattle.sheets.specs.Sheet.{stateCount, read};
 ghost use Rattle.nondeterminism.specs.Nondeterminism.{isNfaAt, isNfa, isNfaAnswer, holesIn};
 ghost use Rattle.nondeterminism.specs.inner.Holes.{HolesInputs};
+ghost use Rattle.automata.specs.WellFormed.{lastSymbol};
 use refusal::Decision;
 
 // Whether an epsilon stands in the run.
@@ -84,7 +85,7 @@ pub fn is_nfa_between(s: &[u32], lower: u32, upper: u32) -> bool
 
 // Whether a sheet has an epsilon, an overlap or a hole.
 pub fn is_nfa(s: &[u32]) -> Decision
-    ensures { λ r. ⌜ decisionOf r ≡ isNfaAnswer 0 4294967295 (now (s .entry)) ⌝ }
+    ensures { λ r. ⌜ decisionOf r ≡ isNfaAnswer 0 lastSymbol (now (s .entry)) ⌝ }
 {
     match sheets::check(s) {
         sheets::Checked::Accepted => Decision::Is(is_nfa_between(s, 0, 4294967295)),

@@ -6,6 +6,7 @@ ghost use Prim.Native.Nat.{_+_, _≤_};
 ghost use lib.Dec.{ltb};
 ghost use lib.ListN.{length};
 ghost use Rattle.stores.specs.Written.{Written};
+ghost use Rattle.output.specs.Output.{labelsSize, sheetSize};
 use refusal::Refusal;
 
 mod finding;
@@ -25,7 +26,7 @@ pub enum Made {
 
 // Whether one of the outputs is shorter than its fixed size (20).
 pub fn lacks_room(out: &[u32], labels: &[u8]) -> bool
-    ensures { λ r. ⌜ r ≡ (ltb (length (now (out .entry))) 10500 || ltb (length (now (labels .entry))) 16642) ⌝ }
+    ensures { λ r. ⌜ r ≡ (ltb (length (now (out .entry))) sheetSize || ltb (length (now (labels .entry))) labelsSize) ⌝ }
 {
     if out.len() < 10500 {
         return true;

@@ -6,12 +6,13 @@ ghost use Rattle.labels.specs.Checked.{checkedNumber};
 ghost use Rattle.labels.specs.Labels.{labelsFault, readLabels};
 ghost use Rattle.nondeterminism.specs.inner.Holes.{HolesInputs};
 ghost use Rattle.output.specs.Made.{outputOf};
-ghost use Rattle.output.specs.Output.{outputs};
+ghost use Rattle.output.specs.Output.{outputs, labelsSize, sheetSize};
 ghost use Rattle.refusal.specs.Answer.{given};
 ghost use Rattle.sheets.specs.inner.Accepted.{Accepted};
 ghost use Rattle.sheets.specs.Sheet.{stateCount, read};
 ghost use Rattle.totality.specs.Answers.{limited, complementPattern, totalizeAnswer, complementAnswer};
 ghost use Rattle.totality.specs.inner.Answers.{inputsFirst, inputsOf, passed, totalPatternFlippedIf, flippedPattern};
+ghost use Rattle.automata.specs.WellFormed.{lastSymbol};
 use output::Made;
 use refusal::Refusal;
 use refusal::StateRefusal;
@@ -37,7 +38,7 @@ fn make_total_with_tables(
     names: &mut [u8],
 ) -> Made
     requires { ⌜ HolesInputs (now s) (now starts) (now holes) ⌝ }
-    requires { ⌜ (labelsFault (stateCount (now s)) (now labels) ≡ 0) × (10500 ≤ length (now out)) × (16642 ≤ length (now names)) ⌝ }
+    requires { ⌜ (labelsFault (stateCount (now s)) (now labels) ≡ 0) × (sheetSize ≤ length (now out)) × (labelsSize ≤ length (now names)) ⌝ }
     ensures { λ r. ⌜ outputOf r (now (out .exit)) (now (names .exit)) ≡ outputs (now (out .entry)) (now (names .entry)) (limited (totalPatternFlippedIf flip lower upper (read (now (s .entry))) (readLabels (now (labels .entry))))) ⌝ }
 {
     let n = s[2] as usize;
@@ -63,7 +64,7 @@ fn make_total(
     out: &mut [u32],
     names: &mut [u8],
 ) -> Made
-    requires { ⌜ Accepted (now s) × (labelsFault (stateCount (now s)) (now labels) ≡ 0) × (10500 ≤ length (now out)) × (16642 ≤ length (now names)) ⌝ }
+    requires { ⌜ Accepted (now s) × (labelsFault (stateCount (now s)) (now labels) ≡ 0) × (sheetSize ≤ length (now out)) × (labelsSize ≤ length (now names)) ⌝ }
     ensures { λ r. ⌜ outputOf r (now (out .exit)) (now (names .exit)) ≡ outputs (now (out .entry)) (now (names .entry)) (limited (totalPatternFlippedIf flip lower upper (read (now (s .entry))) (readLabels (now (labels .entry))))) ⌝ }
 {
     let mut starts = [0u32; 257];
@@ -84,7 +85,7 @@ fn make_total(
 
 // The sheet with its acceptance flipped, and its labels.
 fn make_flipped(s: &[u32], labels: &[u8], out: &mut [u32], names: &mut [u8]) -> Made
-    requires { ⌜ Accepted (now s) × (labelsFault (stateCount (now s)) (now labels) ≡ 0) × (10500 ≤ length (now out)) × (16642 ≤ length (now names)) ⌝ }
+    requires { ⌜ Accepted (now s) × (labelsFault (stateCount (now s)) (now labels) ≡ 0) × (sheetSize ≤ length (now out)) × (labelsSize ≤ length (now names)) ⌝ }
     ensures { λ r. ⌜ outputOf r (now (out .exit)) (now (names .exit)) ≡ outputs (now (out .entry)) (now (names .entry)) (given (flippedPattern (read (now (s .entry))) (readLabels (now (labels .entry))))) ⌝ }
 {
     let n = s[2];
@@ -127,7 +128,7 @@ fn make_complement(
     out: &mut [u32],
     names: &mut [u8],
 ) -> Made
-    requires { ⌜ Accepted (now s) × (labelsFault (stateCount (now s)) (now labels) ≡ 0) × (10500 ≤ length (now out)) × (16642 ≤ length (now names)) ⌝ }
+    requires { ⌜ Accepted (now s) × (labelsFault (stateCount (now s)) (now labels) ≡ 0) × (sheetSize ≤ length (now out)) × (labelsSize ≤ length (now names)) ⌝ }
     ensures { λ r. ⌜ outputOf r (now (out .exit)) (now (names .exit)) ≡ outputs (now (out .entry)) (now (names .entry)) (limited (complementPattern lower upper (read (now (s .entry))) (readLabels (now (labels .entry))))) ⌝ }
 {
     if nondeterminism::is_nfa_between(s, lower, upper) {
@@ -138,7 +139,7 @@ fn make_complement(
 
 // Adds the sink and sends each state's holes there.
 pub fn totalize(s: &[u32], labels: &[u8], out: &mut [u32], names: &mut [u8]) -> Made
-    ensures { λ r. ⌜ outputOf r (now (out .exit)) (now (names .exit)) ≡ outputs (now (out .entry)) (now (names .entry)) (totalizeAnswer 0 4294967295 (now (s .entry)) (now (labels .entry)) (now (out .entry)) (now (names .entry))) ⌝ }
+    ensures { λ r. ⌜ outputOf r (now (out .exit)) (now (names .exit)) ≡ outputs (now (out .entry)) (now (names .entry)) (totalizeAnswer 0 lastSymbol (now (s .entry)) (now (labels .entry)) (now (out .entry)) (now (names .entry))) ⌝ }
 {
     match check_inputs(s, labels, out, names) {
         Inputs::Good => make_total(s, labels, false, 0, 4294967295, out, names),
@@ -148,7 +149,7 @@ pub fn totalize(s: &[u32], labels: &[u8], out: &mut [u32], names: &mut [u8]) -> 
 
 // Flips acceptance, after totalizing where the sheet has an epsilon, an overlap or a hole.
 pub fn complement(s: &[u32], labels: &[u8], out: &mut [u32], names: &mut [u8]) -> Made
-    ensures { λ r. ⌜ outputOf r (now (out .exit)) (now (names .exit)) ≡ outputs (now (out .entry)) (now (names .entry)) (complementAnswer 0 4294967295 (now (s .entry)) (now (labels .entry)) (now (out .entry)) (now (names .entry))) ⌝ }
+    ensures { λ r. ⌜ outputOf r (now (out .exit)) (now (names .exit)) ≡ outputs (now (out .entry)) (now (names .entry)) (complementAnswer 0 lastSymbol (now (s .entry)) (now (labels .entry)) (now (out .entry)) (now (names .entry))) ⌝ }
 {
     match check_inputs(s, labels, out, names) {
         Inputs::Good => make_complement(s, labels, 0, 4294967295, out, names),

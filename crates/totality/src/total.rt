@@ -11,6 +11,7 @@ ghost use Rattle.sheets.specs.inner.Accepted.{Accepted};
 ghost use Rattle.sheets.specs.Sheet.{stateCount, read, write};
 ghost use Rattle.totality.specs.Totality.{filled, filledIn, totalized};
 ghost use Rattle.totality.specs.inner.Merging.{readSpans, leading, Mergeable, merged, WholeRecords, Fillable, flippedWordIf, flippedIf, headWords, frontWords, TotalizedRoom};
+ghost use Rattle.output.specs.Output.{sheetSize};
 
 // The place behind the records from i on that come before a hole that begins at `first`.
 fn records_before(run: &[u32], i: usize, first: u32) -> usize
@@ -121,7 +122,7 @@ fn put_accepts(words: &[u32], flip: bool, out: &mut [u32], at: usize) -> usize
 
 // Writes the front of a sheet of that many states up to the accept words of s, flipped or not.
 pub fn put_head(s: &[u32], flip: bool, states: u32, out: &mut [u32]) -> usize
-    requires { ⌜ Accepted (now s) × (10500 ≤ length (now out)) ⌝ }
+    requires { ⌜ Accepted (now s) × (sheetSize ≤ length (now out)) ⌝ }
     ensures { λ r. ⌜ Written (now (out .entry)) 0 (headWords flip (now (s .entry)) states) (now (out .exit)) r ⌝ }
 {
     let n = s[2] as usize;
@@ -131,7 +132,7 @@ pub fn put_head(s: &[u32], flip: bool, states: u32, out: &mut [u32]) -> usize
 
 // Writes the front of the totalized sheet, which has count transitions, up to that count.
 fn put_front(s: &[u32], flip: bool, count: u32, out: &mut [u32]) -> usize
-    requires { ⌜ Accepted (now s) × (stateCount (now s) < 256) × (10500 ≤ length (now out)) ⌝ }
+    requires { ⌜ Accepted (now s) × (stateCount (now s) < 256) × (sheetSize ≤ length (now out)) ⌝ }
     ensures { λ r. ⌜ Written (now (out .entry)) 0 (frontWords flip (now (s .entry)) count) (now (out .exit)) r ⌝ }
 {
     let sink = put_head(s, flip, s[2] + 1, out);

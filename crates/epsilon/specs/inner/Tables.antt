@@ -10,6 +10,7 @@ use Rattle.sheets.specs.inner.Accepted.{Accepted}
 use Rattle.sheets.specs.Sheet.{stateCount, read}
 use Rattle.words.specs.Simulation.{closures}
 use Rattle.epsilon.specs.Eliminate.{eliminated}
+use Rattle.output.specs.Output.{labelsSize, sheetSize}
 
 -- the table c has the closures of the accepted sheet s
 pub record ClosuresOf (s c : List ℕ) : Type 0 where
@@ -25,5 +26,5 @@ pub record TransitionsOf (s words : List ℕ) : Type 0 where
 -- the sheet is accepted, and the outputs have their fixed sizes
 pub record EliminationInputs (s out names : List ℕ) : Type 0 where
   pub accepted : Accepted s
-  pub words : 10500 ≤ length out
-  pub bytes : 16642 ≤ length names
+  pub words : sheetSize ≤ length out
+  pub bytes : labelsSize ≤ length names

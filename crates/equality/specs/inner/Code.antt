@@ -16,6 +16,7 @@ use Rattle.equality.specs.declared.walk.First.the-variants.{Symbol, Noth
 use Rattle.equality.specs.declared.walk.Comparison.{Comparison}
 use Rattle.equality.specs.declared.walk.Comparison.the-variants.{Alike, Differ}
 use Rattle.equality.specs.inner.Walking.{WalkedPairs, SuccessorsJoined}
+use Rattle.equality.specs.Equality.{wordSize}
 
 -- x is a symbol from lower to upper that both transitions hold
 pub record Common (d e : Transition) (lower upper x : ℕ) : Type 0 where
@@ -49,7 +50,7 @@ RunsCompared t i w l (Differ x) = WalkedPairs t w l × (i < w .made) × (t .lowe
 -- two such sheets and a buffer for the word
 pub record WalkInput (a b : List ℕ) (lower upper : ℕ) (o : List ℕ) : Type 0 where
   pub sheets : DeterministicSheets a b lower upper
-  pub room : 510 ≤ length o
+  pub room : wordSize ≤ length o
 
 -- the same with the tables of both sheets, where the starts agree in acceptance
 pub record StartsAgree (a b starts-a starts-b : List ℕ) (lower upper : ℕ) (o : List ℕ) : Type 0 where

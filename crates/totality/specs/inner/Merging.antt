@@ -15,6 +15,7 @@ use Rattle.ranges.specs.Missing.{SortedRanges}
 use Rattle.ranges.specs.Span.{Span}
 use Rattle.sheets.specs.Sheet.{stateCount, read}
 use Rattle.totality.specs.Totality.{holeTo, transitionCount, otherWord, flipped}
+use Rattle.output.specs.Output.{sheetSize}
 
 -- the spans of a list of words; a word left over is none
 unfoldable pub readSpans : List ℕ → List Span
@@ -72,4 +73,4 @@ pub record TotalizedRoom (lower upper : ℕ) (s out : List ℕ) (count : ℕ) : 
   pub few-states : stateCount s < 256
   pub few-transitions : count ≤ 2048
   pub counted : count ≡ transitionCount lower upper (read s)
-  pub room : 10500 ≤ length out
+  pub room : sheetSize ≤ length out
