@@ -2,3 +2,4 @@
 pub mod Answers
 pub mod Theorems
 pub mod Fronts
+pub mod Runs

@@ -2,7 +2,6 @@
 pub mod Forced
 pub mod Classes
 pub mod WalkedPairs
-pub mod Runs
 pub mod Spelling
 pub mod Steps
 pub mod Reading

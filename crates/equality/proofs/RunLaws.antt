@@ -24,7 +24,7 @@ use Rattle.determinizations.specs.inner.Sheets.{twoOf, DeterministicSheets}
 use Rattle.equality.specs.inner.Code.{Common, FirstOf, ComparableRuns, RunsCompared}
 use Rattle.equality.proofs.Forced.{Total, total-of}
 use Rattle.equality.proofs.WalkedPairs.{room, one-more}
-use Rattle.equality.proofs.Runs.{In, RunOf, up-to, run-of}
+use Rattle.determinizations.proofs.Runs.{In, RunOf, up-to, run-of}
 
 pub total : (a b : List ℕ) (lower upper : ℕ) → DeterministicSheets a b lower upper → Total (twoOf a b lower upper)
 total a b lower upper s = total-of (twoOf a b lower upper) (s .one) (read-well a (s .first) .states) (s .two) (read-well b (s .second) .states)
