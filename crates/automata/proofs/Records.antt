@@ -1,7 +1,8 @@
 -- Reading and writing records: the law in each direction, lengths, and records by their place.
 use Prim.Native.Nat.{ℕ, zero, suc, _+_, _-_, _*_, _≤_, _<_}
-use mathlib.Core.List.{List, [], _∷_, _++_, List·Memᴰ·head, List·Memᴰ·tail, head-eq-of-cons-eq}
-use mathlib.Core.Path.{_≡_, refl, sym, _∙_, ap}
+use mathlib.Core.List.{List, [], _∷_, _++_, List·Memᴰ·head, List·Memᴰ·tail, List·Memᴰ·cases-cons, List·Memᴰ·not-nil, head-eq-of-cons-eq}
+use mathlib.Core.Logic.{⊎-elim}
+use mathlib.Core.Path.{_≡_, refl, sym, _∙_, ap, subst}
 use native.Mathlib.Nat.{add-sub-cancel-left}
 use native.Mathlib.Omega.{arith}
 use lib.ListN.{length, getD, take, drop, length-drop}
@@ -129,3 +130,26 @@ pub written-place : (es : List Transition) (e : Transition) → e ∈ es → (j 
 written-place es e m =
     let p = place m in
     (p .0, p .1, head-eq-of-cons-eq (sym (written-at es (p .0) (p .1)) ∙ p .3))
+
+-- the m records from o on
+pub record-in : (m : ℕ) (s : List ℕ) (o : ℕ) → length s ≡ o + 5 * m → (j : ℕ) → j < m → recordAt s (o + 5 * j) ∈ readRecords (drop o s)
+record-in zero s o l j h = absurd (omega arith)
+record-in (suc m) s o l zero h = let z : o ≡ o + 5 * 0 = omega arith in
+    subst (λ i. recordAt s i ∈ readRecords (drop o s)) z (rw (records-at s o (omega arith)) (List·Memᴰ·head refl))
+record-in (suc m) s o l (suc j) h =
+    let z : o + 5 + 5 * j ≡ o + 5 * suc j = omega arith in
+    rw (records-at s o (omega arith)) (List·Memᴰ·tail (subst (λ i. recordAt s i ∈ readRecords (drop (o + 5) s)) z (record-in m s (o + 5) (omega arith) j (omega arith))))
+
+pub record-out : (m : ℕ) (s : List ℕ) (o : ℕ) → length s ≡ o + 5 * m → (e : Transition) → e ∈ readRecords (drop o s) → (j : ℕ) × (j < m) × (e ≡ recordAt s (o + 5 * j))
+record-out zero s o l e k = absurd (List·Memᴰ·not-nil (rw (records-end s o (omega arith)) at k))
+record-out (suc m) s o l e k =
+    ⊎-elim (λ (q : e ≡ recordAt s o). (0, omega arith, let z : o + 5 * 0 ≡ o = omega arith in rw z q))
+    (λ i.
+    let r = record-out m s (o + 5) (omega arith) e i in
+    let z : o + 5 + 5 * r .0 ≡ o + 5 * suc (r .0) = omega arith in
+    (suc (r .0), omega (arith, r .1), subst (λ i. e ≡ recordAt s i) z (r .2)))
+    (List·Memᴰ·cases-cons (rw (records-at s o (omega arith)) at k))
+
+-- the record at a place, as it is handed on, is one of those from there on
+pub part-in : (t : List ℕ) (at : ℕ) → 5 ≤ length t - at → recordAt (take (at + 5 - at) (drop at t)) 0 ∈ readRecords (drop at t)
+part-in t at h = subst (λ (es : List Transition). recordAt (take (at + 5 - at) (drop at t)) 0 ∈ es) (sym (records-at t at h)) (List·Memᴰ·head (part-record t at))

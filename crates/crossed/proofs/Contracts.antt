@@ -9,7 +9,7 @@ use denote.Triple.Clauses.{AtExit}
 use lib.ListN.{length}
 use Rattle.equality.specs.Equality.{wordSize}
 use Rattle.output.specs.Left.{Room}
-use Rattle.ringmatch.specs.Reply.{built, replied, told}
+use Rattle.ringmatch.specs.Reply.{numberReply, outputsReply, verdictReply}
 use Rattle.ringmatch.proofs.ringmatch_equality.Kinds as equality
 use Rattle.ringmatch.proofs.ringmatch_equality.Reads as ringmatch-equality
 use Rattle.ringmatch.proofs.ringmatch_determinize.Kinds as determinize
@@ -30,8 +30,7 @@ module _ (κs : Lfts 5) (a : Dens κs equality.ps) (code : ℕ) (z : AtExit (end
         same = now (a .1 .1 .1 .0);
         number = now (a .1 .1 .1 .1 .0);
         room = room;
-        word-after = now (z .1 .1 .0);
-        after = told code (now (z .1 .1 .1 .0)) (now (z .1 .1 .1 .1 .0));
+        after = verdictReply code (now (z .1 .1 .1 .0)) (now (z .1 .1 .1 .1 .0)) (now (z .1 .1 .0));
       })
   equality-contract room = refl
 
@@ -44,7 +43,7 @@ module _ (κs : Lfts 5) (a : Dens κs determinize.ps) (code : ℕ) (z : AtExit (
         words = now (a .1 .1 .1 .0);
         bytes = now (a .1 .1 .1 .1 .0);
         room = room;
-        after = built code (now (z .1 .1 .1 .0)) (now (z .1 .1 .1 .1 .0)) (now (z .1 .0)) (now (z .1 .1 .0));
+        after = outputsReply code (now (z .1 .1 .1 .0)) (now (z .1 .1 .1 .1 .0)) (now (z .1 .0)) (now (z .1 .1 .0));
       })
   determinize-contract room = refl
 
@@ -57,7 +56,7 @@ module _ (κs : Lfts 6) (a : Dens κs complement.ps) (code : ℕ) (z : AtExit (e
         words = now (a .1 .1 .1 .1 .0);
         bytes = now (a .1 .1 .1 .1 .1 .0);
         room = room;
-        after = built code (now (z .1 .1 .1 .1 .0)) (now (z .1 .1 .1 .1 .1 .0)) (now (z .1 .1 .0)) (now (z .1 .1 .1 .0));
+        after = outputsReply code (now (z .1 .1 .1 .1 .0)) (now (z .1 .1 .1 .1 .1 .0)) (now (z .1 .1 .0)) (now (z .1 .1 .1 .0));
       })
   complement-contract room = refl
 
@@ -70,11 +69,11 @@ module _ (κs : Lfts 6) (a : Dens κs intersection.ps) (code : ℕ) (z : AtExit 
         words = now (a .1 .1 .1 .1 .0);
         bytes = now (a .1 .1 .1 .1 .1 .0);
         room = room;
-        after = built code (now (z .1 .1 .1 .1 .0)) (now (z .1 .1 .1 .1 .1 .0)) (now (z .1 .1 .0)) (now (z .1 .1 .1 .0));
+        after = outputsReply code (now (z .1 .1 .1 .1 .0)) (now (z .1 .1 .1 .1 .1 .0)) (now (z .1 .1 .0)) (now (z .1 .1 .1 .0));
       })
   intersection-contract room = refl
 
 -- ringmatch_has_reachable_accepting_state(sheet, answer)
 module _ (κs : Lfts 2) (a : Dens κs reachable.ps) (code : ℕ) (z : AtExit (endedOf 2 reachable.ps reachable.r) κs) where
-  pub reachable-contract : ringmatch-reachable.Learnt κs a code z ≡ ReachableCall (now (a .0)) (record { answer = now (a .1 .0); after = replied code (now (z .1 .0)) })
+  pub reachable-contract : ringmatch-reachable.Learnt κs a code z ≡ ReachableCall (now (a .0)) (record { answer = now (a .1 .0); after = numberReply code (now (z .1 .0)) })
   reachable-contract = refl

@@ -21,7 +21,8 @@ use Rattle.product.specs.Reached.{Blocked}
 use Rattle.product.proofs.Given.{given-fits}
 use Rattle.product.proofs.Theorems.{product-words, product-wellformed, product-written, product-read, product-given}
 use Rattle.refusal.specs.Answer.{given}
-use Rattle.ringmatch.specs.Reply.{Reply, replyBit}
+use Rattle.refusal.specs.Reply.{Reply}
+use Rattle.ringmatch.specs.Reply.{replyToBool}
 use Rattle.sheets.specs.Checked.{sheetFirst}
 use Rattle.sheets.specs.Fault.{fault}
 use Rattle.sheets.specs.Sheet.{read, write}
@@ -44,8 +45,8 @@ module _ (s : List ℕ) (f : fault s ≡ 0) (D : Automaton) (e : determinize 0 l
   other-back = read-write-sheet (flipped E) (flipped-wellformed t g E h .accepts)
 
   -- the call is the product of the two automata
-  call-product : intersectionAnswer (write D) (write (flipped E)) ≡ product D (flipped E)
-  unfolding intersectionAnswer sheetFirst
+  call-product : sheetFirst (write D) (sheetFirst (write (flipped E)) (product (read (write D)) (read (write (flipped E))))) ≡ product D (flipped E)
+  unfolding sheetFirst
   call-product = rw (no-fault s f D e, write-accepted (flipped E) (flipped-wellformed t g E h) (flipped-fits t g E h), read-back s f D e, other-back)
 
   free-one : EpsilonFree D
@@ -111,20 +112,22 @@ module _ (s : List ℕ) (f : fault s ≡ 0) (D : Automaton) (e : determinize 0 l
     is-p : product D (flipped E) ≡ given P
     is-p = product-given D (flipped E) (fit .0) not-blocked (fit .1) .1
 
-    answer-is : intersectionAnswer S T ≡ given P
-    answer-is = ap₂ intersectionAnswer is-s is-t ∙ call-product ∙ is-p
+    answer-is : sheetFirst S (sheetFirst T (product (read S) (read T))) ≡ given P
+    answer-is = ap₂ (λ (S T : List ℕ). sheetFirst S (sheetFirst T (product (read S) (read T)))) is-s is-t ∙ call-product ∙ is-p
 
     product-left : sheetOf (x .product) ≡ write (P .automaton)
+    unfolding intersectionAnswer
     product-left = sheet-left (x .product) _ (x .intersects) P answer-is (product-wellformed D (flipped E) P is-p (well s f D e)) (given-fits D (flipped E) P is-p)
 
-    question-left : x .question .after ≡ replyBit (x .question .answer) (given (hasReachableAccepting (P .automaton)))
-    question-left = x .asks ∙ ap (replyBit (x .question .answer)) (ap reachableAnswer product-left ∙ reached-answer P is-p)
+    question-left : x .question .after ≡ replyToBool (x .question .answer) (given (hasReachableAccepting (P .automaton)))
+    question-left = x .asks ∙ ap (replyToBool (x .question .answer)) (ap reachableAnswer product-left ∙ reached-answer P is-p)
 
-    replied-bit : (r : Reply) (old : ℕ) (n : Bool) → r ≡ replyBit old (given n) → (r .code ≡ 0) × ((r .answer ≡ 0) ↔ (n ≡ false))
-    replied-bit r old true q = (ap (λ (z : Reply). z .code) q, (λ z. absurd (omega (arith, ap (λ (z : Reply). z .answer) q)), λ z. absurd (true≢false z)))
-    replied-bit r old false q = (ap (λ (z : Reply). z .code) q, (λ z. refl, λ z. ap (λ (z : Reply). z .answer) q))
+    replied-bit : (r : Reply ℕ (Unit {0})) (old : ℕ) (n : Bool) → r ≡ replyToBool old (given n) → (r .code ≡ 0) × ((r .cells ≡ 0) ↔ (n ≡ false))
+    replied-bit r old true q = (ap (λ z. z .code) q, (λ z. absurd (omega (arith, ap (λ z. z .cells) q)), λ z. absurd (true≢false z)))
+    replied-bit r old false q = (ap (λ z. z .code) q, (λ z. refl, λ z. ap (λ z. z .cells) q))
 
     pub product-answers : ProductAnswers x
+    unfolding intersectionAnswer
     product-answers = record {
       product-code = code-left (x .product) _ (x .intersects) P answer-is;
       question-code = replied-bit (x .question .after) (x .question .answer) (hasReachableAccepting (P .automaton)) question-left .0;

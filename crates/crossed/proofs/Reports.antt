@@ -6,11 +6,12 @@ use mathlib.Core.Path.{_≡_, refl, sym, subst}
 use native.Mathlib.Omega.{arith}
 use lib.ListN.{length}
 use Rattle.automata.specs.WellFormed.{lastSymbol}
+use Rattle.determinizations.specs.Two.{Two, totalSize}
 use Rattle.equality.specs.Equality.{wordSize, Differs, Exact}
-use Rattle.equality.specs.Forced.{Two, totalSize}
 use Rattle.equality.specs.declared.Verdict.{Verdict}
 use Rattle.equality.specs.declared.Verdict.the-variants.{Same, Different, Refused}
-use Rattle.ringmatch.specs.Reply.{VerdictReply, tellVerdict}
+use Rattle.refusal.specs.Reply.{Reply}
+use Rattle.ringmatch.specs.Reply.{VerdictCells, replyToVerdict}
 use Rattle.sheets.specs.Sheet.{read}
 use Rattle.crossed.specs.Calls.{Difference}
 use Rattle.crossed.specs.Demand.{EqualWords, Report}
@@ -18,10 +19,10 @@ use Rattle.crossed.specs.Demand.{EqualWords, Report}
 -- the sheets a and b, whose determinizations t have at most 512 states; o is the lent word before, o′ after
 module _ (a b : List ℕ) (t : Two) (few : totalSize t ≤ 512) (o o′ : List ℕ) (s n : ℕ) (room : wordSize ≤ length o) where
   -- the memory with the reply r
-  abbrev memory : VerdictReply → Difference
-  memory r = record { word = o; same = s; number = n; room = room; word-after = o′; after = r }
+  abbrev memory : Reply VerdictCells (List ℕ) → Difference
+  memory r = record { word = o; same = s; number = n; room = room; after = r }
 
-  told-exact : (v : Verdict) → Exact 0 lastSymbol (read a) (read b) t o o′ v → Report a b t (memory (tellVerdict s n v))
+  told-exact : (v : Verdict) → Exact 0 lastSymbol (read a) (read b) t o o′ v → Report a b t (memory (replyToVerdict s n v o′))
   told-exact (Same j) x =
       let words = x .same .0 (j, refl) in
       let (k, counted, sum, same) = x .joins j refl in
@@ -56,5 +57,5 @@ module _ (a b : List ℕ) (t : Two) (few : totalSize t ≤ 512) (o o′ : List �
       absurd (omega arith)
 
   -- the reply that tells the verdict
-  pub reported : (r : VerdictReply) (v : Verdict) → r ≡ tellVerdict s n v → Exact 0 lastSymbol (read a) (read b) t o o′ v → Report a b t (memory r)
-  reported r v e x = subst (λ (r : VerdictReply). Report a b t (memory r)) (sym e) (told-exact v x)
+  pub reported : (r : Reply VerdictCells (List ℕ)) (v : Verdict) → r ≡ replyToVerdict s n v o′ → Exact 0 lastSymbol (read a) (read b) t o o′ v → Report a b t (memory r)
+  reported r v e x = subst (λ (r : Reply VerdictCells (List ℕ)). Report a b t (memory r)) (sym e) (told-exact v x)

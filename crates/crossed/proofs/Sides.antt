@@ -9,23 +9,25 @@ use Rattle.automata.specs.Automaton.{Automaton, Accepts, Word}
 use Rattle.automata.specs.WellFormed.{WellFormed, Fits, lastSymbol}
 use Rattle.automata.specs.Deterministic.{Deterministic, Between}
 use Rattle.determinize.specs.Determinize.{determinize}
-use Rattle.determinize.specs.Sheets.{labelled, determinizeAnswer}
+use Rattle.determinize.specs.Sheets.{subsetPattern, determinizeAnswer}
 use Rattle.determinize.proofs.Theorems.{determinize-deterministic, determinize-between, determinize-wellformed, determinize-fits}
 use Rattle.labels.specs.Forms.{numbered}
-use Rattle.labels.specs.Labels.{labelsFault, writeLabels}
+use Rattle.labels.specs.Labels.{labelsFault, readLabels, writeLabels}
 use Rattle.labels.proofs.Labels.{read-write, fault-write}
 use Rattle.labels.proofs.Whole.{labels-numbered, length-numbered}
+use Rattle.nondeterminism.specs.Nondeterminism.{isNfa}
+use Rattle.nondeterminism.proofs.Theorems.{nfa-deterministic-at, nfa-exact}
 use Rattle.output.specs.Output.{Pattern, labelsFirst}
-use Rattle.refusal.specs.Answer.{given}
+use Rattle.refusal.specs.Answer.{Answer, given}
 use Rattle.sheets.specs.Checked.{sheetFirst}
 use Rattle.sheets.specs.Fault.{fault}
-use Rattle.sheets.specs.Sheet.{read, write}
+use Rattle.sheets.specs.Sheet.{stateCount, read, write}
 use Rattle.sheets.proofs.Accepted.{accepted}
 use Rattle.sheets.proofs.Meaning.{read-well, read-write-sheet, write-accepted}
-use Rattle.totality.specs.Answers.{complementPattern, complementAnswer}
-use Rattle.totality.specs.Totality.{isNfa, flipped, complemented}
+use Rattle.totality.specs.Answers.{limited, complementPattern, complementAnswer}
+use Rattle.totality.specs.Totality.{flipped, complemented}
 use Rattle.totality.proofs.Answers.{limited-given}
-use Rattle.totality.proofs.Theorems.{nfa-settled, nfa-exact, complement-words}
+use Rattle.totality.proofs.Theorems.{complement-words}
 use Rattle.totality.proofs.Totalized.{flipped-well}
 use Rattle.crossed.specs.Calls.{sheetOf, labelsOf}
 use Rattle.crossed.specs.Demand.{Side, SideAnswers}
@@ -45,7 +47,7 @@ module _ (s : List ℕ) (f : fault s ≡ 0) (D : Automaton) (e : determinize 0 l
   pub between : Between 0 lastSymbol D
   between = determinize-between 0 lastSymbol (read s) (well-read .states) D e
 
-  pub fits : Fits D
+  fits : Fits D
   fits = determinize-fits 0 lastSymbol (read s) (well-read .states) D e
 
   pub no-fault : fault (write D) ≡ 0
@@ -73,7 +75,7 @@ module _ (s : List ℕ) (f : fault s ≡ 0) (D : Automaton) (e : determinize 0 l
   pub other-words : (w : List ℕ) → Word 0 lastSymbol w → Accepts (flipped D) w ↔ (Accepts D w → ⊥)
   other-words w v =
       rw (sym complement-flips)
-      (complement-words 0 lastSymbol D well (omega arith) (deterministic .ranges) (λ q h. nfa-settled 0 lastSymbol D .0 no-nfa q h .no-overlap) w v)
+      (complement-words 0 lastSymbol D well (omega arith) (deterministic .ranges) (λ q h. nfa-deterministic-at 0 lastSymbol D .0 no-nfa q h .no-overlap) w v)
 
   -- the patterns that the two calls give
   abbrev own : Pattern
@@ -82,15 +84,19 @@ module _ (s : List ℕ) (f : fault s ≡ 0) (D : Automaton) (e : determinize 0 l
   abbrev other : Pattern
   other = record { automaton = flipped D; labels = numbered (D .size) }
 
-  determinize-answer : sheetFirst s (labelled (determinize 0 lastSymbol (read s))) ≡ given own
-  unfolding sheetFirst labelled
+  determinize-answer : sheetFirst s (subsetPattern (determinize 0 lastSymbol (read s))) ≡ given own
+  unfolding sheetFirst subsetPattern
   determinize-answer = rw (f, e)
 
   labels-pass : labelsFault (D .size) (writeLabels (numbered (D .size))) ≡ 0
   labels-pass = subst (λ n. labelsFault n (writeLabels (numbered (D .size))) ≡ 0) (length-numbered (D .size)) (fault-write (numbered (D .size)) (labels-numbered (D .size) (fits .few-states)))
 
-  complement-answer : complementAnswer 0 lastSymbol (write D) (writeLabels (numbered (D .size))) ≡ given other
-  unfolding complementAnswer sheetFirst labelsFirst complementPattern flipped
+  -- the answer of the complement behind 20
+  abbrev complementOf : List ℕ → List ℕ → Answer Pattern
+  complementOf s b = sheetFirst s (labelsFirst (stateCount s) b (limited (complementPattern 0 lastSymbol (read s) (readLabels b))))
+
+  complement-answer : complementOf (write D) (writeLabels (numbered (D .size))) ≡ given other
+  unfolding sheetFirst labelsFirst complementPattern flipped
   complement-answer =
       rw (no-fault, read-back, labels-pass, read-write (numbered (D .size)), complement-flips, no-nfa)
       (limited-given other (fits .few-states) (fits .few-transitions))
@@ -106,14 +112,15 @@ module _ (s : List ℕ) (f : fault s ≡ 0) (D : Automaton) (e : determinize 0 l
     names-left =
         labels-left (x .determinization) _ (x .determinizes) own determinize-answer (labels-numbered (D .size) (fits .few-states)) (omega (arith, length-numbered (D .size), fits .few-states))
 
-    complement-given : complementAnswer 0 lastSymbol (sheetOf (x .determinization)) (labelsOf (x .determinization)) ≡ given other
-    complement-given = ap₂ (complementAnswer 0 lastSymbol) determinization-left names-left ∙ complement-answer
+    complement-given : complementOf (sheetOf (x .determinization)) (labelsOf (x .determinization)) ≡ given other
+    complement-given = ap₂ complementOf determinization-left names-left ∙ complement-answer
 
     pub complement-left : sheetOf (x .complement) ≡ write (flipped D)
+    unfolding complementAnswer
     complement-left = sheet-left (x .complement) _ (x .complements) other complement-given flipped-wellformed flipped-fits
 
     pub side-answers : SideAnswers D x
-    unfolding determinizeAnswer
+    unfolding determinizeAnswer complementAnswer
     side-answers = record {
       determinize-code = code-left (x .determinization) _ (x .determinizes) own determinize-answer;
       determinization = ap read determinization-left ∙ read-back;

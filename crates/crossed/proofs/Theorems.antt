@@ -3,16 +3,16 @@
 --                `ringmatch_determinize`, `ringmatch_complement` and `ringmatch_intersection`, are empty by `ringmatch_has_reachable_accepting_state`
 --                exactly in the equal case
 -- Assumes nothing.
-use Prim.Native.Nat.{ℕ, _+_, _≤_}
+use Prim.Native.Nat.{ℕ}
 use mathlib.Core.List.{List}
 use mathlib.Core.Logic.{_↔_}
 use mathlib.Core.Path.{_≡_}
-use native.Mathlib.Omega.{arith}
 use Rattle.automata.specs.Automaton.{Automaton, Accepts, Word}
 use Rattle.automata.specs.WellFormed.{lastSymbol}
 use Rattle.determinize.specs.Determinize.{determinize}
 use Rattle.determinize.proofs.Theorems.{determinize-words, determinize-given}
-use Rattle.equality.specs.Equality.{determinized, withFirst, withSecond}
+use Rattle.determinizations.specs.Determinizations.{determinized}
+use Rattle.determinizations.proofs.Theorems.{determinized-both, total-few}
 use Rattle.equality.proofs.Theorems.{equality-exact, forced-smallest}
 use Rattle.refusal.specs.Answer.{given}
 use Rattle.sheets.specs.Fault.{fault}
@@ -22,7 +22,7 @@ use Rattle.sheets.proofs.Meaning.{read-well}
 use Rattle.crossed.specs.Demand.{Compared, Crossing, Empty, beside, EqualWords, Crossed, Report, Demanded}
 use Rattle.crossed.proofs.Products.{product-answers, empty-within}
 use Rattle.crossed.proofs.Reports.{reported}
-use Rattle.crossed.proofs.Sides.{fits, determinization-left, complement-left, side-answers}
+use Rattle.crossed.proofs.Sides.{determinization-left, complement-left, side-answers}
 
 -- accepted sheets a and b whose determinizations are D and E
 module _ (a b : List ℕ) (f : fault a ≡ 0) (g : fault b ≡ 0) (D E : Automaton) (d : determinize 0 lastSymbol (read a) ≡ given D) (e : determinize 0 lastSymbol (read b) ≡ given E) where
@@ -41,7 +41,7 @@ module _ (a b : List ℕ) (f : fault a ≡ 0) (g : fault b ≡ 0) (D E : Automat
         λ s. (k .1 (λ w v h. by-b w v .1 (s w v .0 (by-a w v .0 h))), m .1 (λ w v h. by-a w v .1 (s w v .1 (by-b w v .0 h)))),
       )
 
-  crossed : (c : Compared a b) → (c .memory .after .same ≡ 1) ↔ EqualWords a b → (x : Crossing a b) → Crossed c x
+  crossed : (c : Compared a b) → (c .memory .after .cells .same ≡ 1) ↔ EqualWords a b → (x : Crossing a b) → Crossed c x
   crossed c equal x =
       let k = both-empty x in
       record {
@@ -52,15 +52,14 @@ module _ (a b : List ℕ) (f : fault a ≡ 0) (g : fault b ≡ 0) (D E : Automat
       }
 
   both : determinized 0 lastSymbol (read a) (read b) ≡ given (beside D E)
-  unfolding determinized withFirst withSecond
-  both = rw (d, e)
+  both = determinized-both 0 lastSymbol (read a) (read b) D E d e
 
   report : (c : Compared a b) → Report a b (beside D E) (c .memory)
   report c =
       let m = c .memory in
-      let few : D .size + E .size ≤ 512 = omega (arith, fits a f D d .few-states, fits b g E e .few-states) in
-      reported a b (beside D E) few (m .word) (m .word-after) (m .same) (m .number) (m .room) (m .after) (c .call .verdict) (c .call .is)
-      (equality-exact 0 lastSymbol a b f g (m .word) (m .word-after) (c .call .verdict) (m .room) (c .call .judged) D E d e)
+      let few = total-few 0 lastSymbol (read a) (read b) (read-well a (accepted a f) .states) (read-well b (accepted b g) .states) (beside D E) both in
+      reported a b (beside D E) few (m .word) (m .after .memory) (m .same) (m .number) (m .room) (m .after) (c .call .verdict) (c .call .is)
+      (equality-exact 0 lastSymbol a b f g (m .word) (m .after .memory) (c .call .verdict) (m .room) (c .call .judged) D E d e)
 
   demanded : (c : Compared a b) → Demanded c
   demanded c =

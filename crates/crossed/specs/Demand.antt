@@ -6,16 +6,19 @@ use mathlib.Core.Logic.{_⊎_, _↔_}
 use mathlib.Core.Path.{_≡_}
 use Rattle.automata.specs.Automaton.{Automaton}
 use Rattle.automata.specs.WellFormed.{mostStates, mostTransitions, lastSymbol}
+use Rattle.automata.specs.SameWords.{SameWords}
 use Rattle.determinize.specs.Determinize.{determinize}
+use Rattle.determinizations.specs.Two.{Two, totalSize}
+use Rattle.determinizations.specs.Determinizations.{Limits}
 use Rattle.dsu.specs.Classes.{Classes}
-use Rattle.equality.specs.Equality.{wordSize, Limits, SameWords, Differs}
-use Rattle.equality.specs.Forced.{Two, totalSize, Forced, Smallest}
+use Rattle.equality.specs.Equality.{wordSize, Differs}
+use Rattle.equality.specs.Forced.{Forced, Smallest}
 use Rattle.product.specs.Reached.{ManyPairs, ManyTransitions}
 use Rattle.refusal.specs.Answer.{given}
 use Rattle.sheets.specs.Fault.{fault}
 use Rattle.sheets.specs.Sheet.{read}
 use Rattle.totality.specs.Totality.{complemented}
-use Rattle.crossed.specs.Calls.{Difference, EqualityCall, Outputs, sheetOf, labelsOf, DeterminizeCall, ComplementCall, IntersectionCall, Question, ReachableCall}
+use Rattle.crossed.specs.Calls.{Difference, EqualityCall, OutputsMemory, sheetOf, labelsOf, DeterminizeCall, ComplementCall, IntersectionCall, Question, ReachableCall}
 
 -- any two accepted automata whose determinizations fit, compared
 pub record Compared (a b : List ℕ) : Type 0 where
@@ -32,10 +35,10 @@ pub record Compared (a b : List ℕ) : Type 0 where
 -- the sheet s determinized, and the complement of that
 pub record Side (s : List ℕ) : Type 0 where
   -- ringmatch_determinize
-  pub determinization : Outputs
+  pub determinization : OutputsMemory
   pub determinizes : DeterminizeCall s determinization
   -- ringmatch_complement of the sheet and the labels that this wrote
-  pub complement : Outputs
+  pub complement : OutputsMemory
   pub complements : ComplementCall (sheetOf determinization) (labelsOf determinization) complement
 
 -- a product fits 256 states and 2,048 transitions
@@ -46,7 +49,7 @@ Fit A B = (ManyPairs mostStates A B → ⊥) × (ManyTransitions mostTransitions
 pub record Product (s t : List ℕ) : Type 0 where
   pub fits : Fit (read s) (read t)
   -- ringmatch_intersection
-  pub product : Outputs
+  pub product : OutputsMemory
   pub intersects : IntersectionCall s t product
   -- ringmatch_has_reachable_accepting_state of the sheet that this wrote
   pub question : Question
@@ -73,7 +76,7 @@ pub record ProductAnswers {s t : List ℕ} (x : Product s t) : Type 0 where
 
 -- the product is empty: no accepting state is reached
 abbrev pub Empty : {s t : List ℕ} → Product s t → Type 0
-Empty x = x .question .after .answer ≡ 0
+Empty x = x .question .after .cells ≡ 0
 
 -- two automata side by side over the symbols of u32
 abbrev pub beside : Automaton → Automaton → Two
@@ -89,23 +92,23 @@ pub record Crossed {a b : List ℕ} (c : Compared a b) (x : Crossing a b) : Type
   pub second : ProductAnswers (x .second)
   -- both are empty exactly where the sheets accept the same words, which is where they are reported equal
   pub words : (Empty (x .first) × Empty (x .second)) ↔ EqualWords a b
-  pub reported : (Empty (x .first) × Empty (x .second)) ↔ (c .memory .after .same ≡ 1)
+  pub reported : (Empty (x .first) × Empty (x .second)) ↔ (c .memory .after .cells .same ≡ 1)
 
 -- the report in the memory m of `ringmatch_equality` on the sheets a and b, whose determinizations are those of t
 pub record Report (a b : List ℕ) (t : Two) (m : Difference) : Type 0 where
   -- nothing is refused: the sheets are reported equal or different
   pub code : m .after .code ≡ 0
-  pub either : (m .after .same ≡ 1) ⊎ (m .after .same ≡ 0)
+  pub either : (m .after .cells .same ≡ 1) ⊎ (m .after .cells .same ≡ 0)
   -- equal exactly when every finite word of u32 symbols is accepted by both or by neither
-  pub equal : (m .after .same ≡ 1) ↔ EqualWords a b
+  pub equal : (m .after .cells .same ≡ 1) ↔ EqualWords a b
   -- otherwise different, with a word that exactly one of the two accepts; its symbols number at most the states of both determinizations less 2,
   -- so 510, and nothing behind it is written
-  pub different : (m .after .same ≡ 0) ↔ (EqualWords a b → ⊥)
-  pub word : m .after .same ≡ 0 → Differs 0 lastSymbol (read a) (read b) (totalSize t) (m .word) (m .word-after) (m .after .number)
-  pub most : m .after .same ≡ 0 → m .after .number ≤ wordSize
+  pub different : (m .after .cells .same ≡ 0) ↔ (EqualWords a b → ⊥)
+  pub word : m .after .cells .same ≡ 0 → Differs 0 lastSymbol (read a) (read b) (totalSize t) (m .word) (m .after .memory) (m .after .cells .number)
+  pub most : m .after .cells .same ≡ 0 → m .after .cells .number ≤ wordSize
   -- an equal report carries the joins, which are the states of both determinizations less the classes; nothing is written into the lent word
-  pub joins : m .after .same ≡ 1 → (classes : ℕ) × Classes (Forced t) (totalSize t) classes × (m .after .number + classes ≡ totalSize t)
-  pub kept : m .after .same ≡ 1 → m .word-after ≡ m .word
+  pub joins : m .after .cells .same ≡ 1 → (classes : ℕ) × Classes (Forced t) (totalSize t) classes × (m .after .cells .number + classes ≡ totalSize t)
+  pub kept : m .after .cells .same ≡ 1 → m .after .memory ≡ m .word
 
 -- what demand 3 asks of the comparison c
 pub record Demanded {a b : List ℕ} (c : Compared a b) : Type 1 where

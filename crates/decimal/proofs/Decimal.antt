@@ -1,14 +1,15 @@
 -- Laws of decimal digits: the two equations that make them, their value, and how many there are.
-use Prim.Native.Nat.{ℕ, zero, suc, _+_, _-_, _*_, _/_, _%_, _^_, _≤_, _<_}
+use Prim.Native.Nat.{ℕ, zero, suc, _+_, _/_, _%_, _^_, _≤_, _<_}
 use mathlib.Core.Bool.{Bool, true, false}
 use mathlib.Core.List.{List, [], _∷_, _++_}
 use mathlib.Core.Path.{_≡_, refl, sym, _∙_, ap}
 use native.Mathlib.Nat.{pow-succ'}
 use native.Mathlib.Omega.{arith}
 use lib.ListN.{length, length-append}
-use lib.Dec.{ltb}
-use borrow.Author.Tests.{lt-ltb, le-ltb, ltb-true, ltb-false}
-use Rattle.decimal.specs.Decimal.{lastDigits, digits, valueAfter, value}
+use lib.Dec.{leb, ltb}
+use borrow.Author.Tests.{lt-ltb, le-ltb, ltb-true, ltb-false, leb-true}
+use Rattle.lists.proofs.Tests.{and-parts}
+use Rattle.decimal.specs.Decimal.{lastDigits, digits, isDigit, withDigit, valueAfter, value}
 
 -- a number below 10 and any other, where the tenth of the other is smaller
 small-or-more : (P : ℕ → Type 0) → ((n : ℕ) → n < 10 → P n) → ((n : ℕ) → 10 ≤ n → P (n / 10) → P n) → (k n : ℕ) → n < k → P n
@@ -51,10 +52,10 @@ pub digits-more : (n : ℕ) → 10 ≤ n → digits n ≡ digits (n / 10) ++ (48
 unfolding digits
 digits-more n h = last-more n n h ∙ ap (λ ds. ds ++ (48 + n % 10) ∷ []) (last-same n (suc (n / 10)) (n / 10) (omega arith) (omega arith))
 
-value-append : (a : ℕ) (ds : List ℕ) (d : ℕ) → valueAfter a (ds ++ d ∷ []) ≡ 10 * valueAfter a ds + (d - 48)
+value-append : (a : ℕ) (ds : List ℕ) (d : ℕ) → valueAfter a (ds ++ d ∷ []) ≡ withDigit (valueAfter a ds) d
 unfolding valueAfter
 value-append a [] d = refl
-value-append a (c ∷ ds) d = value-append (10 * a + (c - 48)) ds d
+value-append a (c ∷ ds) d = value-append (withDigit a c) ds d
 
 -- the digits of n say n
 pub value-digits : (n : ℕ) → value (digits n) ≡ n
@@ -83,3 +84,12 @@ length-most (suc k) n h = case (ltb n 10) refl (length-most k (n / 10))
 -- a 32-bit word has at most ten digits
 pub length-word : (n : ℕ) → n < 2 ^ 32 → length (digits n) ≤ 10
 length-word n h = length-most 9 n (omega arith)
+
+-- the bytes of digits
+pub digit-least : (b : ℕ) → isDigit b ≡ true → 48 ≤ b
+unfolding isDigit
+digit-least b h = leb-true 48 b (and-parts (leb 48 b) (leb b 57) h .0)
+
+pub digit-most : (b : ℕ) → isDigit b ≡ true → b ≤ 57
+unfolding isDigit
+digit-most b h = leb-true b 57 (and-parts (leb 48 b) (leb b 57) h .1)

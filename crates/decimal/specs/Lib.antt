@@ -1,2 +1,2 @@
--- The definition of decimal digits.
+-- The definitions of decimal digits.
 pub mod Decimal

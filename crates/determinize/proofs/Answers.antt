@@ -14,15 +14,15 @@ use Rattle.sets.specs.Sets.{Set}
 use Rattle.output.specs.Output.{transitionsFirst}
 use Rattle.refusal.specs.Answer.{refused, given}
 use Rattle.search.specs.Search.{SearchResult, over, found}
-use Rattle.determinize.specs.Determinize.{table, subsetAutomaton, subsetsAnswer, determinize}
+use Rattle.determinize.specs.Determinize.{setTable, subsetAutomaton, subsetsAnswer, determinize}
 
 module _ (lower upper : ℕ) (A : Automaton) where
   -- the three answers
-  pub answer-over : table lower upper A ≡ over → determinize lower upper A ≡ refused 21
+  pub answer-over : setTable lower upper A ≡ over → determinize lower upper A ≡ refused 21
   unfolding determinize subsetsAnswer
   answer-over e = ap (subsetsAnswer lower upper A) e
 
-  module _ (T : List Set) (e : table lower upper A ≡ found T) where
+  module _ (T : List Set) (e : setTable lower upper A ≡ found T) where
     pub answer-many : mostTransitions < length (subsetAutomaton lower upper A T .transitions) → determinize lower upper A ≡ refused 22
     unfolding determinize subsetsAnswer transitionsFirst
     answer-many h = ap (subsetsAnswer lower upper A) e ∙ rw (lt-ltb _ _ h)
@@ -33,14 +33,16 @@ module _ (lower upper : ℕ) (A : Automaton) where
 
   -- which of them it is
   pub data Outcome : Type 0 where
-    too-many-sets : table lower upper A ≡ over → determinize lower upper A ≡ refused 21 → Outcome
-    too-many-transitions : (T : List Set) → table lower upper A ≡ found T → mostTransitions < length (subsetAutomaton lower upper A T .transitions) → determinize lower upper A ≡ refused 22 → Outcome
-    fits : (T : List Set) → table lower upper A ≡ found T → length (subsetAutomaton lower upper A T .transitions) ≤ mostTransitions → determinize lower upper A ≡ given (subsetAutomaton lower upper A T) → Outcome
+    too-many-sets : setTable lower upper A ≡ over → determinize lower upper A ≡ refused 21 → Outcome
+    too-many-transitions : (T : List Set) → setTable lower upper A ≡ found T → mostTransitions < length (subsetAutomaton lower upper A T .transitions)
+        → determinize lower upper A ≡ refused 22 → Outcome
+    fits : (T : List Set) → setTable lower upper A ≡ found T → length (subsetAutomaton lower upper A T .transitions) ≤ mostTransitions
+        → determinize lower upper A ≡ given (subsetAutomaton lower upper A T) → Outcome
 
   pub outcome : Outcome
-  outcome = go (table lower upper A) refl
+  outcome = go (setTable lower upper A) refl
     where
-      go : (f : SearchResult Set) → table lower upper A ≡ f → Outcome
+      go : (f : SearchResult Set) → setTable lower upper A ≡ f → Outcome
       go over e = too-many-sets e (answer-over e)
       go (found T) e =
           let n = length (subsetAutomaton lower upper A T .transitions) in
@@ -59,7 +61,7 @@ module _ (lower upper : ℕ) (A : Automaton) where
   -- an automaton that was given comes from a finished table, with few enough transitions
   pub record Built (D : Automaton) : Type 0 where
     pub sets : List Set
-    pub whole : table lower upper A ≡ found sets
+    pub whole : setTable lower upper A ≡ found sets
     pub is : D ≡ subsetAutomaton lower upper A sets
     pub few : length (D .transitions) ≤ mostTransitions
 
@@ -71,10 +73,10 @@ module _ (lower upper : ℕ) (A : Automaton) where
       go (too-many-transitions T e h q) = let z : _≡_ {A = ℕ} 0 1 = cc in absurd (omega arith)
       go (fits T e h q) = let r : D ≡ subsetAutomaton lower upper A T = cc in record { sets = T; whole = e; is = r; few = rw r h }
 
-  pub refused-over : determinize lower upper A ≡ refused 21 → table lower upper A ≡ over
+  pub refused-over : determinize lower upper A ≡ refused 21 → setTable lower upper A ≡ over
   refused-over p = go outcome
     where
-      go : Outcome → table lower upper A ≡ over
+      go : Outcome → setTable lower upper A ≡ over
       go (too-many-sets e q) = e
       go (too-many-transitions T e h q) = let z : _≡_ {A = ℕ} 21 22 = cc in absurd (omega arith)
       go (fits T e h q) = let z : _≡_ {A = ℕ} 0 1 = cc in absurd (omega arith)
@@ -82,7 +84,7 @@ module _ (lower upper : ℕ) (A : Automaton) where
   -- 22 is given to a finished table with too many transitions
   pub record Many : Type 0 where
     pub sets : List Set
-    pub whole : table lower upper A ≡ found sets
+    pub whole : setTable lower upper A ≡ found sets
     pub many : mostTransitions < length (subsetAutomaton lower upper A sets .transitions)
 
   pub refused-many : determinize lower upper A ≡ refused 22 → Many

@@ -22,8 +22,8 @@ use Rattle.determinize.specs.declared.Progress.{Progress}
 use Rattle.determinize.specs.declared.Progress.the-variants.{Sets, Over}
 use Rattle.determinize.specs.declared.Exploration.{Exploration}
 use Rattle.determinize.specs.declared.Exploration.the-variants.{Finished, Unfinished}
-use Rattle.determinize.specs.inner.Notes.{SetVisited, Explored}
-use Rattle.determinize.specs.inner.Attempts.{runLength, recordsOf, SetTried, Complete, Attempted}
+use Rattle.determinize.specs.inner.Notes.{SpansResult, TableResult}
+use Rattle.determinize.specs.inner.Attempts.{runLength, recordsOf, SpansExploration, TableResultWithRoom, TableExploration}
 
 -- `run_length`
 module _ (starts : List ℕ) (q : ℕ) where
@@ -77,22 +77,22 @@ pub ruleset foundLaws = (found-not, found-long, needs)
 
 -- a try to visit the spans of a state
 module _ (lower upper : ℕ) (A : Automaton) (S : Set) (T : List Set) (j : ℕ) (before : List ℕ) (k : ℕ) (t u r : List ℕ) where
-  pub try-unfinished : setAt u 0 ≡ setAt t 0 → SetTried lower upper A S T j before k t u r Unfinished
-  unfolding SetTried
+  pub try-unfinished : setAt u 0 ≡ setAt t 0 → SpansExploration lower upper A S T j before k t u r Unfinished
+  unfolding SpansExploration
   try-unfinished e = e
 
-  pub try-finished : (x : Progress) → SetVisited lower upper A S T j before k u r x → SetTried lower upper A S T j before k t u r (Finished x)
-  unfolding SetTried
+  pub try-finished : (x : Progress) → SpansResult lower upper A S T j before k u r x → SpansExploration lower upper A S T j before k t u r (Finished x)
+  unfolding SpansExploration
   try-finished x p = p
 
-  module _ (x : Exploration) (p : SetTried lower upper A S T j before k t u r x) where
-    pub tried-visited : (y : Progress) → x ≡ Finished y → SetVisited lower upper A S T j before k u r y
-    unfolding SetTried
-    tried-visited y e = subst (SetTried lower upper A S T j before k t u r) e p
+  module _ (x : Exploration) (p : SpansExploration lower upper A S T j before k t u r x) where
+    pub tried-visited : (y : Progress) → x ≡ Finished y → SpansResult lower upper A S T j before k u r y
+    unfolding SpansExploration
+    tried-visited y e = subst (SpansExploration lower upper A S T j before k t u r) e p
 
     pub tried-start : x ≡ Unfinished → setAt t 0 ≡ startSet A → setAt u 0 ≡ startSet A
-    unfolding SetTried
-    tried-start e f = subst (SetTried lower upper A S T j before k t u r) e p ∙ f
+    unfolding SpansExploration
+    tried-start e f = subst (SpansExploration lower upper A S T j before k t u r) e p ∙ f
 
 -- `is_full`
 pub full-never : (l k : ℕ) → 10240 ≤ l → false ≡ (ltb l 10240 && ltb l k)
@@ -105,27 +105,29 @@ pub ruleset fullLaws = (full-never, full-short, needs)
 
 -- what the first pass came to
 module _ (lower upper : ℕ) (A : Automaton) (t r : List ℕ) where
-  pub attempt-unfinished : setAt t 0 ≡ startSet A → Attempted lower upper A t r Unfinished
-  unfolding Attempted
+  pub attempt-unfinished : setAt t 0 ≡ startSet A → TableExploration lower upper A t r Unfinished
+  unfolding TableExploration
   attempt-unfinished e = e
 
-  pub attempt-over : (before : List ℕ) → Explored lower upper A before t r Over → Attempted lower upper A t r (Finished Over)
-  unfolding Attempted
+  pub attempt-over : (before : List ℕ) → TableResult lower upper A before t r Over → TableExploration lower upper A t r (Finished Over)
+  unfolding TableExploration
   attempt-over before p = record { before = before; explored = p; room = λ n m e. absurd (other n m e) }
     where
       other : (n m : ℕ) → Over ≡ Sets n m → ⊥
       other n m e = let z : _≡_ {A = ℕ} 0 1 = cc in omega arith
 
-  pub attempt-done : (before : List ℕ) (n m : ℕ) → Explored lower upper A before t r (Sets n m) → length r ≡ length before → (b : Bool)
-      → b ≡ (ltb (length r) 10240 && ltb (length r) (5 * m)) → b ≡ false → Attempted lower upper A t r (Finished (Sets n m))
-  unfolding Attempted
+  pub attempt-done : (before : List ℕ) (n m : ℕ) → TableResult lower upper A before t r (Sets n m) → length r ≡ length before → (b : Bool)
+      → b ≡ (ltb (length r) 10240 && ltb (length r) (5 * m)) → b ≡ false → TableExploration lower upper A t r (Finished (Sets n m))
+  unfolding TableExploration
   attempt-done before n m p l b e f = record { before = before; explored = p; room = λ i j q h. let z : m ≡ j = cc in fits j h z }
     where
       fits : (j : ℕ) → j ≤ 2048 → m ≡ j → 5 * j ≤ length before
       fits j h z =
           ⊎-elim
           (λ (c : ltb (length r) 10240 ≡ true).
-          ⊎-elim (λ (d : ltb (length r) (5 * m) ≡ true). let y : _≡_ {A = Bool} true false = sym (rw (c, d)) ∙ sym e ∙ f in absurd (bools y)) (λ (d : ltb (length r) (5 * m) ≡ false). let y : 5 * m ≤ length r = ltb-false _ _ d in omega arith)
+          ⊎-elim
+          (λ (d : ltb (length r) (5 * m) ≡ true). let y : _≡_ {A = Bool} true false = sym (rw (c, d)) ∙ sym e ∙ f in absurd (bools y))
+          (λ (d : ltb (length r) (5 * m) ≡ false). let y : 5 * m ≤ length r = ltb-false _ _ d in omega arith)
           (test (ltb (length r) (5 * m))))
           (λ (c : ltb (length r) 10240 ≡ false). let y : 10240 ≤ length r = ltb-false _ _ c in omega arith)
           (test (ltb (length r) 10240))
@@ -134,14 +136,14 @@ module _ (lower upper : ℕ) (A : Automaton) (t r : List ℕ) where
           bools y = let z : _≡_ {A = ℕ} 0 1 = cc in omega arith
 
   -- with room for all notes of a result
-  pub complete-all : (before : List ℕ) (x : Progress) → Explored lower upper A before t r x → length before ≡ 10240 → Complete lower upper A t r x
+  pub complete-all : (before : List ℕ) (x : Progress) → TableResult lower upper A before t r x → length before ≡ 10240 → TableResultWithRoom lower upper A t r x
   complete-all before x p l = record { before = before; explored = p; room = λ n m e h. omega arith }
 
-  module _ (x : Exploration) (p : Attempted lower upper A t r x) where
-    pub attempt-finished : (y : Progress) → x ≡ Finished y → Complete lower upper A t r y
-    unfolding Attempted
-    attempt-finished y e = subst (Attempted lower upper A t r) e p
+  module _ (x : Exploration) (p : TableExploration lower upper A t r x) where
+    pub attempt-finished : (y : Progress) → x ≡ Finished y → TableResultWithRoom lower upper A t r y
+    unfolding TableExploration
+    attempt-finished y e = subst (TableExploration lower upper A t r) e p
 
     pub attempt-start : x ≡ Unfinished → setAt t 0 ≡ startSet A
-    unfolding Attempted
-    attempt-start e = subst (Attempted lower upper A t r) e p
+    unfolding TableExploration
+    attempt-start e = subst (TableExploration lower upper A t r) e p

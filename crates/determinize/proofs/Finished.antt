@@ -25,7 +25,7 @@ use Rattle.words.specs.Simulation.{step, simulate, startSet}
 use Rattle.words.proofs.Closures.{closure-complete}
 use Rattle.words.proofs.Outgoing.{step-nil}
 use Rattle.words.proofs.Reading.{simulate-nothing}
-use Rattle.determinize.specs.Determinize.{targets, someOf, subsets, table}
+use Rattle.determinize.specs.Determinize.{setTargets, nonemptyOf, subsets, setTable}
 use Rattle.determinize.specs.Reached.{SetReached, ReachedSets, MoreThan, AllReached}
 use Rattle.determinize.proofs.Targets.{targets-reached, targets-in}
 
@@ -40,7 +40,7 @@ module _ (lower upper : ℕ) (A : Automaton) where
 
   -- a symbol leads to nothing or to a set to which the graph leads
   next-in : (S : Set) (a : ℕ) → lower ≤ a → a ≤ upper → (step A S a ≡ []) ⊎ (step A S a ∈ G .next S)
-  unfolding subsets someOf
+  unfolding subsets nonemptyOf
   next-in S a l u =
       ⊎-elim (λ (t : isEmpty (step A S a) ≡ true). inl (empty-yes _ t))
       (λ (t : isEmpty (step A S a) ≡ false).
@@ -49,9 +49,9 @@ module _ (lower upper : ℕ) (A : Automaton) where
 
   -- the graph reaches just the nonempty sets that words reach
   by-words : {S : Set} → graph.Reached G S → SetReached lower upper A S
-  unfolding subsets someOf simulate
+  unfolding subsets nonemptyOf simulate
   by-words graph.start = ([], none, refl)
-  by-words (graph.step {x = S} {y = R} r m) = targets-reached lower upper A S (by-words r) R (filter-out (λ R. not (isEmpty R)) R (targets lower upper A S) m .0)
+  by-words (graph.step {x = S} {y = R} r m) = targets-reached lower upper A S (by-words r) R (filter-out (λ R. not (isEmpty R)) R (setTargets lower upper A S) m .0)
 
   by-graph : (S : Set) → graph.Reached G S → (w : List ℕ) → Word lower upper w → (simulate A S w ≡ []) ⊎ graph.Reached G (simulate A S w)
   unfolding simulate
@@ -66,9 +66,9 @@ module _ (lower upper : ℕ) (A : Automaton) where
     start-some e = false≢true (sym (has-nil (A .start)) ∙ (rw e at (closure-complete A ok (ok .starts) stay)))
 
     reached-some : {S : Set} → graph.Reached G S → S ≡ [] → ⊥
-    unfolding subsets someOf
+    unfolding subsets nonemptyOf
     reached-some graph.start = start-some
-    reached-some (graph.step {x = S} {y = R} r m) = empty-no R (not-true (isEmpty R) (filter-out (λ R. not (isEmpty R)) R (targets lower upper A S) m .1))
+    reached-some (graph.step {x = S} {y = R} r m) = empty-no R (not-true (isEmpty R) (filter-out (λ R. not (isEmpty R)) R (setTargets lower upper A S) m .1))
 
     good-words : (T : List Set) → graph.ReachedElements G T → ReachedSets lower upper A T
     good-words T g = record { distinct = g .distinct; nonempty = λ S m. reached-some (g .reached S m); reached = λ S m. by-words (g .reached S m) }
@@ -82,22 +82,22 @@ module _ (lower upper : ℕ) (A : Automaton) where
     words-good : (T : List Set) → ReachedSets lower upper A T → graph.ReachedElements G T
     words-good T g = record { distinct = g .distinct; reached = λ S m. words-reached S (g .reached S m) (g .nonempty S m) }
 
-    module _ (T : List Set) (e : table lower upper A ≡ found T) where
+    module _ (T : List Set) (e : setTable lower upper A ≡ found T) where
       pub table-few : length T < mostStates
-      unfolding table
+      unfolding setTable
       table-few = omega (arith, Queue.table-few G decides (mostStates - 1) T e)
 
       pub table-some : 0 < length T
-      unfolding table
+      unfolding setTable
       table-some = Queue.table-some G decides (mostStates - 1) T e
 
       pub table-start : getD T 0 [] ≡ startSet A
-      unfolding table subsets
+      unfolding setTable subsets
       table-start = at-default T 0 [] (startSet A) table-some ∙ Queue.table-start G decides (mostStates - 1) T e
 
       -- every symbol leads from an entry to an entry or to nothing
       pub table-closed : (j a : ℕ) → lower ≤ a → a ≤ upper → In T (step A (getD T j []) a)
-      unfolding table
+      unfolding setTable
       table-closed j a l u =
           ⊎-elim
           (λ (t : ltb j (length T) ≡ true).
@@ -110,13 +110,13 @@ module _ (lower upper : ℕ) (A : Automaton) where
           (test (ltb j (length T)))
 
       pub table-all : AllReached lower upper A T
-      unfolding table
+      unfolding setTable
       table-all =
           let r = Queue.table-all G decides (mostStates - 1) T e in
           record { good = good-words T (r .good); whole = λ S w n. r .whole S (words-reached S w n) }
 
-    pub over-exact : (table lower upper A ≡ over) ↔ MoreThan 255 lower upper A
-    unfolding table
+    pub over-exact : (setTable lower upper A ≡ over) ↔ MoreThan 255 lower upper A
+    unfolding setTable
     over-exact =
         let x = Queue.over-exact G decides (mostStates - 1) in
         (λ e. let m = x .0 e in (m .0, good-words (m .0) (m .1), m .2), λ m. x .1 (m .0, words-good (m .0) (m .1), m .2))

@@ -8,7 +8,7 @@ pub mod Result
 pub mod Runs
 pub mod Written
 pub mod Sink
-pub mod Counts
+pub mod Degrees
 pub mod Laws
 pub mod Answers
 pub mod Theorems

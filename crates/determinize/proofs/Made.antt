@@ -7,7 +7,7 @@ use native.Mathlib.Omega.{arith}
 use borrow.Author.Needs.{needs}
 use lib.Dec.{ltb}
 use lib.ListN.{length}
-use Rattle.lists.specs.Written.{Written}
+use Rattle.stores.specs.Written.{Written}
 use Rattle.automata.specs.Automaton.{Automaton}
 use Rattle.labels.specs.Forms.{numbered}
 use Rattle.labels.specs.Labels.{writeLabels}
@@ -32,7 +32,7 @@ use Rattle.sheets.proofs.Meaning.{read-well}
 use Rattle.determinize.specs.declared.Determinized.{Determinized}
 use Rattle.determinize.specs.declared.Determinized.the-variants.{Sheet, Refused}
 use Rattle.determinize.specs.Determinize.{determinize}
-use Rattle.determinize.specs.Sheets.{labelled, determinizeAnswer}
+use Rattle.determinize.specs.Sheets.{subsetPattern, determinizeAnswer}
 use Rattle.determinize.specs.inner.Sheets.{SheetSize, sheetOutput, determinizedOf}
 use Rattle.determinize.proofs.Theorems.{determinize-fits}
 
@@ -47,19 +47,19 @@ module _ (s o l : List ℕ) (b : Bool) (f : b ≡ (ltb (length o) 10500 || ltb (
     made-faulty i q = sym (ap (outputs o l) (room-enough o l _ b f h ∙ sheet-refused s _ c e i q))
 
     module _ (g : c ≡ checked.Accepted) (d : Determinized) (o′ : List ℕ) (k : determinizedOf d o′ ≡ sheetOutput o (determinize 0 4294967295 (read s))) where
-      answer : determinizeAnswer s o l ≡ labelled (determinize 0 4294967295 (read s))
+      answer : determinizeAnswer s o l ≡ subsetPattern (determinize 0 4294967295 (read s))
       unfolding determinizeAnswer
       answer = room-enough o l _ b f h ∙ sheet-passed s _ c e g
 
       pub made-refused : (q : StateRefusal) → d ≡ Refused q → outputOf (the-variants.Refused (State q)) o′ l ≡ outputs o l (determinizeAnswer s o l)
-      unfolding sheetOutput labelled outputs
+      unfolding sheetOutput subsetPattern outputs
       made-refused q z = go (determinize 0 4294967295 (read s)) (ap (λ x. determinizedOf x o′) (sym z) ∙ k) ∙ ap (outputs o l) (sym answer)
         where
-          go : (a : Answer Automaton) → determinizedOf (Refused q) o′ ≡ sheetOutput o a → outputOf (the-variants.Refused (State q)) o′ l ≡ outputs o l (labelled a)
+          go : (a : Answer Automaton) → determinizedOf (Refused q) o′ ≡ sheetOutput o a → outputOf (the-variants.Refused (State q)) o′ l ≡ outputs o l (subsetPattern a)
           go (refused n) y =
               let u = ap (λ x. x .answer) y in
               let v : stateNumber q ≡ n = cc in
-              let w : o′ ≡ o = ap (λ x. x .sheet) y in
+              let w : o′ ≡ o = ap (λ x. x .memory) y in
               rw (v, w)
           go (given D) y = let u = ap (λ x. x .answer) y in let v : _≡_ {A = ℕ} 0 1 = cc in absurd (omega arith)
 
@@ -83,7 +83,7 @@ module _ (s o l : List ℕ) (b : Bool) (f : b ≡ (ltb (length o) 10500 || ltb (
                   result = D;
                   is = i;
                   states = ap (λ x. x .states) v;
-                  written = record { stored = ap (λ x. x .sheet) y; behind = ap (λ x. x .words) v ∙ omega arith };
+                  written = record { stored = ap (λ x. x .memory) y; behind = ap (λ x. x .words) v ∙ omega arith };
                 }
 
         pub made-few : n ≤ 256
@@ -93,11 +93,11 @@ module _ (s o l : List ℕ) (b : Bool) (f : b ≡ (ltb (length o) 10500 || ltb (
             omega (arith, r .states, t .few-states)
 
         pub made-done : (l′ : List ℕ) (m : ℕ) → Written l 0 (writeLabels (numbered n)) l′ m → outputOf (the-variants.Lengths w m) o′ l′ ≡ outputs o l (determinizeAnswer s o l)
-        unfolding labelled
+        unfolding subsetPattern
         made-done l′ m v =
             let r = the-given in
             let D = r .result in
             made-given o l o′ l′ w m (record { automaton = D; labels = numbered (D .size) }) (r .written) (subst (λ i. Written l 0 (writeLabels (numbered i)) l′ m) (r .states) v)
-            ∙ ap (outputs o l) (sym (answer ∙ ap labelled (r .is)))
+            ∙ ap (outputs o l) (sym (answer ∙ ap subsetPattern (r .is)))
 
 pub ruleset madeLaws = (made-short, made-faulty, made-refused, made-few, made-done, check-accepted, room-words, room-bytes, needs)

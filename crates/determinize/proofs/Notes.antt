@@ -25,8 +25,8 @@ use Rattle.ranges.proofs.Cuts.{cut-step, cut-end}
 use Rattle.search.specs.Search.{found}
 use Rattle.ranges.proofs.Spans.{cut-stretch}
 use Rattle.words.proofs.Outgoing.{outgoing-nil, step-nil}
-use Rattle.determinize.specs.Determinize.{table, setsAndSink, transitionOf, transitionsOf, transitionsFrom}
-use Rattle.determinize.specs.inner.Notes.{number, noteOf, notesOf, notesFrom, sinkNotes, settle}
+use Rattle.determinize.specs.Determinize.{setTable, setsAndSink, setTransition, setTransitions, setTransitionsFrom}
+use Rattle.determinize.specs.inner.Notes.{setNumber, noteOf, notesOf, notesFrom, sinkNotes, notedTransition}
 use Rattle.determinize.proofs.Finished.{table-few, table-closed}
 use Rattle.determinize.proofs.Runs.{sink-index}
 use Rattle.determinize.proofs.Sink.{cut-nothing}
@@ -39,8 +39,8 @@ index-later R T more m = index-before same R T more (index-lt same same-decides 
 pub index-end : (R : Set) (T : List Set) → length T ≤ index same R T → index same R (T ++ R ∷ []) ≡ length T
 index-end R T h = index-behind same R R T h ∙ ap (λ b. cond b (length T) (suc (length T))) (same-decides .same-self R)
 
-pub number-later : (R : Set) (T more : List Set) → In T R → number R (T ++ more) ≡ number R T
-unfolding number
+pub number-later : (R : Set) (T more : List Set) → In T R → setNumber R (T ++ more) ≡ setNumber R T
+unfolding setNumber
 number-later [] T more m = refl
 number-later (q ∷ R) T more (inl e) = let z : _≡_ {A = ℕ} 0 1 = cc in absurd (omega arith)
 number-later (q ∷ R) T more (inr m) = index-later (q ∷ R) T more m
@@ -48,7 +48,7 @@ number-later (q ∷ R) T more (inr m) = index-later (q ∷ R) T more m
 module _ (upper : ℕ) (A : Automaton) (T : List Set) (j : ℕ) (S : Set) (a : ℕ) where
   pub notes-step : a < upper + 1
       → notesOf a upper A T j S
-      ≡ record { from = j; kind = 1; first = a; last = nextCut a (upper + 1) (outgoing A S) - 1; to = number (step A S a) T }
+      ≡ record { from = j; kind = 1; first = a; last = nextCut a (upper + 1) (outgoing A S) - 1; to = setNumber (step A S a) T }
       ∷ notesOf (nextCut a (upper + 1) (outgoing A S)) upper A T j S
   unfolding notesOf noteOf
   notes-step h = rw (add-one upper) (ap (map (noteOf A T j S)) (cut-step upper (outgoing A S) a (omega arith)))
@@ -60,14 +60,14 @@ module _ (upper : ℕ) (A : Automaton) (T : List Set) (j : ℕ) (S : Set) (a : �
 module _ (lower upper : ℕ) (A : Automaton) (T : List Set) where
   -- the sink's set is empty
   notes-sink : (j : ℕ) → notesOf lower upper A T j [] ≡ sinkNotes lower upper j
-  unfolding notesOf noteOf sinkNotes number
+  unfolding notesOf noteOf sinkNotes setNumber
   notes-sink j =
       ap (λ es. map (noteOf A T j []) (cutAll lower upper es)) (outgoing-nil A)
       ∙ ⊎-elim
       (λ (t : leb lower upper ≡ true).
       rw t
       (ap (map (noteOf A T j [])) (cut-nothing lower upper (leb-true lower upper t))
-      ∙ ap (λ R. record { from = j; kind = 1; first = lower; last = upper; to = number R T } ∷ []) (step-nil A lower)))
+      ∙ ap (λ R. record { from = j; kind = 1; first = lower; last = upper; to = setNumber R T } ∷ []) (step-nil A lower)))
       (λ (t : leb lower upper ≡ false). rw t (ap (map (noteOf A T j [])) (cut-end upper [] lower (leb-false lower upper t))))
       (test (leb lower upper))
 
@@ -94,37 +94,37 @@ module _ (lower upper : ℕ) (A : Automaton) (T : List Set) where
   notes-past i h = ap (notesFrom lower upper A T i) (drop-of-length-le T h)
 
 -- in a finished table the notes stand for the transitions
-module _ (lower upper : ℕ) (A : Automaton) (ok : InBounds A) (T : List Set) (e : table lower upper A ≡ found T) where
-  settled : (R : Set) → In T R → cond (eqb (number R T) mostStates) (length T) (number R T) ≡ index same R T
-  unfolding number
-  settled [] m = sym (sink-index lower upper A ok T e)
-  settled (q ∷ R) (inl z) = let y : _≡_ {A = ℕ} 0 1 = cc in absurd (omega arith)
-  settled (q ∷ R) (inr m) =
+module _ (lower upper : ℕ) (A : Automaton) (ok : InBounds A) (T : List Set) (e : setTable lower upper A ≡ found T) where
+  noted-number : (R : Set) → In T R → cond (eqb (setNumber R T) mostStates) (length T) (setNumber R T) ≡ index same R T
+  unfolding setNumber
+  noted-number [] m = sym (sink-index lower upper A ok T e)
+  noted-number (q ∷ R) (inl z) = let y : _≡_ {A = ℕ} 0 1 = cc in absurd (omega arith)
+  noted-number (q ∷ R) (inr m) =
       let l = index-lt same same-decides (q ∷ R) m in
       let k = table-few lower upper A ok T e in
       rw (ne-eqb (index same (q ∷ R) T) mostStates (λ z. omega arith))
 
-  settle-of : (j : ℕ) (S : Set) → ((a : ℕ) → lower ≤ a → a ≤ upper → In T (step A S a)) → map (settle (length T)) (notesOf lower upper A T j S) ≡ transitionsOf lower upper A T j S
-  unfolding notesOf noteOf transitionsOf transitionOf settle
-  settle-of j S c =
-      map-ext (settle (length T)) (noteOf A T j S) (transitionOf A T j S) (cutAll lower upper (outgoing A S))
+  noted-of : (j : ℕ) (S : Set) → ((a : ℕ) → lower ≤ a → a ≤ upper → In T (step A S a)) → map (notedTransition (length T)) (notesOf lower upper A T j S) ≡ setTransitions lower upper A T j S
+  unfolding notesOf noteOf setTransitions setTransition notedTransition
+  noted-of j S c =
+      map-ext (notedTransition (length T)) (noteOf A T j S) (setTransition A T j S) (cutAll lower upper (outgoing A S))
       (λ s m.
       let v = cut-stretch lower upper (outgoing A S) s m in
-      ap (λ t. record { from = j; kind = 1; first = s .low; last = s .high; to = t })
-      (settled (step A S (s .low)) (c (s .low) (v .above) (omega (arith, v .full, v .below)))))
+      ap (λ t. record { from = j; kind = 1; first = s .first; last = s .last; to = t })
+      (noted-number (step A S (s .first)) (c (s .first) (v .above) (omega (arith, v .full, v .below)))))
 
-  settle-from : (j : ℕ) (Ss : List Set) → ((S : Set) → S ∈ Ss → (a : ℕ) → lower ≤ a → a ≤ upper → In T (step A S a))
-      → map (settle (length T)) (notesFrom lower upper A T j Ss) ≡ transitionsFrom lower upper A T j Ss
-  unfolding notesFrom transitionsFrom
-  settle-from j [] c = refl
-  settle-from j (S ∷ Ss) c =
-      map-append (settle (length T)) (notesOf lower upper A T j S) (notesFrom lower upper A T (suc j) Ss)
-      ∙ ap₂ _++_ (settle-of j S (c S (List·Memᴰ·head refl))) (settle-from (suc j) Ss (λ R m. c R (List·Memᴰ·tail m)))
+  noted-from : (j : ℕ) (Ss : List Set) → ((S : Set) → S ∈ Ss → (a : ℕ) → lower ≤ a → a ≤ upper → In T (step A S a))
+      → map (notedTransition (length T)) (notesFrom lower upper A T j Ss) ≡ setTransitionsFrom lower upper A T j Ss
+  unfolding notesFrom setTransitionsFrom
+  noted-from j [] c = refl
+  noted-from j (S ∷ Ss) c =
+      map-append (notedTransition (length T)) (notesOf lower upper A T j S) (notesFrom lower upper A T (suc j) Ss)
+      ∙ ap₂ _++_ (noted-of j S (c S (List·Memᴰ·head refl))) (noted-from (suc j) Ss (λ R m. c R (List·Memᴰ·tail m)))
 
-  pub settle-states : map (settle (length T)) (notesFrom lower upper A T 0 (setsAndSink T)) ≡ transitionsFrom lower upper A T 0 (setsAndSink T)
+  pub noted-states : map (notedTransition (length T)) (notesFrom lower upper A T 0 (setsAndSink T)) ≡ setTransitionsFrom lower upper A T 0 (setsAndSink T)
   unfolding setsAndSink
-  settle-states =
-      settle-from 0 (T ++ [] ∷ [])
+  noted-states =
+      noted-from 0 (T ++ [] ∷ [])
       (λ S m a l u.
       let i : In T S = ⊎-elim (λ k. inr k) (λ k. inl (List·Memᴰ·eq-of-singleton k)) (List·Memᴰ·append-cases T m) in
       rw (at-index T S i) at (table-closed lower upper A ok T e (index same S T) a l u))

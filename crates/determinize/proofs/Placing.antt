@@ -11,8 +11,8 @@ use mir.Syntax.{w32}
 use mir.Val.{Fits}
 use lib.ListN.{length}
 use lib.Seq.{sets, set-out}
-use Rattle.lists.specs.Written.{Written}
-use Rattle.lists.proofs.Written.{written-none}
+use Rattle.stores.specs.Written.{Written}
+use Rattle.stores.proofs.Written.{written-none}
 use Rattle.automata.specs.Automaton.{Transition}
 use Rattle.automata.specs.Records.{writeRecords}
 use Rattle.automata.specs.WellFormed.{mostStates}
@@ -25,7 +25,7 @@ use Rattle.sets.proofs.BitSet.{length-entries}
 use Rattle.sets.proofs.Stores.{entries-put}
 use Rattle.ranges.specs.Cuts.{nextCut}
 use Rattle.ranges.proofs.Cuts.{next-le, next-gt}
-use Rattle.determinize.specs.inner.Notes.{number, sinkNotes, Placed, add}
+use Rattle.determinize.specs.inner.Notes.{setNumber, sinkNotes, SetPlaced, addSet}
 use Rattle.determinize.proofs.Tables.{add-empty, add-known, add-new}
 use Rattle.determinize.proofs.Notes.{index-end}
 
@@ -64,13 +64,13 @@ pub ruleset sinkLaws = (sink-noted, sink-none, needs)
 
 -- the place of a set in the table
 module _ (t set : List ℕ) (n : ℕ) (few : n < 256) where
-  pub place-empty : (b : Bool) → b ≡ isEmpty (setAt set 0) → b ≡ true → Placed (setAt set 0) (entries t n) t n 256
+  pub place-empty : (b : Bool) → b ≡ isEmpty (setAt set 0) → b ≡ true → SetPlaced (setAt set 0) (entries t n) t n 256
   place-empty b e h =
       let z : setAt set 0 ≡ [] = empty-yes (setAt set 0) (sym e ∙ h) in
-      record { added = sym (ap (λ R. add R (entries t n)) z ∙ add-empty (entries t n)); named = sym (ap (λ R. number R (entries t n)) z ∙ (unfold number in refl)); few = omega arith }
+      record { added = sym (ap (λ R. addSet R (entries t n)) z ∙ add-empty (entries t n)); named = sym (ap (λ R. setNumber R (entries t n)) z ∙ (unfold setNumber in refl)); few = omega arith }
 
-  number-some : (R : Set) (T : List Set) → (R ≡ [] → ⊥) → index same R T ≡ number R T
-  unfolding number
+  number-some : (R : Set) (T : List Set) → (R ≡ [] → ⊥) → index same R T ≡ setNumber R T
+  unfolding setNumber
   number-some [] T h = absurd (h refl)
   number-some (q ∷ R) T h = refl
 
@@ -78,7 +78,7 @@ module _ (t set : List ℕ) (n : ℕ) (few : n < 256) where
     some : setAt set 0 ≡ [] → ⊥
     some = empty-no (setAt set 0) (sym e ∙ h)
 
-    pub place-known : j < n → Placed (setAt set 0) (entries t n) t n j
+    pub place-known : j < n → SetPlaced (setAt set 0) (entries t n) t n j
     place-known l =
         record {
           added = sym (add-known (setAt set 0) (entries t n) some (omega (arith, length-entries t n)));
@@ -86,7 +86,7 @@ module _ (t set : List ℕ) (n : ℕ) (few : n < 256) where
           few = omega arith;
         }
 
-    pub place-new : n ≤ j → length t ≡ 1024 → (u : List ℕ) → u ≡ putAt t (4 * n) set 0 → Placed (setAt set 0) (entries t n) u (n + 1) n
+    pub place-new : n ≤ j → length t ≡ 1024 → (u : List ℕ) → u ≡ putAt t (4 * n) set 0 → SetPlaced (setAt set 0) (entries t n) u (n + 1) n
     place-new l k u f =
         let R = setAt set 0 in
         let T = entries t n in

@@ -6,8 +6,8 @@ use native.Mathlib.Omega.{arith}
 use borrow.Author.Needs.{needs}
 use lib.ListN.{getD, length, drop, replicate, length-append, List·getD-append}
 use Rattle.lists.specs.Lists.{tabulate}
-use Rattle.lists.specs.Written.{Written}
-use Rattle.lists.proofs.Written.{written-append}
+use Rattle.stores.specs.Written.{Written}
+use Rattle.stores.proofs.Written.{written-append}
 use Rattle.automata.specs.Automaton.{Automaton}
 use Rattle.automata.specs.Records.{writeRecords}
 use Rattle.automata.proofs.Records.{write-append}
@@ -24,14 +24,14 @@ use Rattle.words.proofs.Answers.{start-canon}
 use Rattle.lists.proofs.Members.{at-in}
 use Rattle.determinize.specs.declared.Progress.{Progress}
 use Rattle.determinize.specs.declared.Progress.the-variants.{Sets, Over}
-use Rattle.determinize.specs.Determinize.{targets, table, setsAndSink}
+use Rattle.determinize.specs.Determinize.{setTargets, setTable, setsAndSink}
 use Rattle.determinize.specs.declared.Exploration.{Exploration}
-use Rattle.determinize.specs.inner.Attempts.{SetTried}
-use Rattle.determinize.specs.inner.Notes.{notesOf, notesFrom, sinkNotes, Canonical, SpansVisited, SetVisited, Explored}
+use Rattle.determinize.specs.inner.Attempts.{SpansExploration}
+use Rattle.determinize.specs.inner.Notes.{notesOf, notesFrom, sinkNotes, Canonical, SpansVisited, SpansResult, TableResult}
 use Rattle.determinize.proofs.Tables.{meet-extends}
 use Rattle.determinize.proofs.Visits.{first-row}
 use Rattle.determinize.proofs.Laws.{queue-begins, queue-next, queue-ended, queue-full, queue}
-use Rattle.lists.proofs.Left.{Left, left-start, left-done, left-next}
+use Rattle.stores.proofs.Left.{Left, left-start, left-done, left-next}
 use Rattle.determinize.proofs.Notes.{notes-states, notes-at, notes-past}
 
 -- a row of the table, copied into a set of zeros
@@ -46,24 +46,27 @@ module _ (set t : List ℕ) (i : ℕ) (e : set ≡ putAt (replicate 4 0) 0 t (4 
     pub row-canon : (m : ℕ) → Canonical m (entries t n) → Canon m (setAt set 0)
     row-canon m c = subst (Canon m) (sym row-set) (c .each _ (at-in (entries t n) i [] (omega (arith, length-entries t n))))
 
-    pub row-visited : (lower upper : ℕ) (A : Automaton) (j : ℕ) (before : List ℕ) (k : ℕ) (t′ after : List ℕ) (x : Progress) → SetVisited lower upper A (setAt set 0) (entries t n) j before k t′ after x
-        → SetVisited lower upper A (getD (entries t n) i []) (entries t n) j before k t′ after x
-    row-visited lower upper A j before k t′ after x p = subst (λ S. SetVisited lower upper A S (entries t n) j before k t′ after x) row-set p
+    pub row-visited : (lower upper : ℕ) (A : Automaton) (j : ℕ) (before : List ℕ) (k : ℕ) (t′ after : List ℕ) (x : Progress)
+        → SpansResult lower upper A (setAt set 0) (entries t n) j before k t′ after x
+        → SpansResult lower upper A (getD (entries t n) i []) (entries t n) j before k t′ after x
+    row-visited lower upper A j before k t′ after x p = subst (λ S. SpansResult lower upper A S (entries t n) j before k t′ after x) row-set p
 
-    pub row-tried : (lower upper : ℕ) (A : Automaton) (j : ℕ) (before : List ℕ) (k : ℕ) (u t′ after : List ℕ) (x : Exploration) → SetTried lower upper A (setAt set 0) (entries t n) j before k u t′ after x
-        → SetTried lower upper A (getD (entries t n) i []) (entries t n) j before k u t′ after x
-    row-tried lower upper A j before k u t′ after x p = subst (λ S. SetTried lower upper A S (entries t n) j before k u t′ after x) row-set p
+    pub row-tried : (lower upper : ℕ) (A : Automaton) (j : ℕ) (before : List ℕ) (k : ℕ) (u t′ after : List ℕ) (x : Exploration)
+        → SpansExploration lower upper A (setAt set 0) (entries t n) j before k u t′ after x
+        → SpansExploration lower upper A (getD (entries t n) i []) (entries t n) j before k u t′ after x
+    row-tried lower upper A j before k u t′ after x p = subst (λ S. SpansExploration lower upper A S (entries t n) j before k u t′ after x) row-set p
 
 pub ruleset rowLaws = (row-canon, row-visited, row-tried, needs)
 
 -- i entries of the table are taken: t has n sets, r has k notes
-pub record Exploring (lower upper : ℕ) (A : Automaton) (before t r : List ℕ) (n k i : ℕ) : Type 0 where
-  pub queued : queue lower upper A i (entries t n) ≡ table lower upper A
+pub record QueueInvariant (lower upper : ℕ) (A : Automaton) (before t r : List ℕ) (n k i : ℕ) : Type 0 where
+  pub queued : queue lower upper A i (entries t n) ≡ setTable lower upper A
   pub noted : (more : List Set)
-      → Left before 0 (writeRecords (notesFrom lower upper A (entries t n ++ more) 0 (entries t n ++ more))) r (5 * k) (writeRecords (notesFrom lower upper A (entries t n ++ more) i (drop i (entries t n ++ more))))
+      → Left before 0 (writeRecords (notesFrom lower upper A (entries t n ++ more) 0 (entries t n ++ more))) r (5 * k)
+      (writeRecords (notesFrom lower upper A (entries t n ++ more) i (drop i (entries t n ++ more))))
 
 module _ (lower upper : ℕ) (A : Automaton) (before : List ℕ) where
-  pub explore-begins : (t : List ℕ) → setAt t 0 ≡ startSet A → Exploring lower upper A before t before 1 0 0
+  pub explore-begins : (t : List ℕ) → setAt t 0 ≡ startSet A → QueueInvariant lower upper A before t before 1 0 0
   unfolding entries tabulate
   explore-begins t e =
       record {
@@ -71,19 +74,19 @@ module _ (lower upper : ℕ) (A : Automaton) (before : List ℕ) where
         noted = λ more. left-start before 0 _;
       }
 
-  module _ (t r : List ℕ) (n k i : ℕ) (q : Exploring lower upper A before t r n k i) (b : i < 256) where
-    module _ (h : i < n) (t′ r′ : List ℕ) (x : Progress) (p : SetVisited lower upper A (getD (entries t n) i []) (entries t n) i r k t′ r′ x) where
+  module _ (t r : List ℕ) (n k i : ℕ) (q : QueueInvariant lower upper A before t r n k i) (b : i < 256) where
+    module _ (h : i < n) (t′ r′ : List ℕ) (x : Progress) (p : SpansResult lower upper A (getD (entries t n) i []) (entries t n) i r k t′ r′ x) where
       in-table : i < length (entries t n)
       in-table = omega (arith, length-entries t n)
 
-      pub explore-over : x ≡ Over → Explored lower upper A before t′ r′ Over
-      unfolding SetVisited Explored
-      explore-over e = queue-full lower upper A i (entries t n) b (q .queued) in-table (subst (SetVisited lower upper A (getD (entries t n) i []) (entries t n) i r k t′ r′) e p)
+      pub explore-over : x ≡ Over → TableResult lower upper A before t′ r′ Over
+      unfolding SpansResult TableResult
+      explore-over e = queue-full lower upper A i (entries t n) b (q .queued) in-table (subst (SpansResult lower upper A (getD (entries t n) i []) (entries t n) i r k t′ r′) e p)
 
       module _ (m c : ℕ) (e : x ≡ Sets m c) where
         visited : SpansVisited lower upper A (getD (entries t n) i []) (entries t n) i r k t′ r′ m c
-        unfolding SetVisited
-        visited = subst (SetVisited lower upper A (getD (entries t n) i []) (entries t n) i r k t′ r′) e p
+        unfolding SpansResult
+        visited = subst (SpansResult lower upper A (getD (entries t n) i []) (entries t n) i r k t′ r′) e p
 
         pub explore-few : m < 256
         explore-few = visited .few
@@ -95,12 +98,13 @@ module _ (lower upper : ℕ) (A : Automaton) (before : List ℕ) where
         explore-bounded g = let d = visited .bounded in omega arith
 
         noted-more : (more : List Set)
-            → Left before 0 (writeRecords (notesFrom lower upper A (entries t′ m ++ more) 0 (entries t′ m ++ more))) r′ (5 * c) (writeRecords (notesFrom lower upper A (entries t′ m ++ more) (i + 1) (drop (i + 1) (entries t′ m ++ more))))
+            → Left before 0 (writeRecords (notesFrom lower upper A (entries t′ m ++ more) 0 (entries t′ m ++ more))) r′ (5 * c)
+            (writeRecords (notesFrom lower upper A (entries t′ m ++ more) (i + 1) (drop (i + 1) (entries t′ m ++ more))))
         noted-more more =
             let T = entries t n in
             let F = entries t′ m ++ more in
             let S = getD T i [] in
-            let y = meet-extends (targets lower upper A S) T in
+            let y = meet-extends (setTargets lower upper A S) T in
             let f : T ++ (y .rest ++ more) ≡ F = sym (append-assoc T (y .rest) more) ∙ ap (λ l. l ++ more) (sym (visited .met ∙ y .is)) in
             let g : Left before 0 (writeRecords (notesFrom lower upper A F 0 F)) r (5 * k) (writeRecords (notesFrom lower upper A F i (drop i F))) =
             subst (λ G. Left before 0 (writeRecords (notesFrom lower upper A G 0 G)) r (5 * k) (writeRecords (notesFrom lower upper A G i (drop i G)))) f (q .noted (y .rest ++ more)) in
@@ -114,16 +118,17 @@ module _ (lower upper : ℕ) (A : Automaton) (before : List ℕ) where
         -- the first row is as it was
         pub explore-start : setAt t 0 ≡ startSet A → setAt t′ 0 ≡ startSet A
         explore-start e =
-            let y = meet-extends (targets lower upper A (getD (entries t n) i [])) (entries t n) in
+            let y = meet-extends (setTargets lower upper A (getD (entries t n) i [])) (entries t n) in
             first-row t t′ n m (y .rest) (omega arith) (visited .met ∙ y .is) .1 ∙ e
 
-        pub explore-next : Exploring lower upper A before t′ r′ m c (i + 1)
+        pub explore-next : QueueInvariant lower upper A before t′ r′ m c (i + 1)
         explore-next =
             record { queued = queue-next lower upper A i (entries t n) b (q .queued) in-table (entries t′ m) (visited .met); noted = noted-more }
 
     -- the table is finished, and the sink is noted
-    pub explore-ended : n ≤ i → n < 256 → Canonical (A .size) (entries t n) → (r′ : List ℕ) (m : ℕ) → Written r (5 * k) (writeRecords (sinkNotes lower upper n)) r′ (5 * m) → Explored lower upper A before t r′ (Sets n m)
-    unfolding Explored writeRecords
+    pub explore-ended : n ≤ i → n < 256 → Canonical (A .size) (entries t n) → (r′ : List ℕ) (m : ℕ) → Written r (5 * k) (writeRecords (sinkNotes lower upper n)) r′ (5 * m)
+        → TableResult lower upper A before t r′ (Sets n m)
+    unfolding TableResult writeRecords
     explore-ended h f c r′ m w =
         let T = entries t n in
         let g : Left before 0 (writeRecords (notesFrom lower upper A T 0 T)) r (5 * k) (writeRecords (notesFrom lower upper A T i (drop i T))) =

@@ -18,7 +18,7 @@ use Rattle.ranges.proofs.Inside.{inside}
 use Rattle.ranges.specs.Cuts.{cutAll}
 use Rattle.lists.proofs.Members.{map-out}
 use Rattle.ranges.proofs.Spans.{containing}
-use Rattle.determinize.specs.Determinize.{setsAndSink, transitionOf, transitionsOf, transitionsFrom, subsetAutomaton}
+use Rattle.determinize.specs.Determinize.{setsAndSink, setTransition, setTransitions, setTransitionsFrom, subsetAutomaton}
 
 -- the sink's set is empty, as past the end of the table
 pub states-at : (T : List Set) (k : ℕ) → getD (setsAndSink T) k [] ≡ getD T k []
@@ -39,17 +39,17 @@ module _ (lower upper : ℕ) (A : Automaton) (T : List Set) where
     pub near : place < length Ss
     pub span : Span
     pub «in» : span ∈ cutAll lower upper (outgoing A (getD Ss place []))
-    pub is : d ≡ transitionOf A T (j + place) (getD Ss place []) span
+    pub is : d ≡ setTransition A T (j + place) (getD Ss place []) span
 
-  pub origin : (j : ℕ) (Ss : List Set) (d : Transition) → d ∈ transitionsFrom lower upper A T j Ss → Origin j Ss d
-  unfolding transitionsFrom transitionsOf
+  pub origin : (j : ℕ) (Ss : List Set) (d : Transition) → d ∈ setTransitionsFrom lower upper A T j Ss → Origin j Ss d
+  unfolding setTransitionsFrom setTransitions
   origin j [] d m = elim m [ ]
   origin j (S ∷ Ss) d m =
       ⊎-elim
       (λ k.
-      let r = map-out (transitionOf A T j S) (cutAll lower upper (outgoing A S)) d k in
+      let r = map-out (setTransition A T j S) (cutAll lower upper (outgoing A S)) d k in
       let z : j ≡ j + 0 = omega arith in
-      record { place = 0; near = omega arith; span = r .0; «in» = r .1; is = r .2 ∙ ap (λ i. transitionOf A T i S (r .0)) z })
+      record { place = 0; near = omega arith; span = r .0; «in» = r .1; is = r .2 ∙ ap (λ i. setTransition A T i S (r .0)) z })
       (λ k.
       let r = origin (suc j) Ss d k in
       let n = r .near in
@@ -59,50 +59,50 @@ module _ (lower upper : ℕ) (A : Automaton) (T : List Set) where
         near = omega arith;
         span = r .span;
         «in» = r .in;
-        is = r .is ∙ ap (λ i. transitionOf A T i (getD Ss (r .place) []) (r .span)) z;
+        is = r .is ∙ ap (λ i. setTransition A T i (getD Ss (r .place) []) (r .span)) z;
       })
-      (List·Memᴰ·append-cases (map (transitionOf A T j S) (cutAll lower upper (outgoing A S))) m)
+      (List·Memᴰ·append-cases (map (setTransition A T j S) (cutAll lower upper (outgoing A S))) m)
 
-  pub from-of : (j : ℕ) (S : Set) (d : Transition) → d ∈ transitionsOf lower upper A T j S → d .from ≡ j
-  unfolding transitionsOf transitionOf
-  from-of j S d m = ap (λ x. x .from) (map-out (transitionOf A T j S) (cutAll lower upper (outgoing A S)) d m .2)
+  pub from-of : (j : ℕ) (S : Set) (d : Transition) → d ∈ setTransitions lower upper A T j S → d .from ≡ j
+  unfolding setTransitions setTransition
+  from-of j S d m = ap (λ x. x .from) (map-out (setTransition A T j S) (cutAll lower upper (outgoing A S)) d m .2)
 
-  pub from-above : (j : ℕ) (Ss : List Set) (d : Transition) → d ∈ transitionsFrom lower upper A T j Ss → j ≤ d .from
-  unfolding transitionOf
+  pub from-above : (j : ℕ) (Ss : List Set) (d : Transition) → d ∈ setTransitionsFrom lower upper A T j Ss → j ≤ d .from
+  unfolding setTransition
   from-above j Ss d m = let r = origin j Ss d m in let f = ap (λ x. x .from) (r .is) in omega arith
 
   leaving-from : (j : ℕ) (Ss : List Set) (k : ℕ) → k < length Ss
-      → filter (λ e. eqb (e .from) (j + k)) (transitionsFrom lower upper A T j Ss) ≡ transitionsOf lower upper A T (j + k) (getD Ss k [])
-  unfolding transitionsFrom
+      → filter (λ e. eqb (e .from) (j + k)) (setTransitionsFrom lower upper A T j Ss) ≡ setTransitions lower upper A T (j + k) (getD Ss k [])
+  unfolding setTransitionsFrom
   leaving-from j [] k h = absurd (omega arith)
   leaving-from j (S ∷ Ss) zero h =
       let z : j + 0 ≡ j = omega arith in
       rw z
-      (filter-append (λ e. eqb (e .from) j) (transitionsOf lower upper A T j S) _
+      (filter-append (λ e. eqb (e .from) j) (setTransitions lower upper A T j S) _
       ∙ rw (
-        filter-all (λ e. eqb (e .from) j) (transitionsOf lower upper A T j S) (λ d m. eq-eqb _ _ (from-of j S d m)),
-        filter-none (λ e. eqb (e .from) j) (transitionsFrom lower upper A T (suc j) Ss) (λ d m. ne-eqb (d .from) j (λ c. let a = from-above (suc j) Ss d m in omega arith)),
+        filter-all (λ e. eqb (e .from) j) (setTransitions lower upper A T j S) (λ d m. eq-eqb _ _ (from-of j S d m)),
+        filter-none (λ e. eqb (e .from) j) (setTransitionsFrom lower upper A T (suc j) Ss) (λ d m. ne-eqb (d .from) j (λ c. let a = from-above (suc j) Ss d m in omega arith)),
       )
       (append-nil _))
   leaving-from j (S ∷ Ss) (suc k) h =
       let z : j + suc k ≡ suc j + k = omega arith in
       rw z
-      (filter-append (λ e. eqb (e .from) (suc j + k)) (transitionsOf lower upper A T j S) _
-      ∙ rw (filter-none (λ e. eqb (e .from) (suc j + k)) (transitionsOf lower upper A T j S) (λ d m. ne-eqb (d .from) (suc j + k) (λ c. let f = from-of j S d m in omega arith)))
+      (filter-append (λ e. eqb (e .from) (suc j + k)) (setTransitions lower upper A T j S) _
+      ∙ rw (filter-none (λ e. eqb (e .from) (suc j + k)) (setTransitions lower upper A T j S) (λ d m. ne-eqb (d .from) (suc j + k) (λ c. let f = from-of j S d m in omega arith)))
       (leaving-from (suc j) Ss k (omega arith)))
 
   abbrev D : Automaton
   D = subsetAutomaton lower upper A T
 
   -- the transitions of a state are those of its set
-  pub leaving-built : (j : ℕ) → j < D .size → leaving D j ≡ transitionsOf lower upper A T j (getD T j [])
+  pub leaving-built : (j : ℕ) → j < D .size → leaving D j ≡ setTransitions lower upper A T j (getD T j [])
   unfolding subsetAutomaton leaving
   leaving-built j h =
       let z : j ≡ 0 + j = omega arith in
-      ap (λ i. filter (λ e. eqb (e .from) i) (transitionsFrom lower upper A T 0 (setsAndSink T))) z
+      ap (λ i. filter (λ e. eqb (e .from) i) (setTransitionsFrom lower upper A T 0 (setsAndSink T))) z
       ∙ leaving-from 0 (setsAndSink T) j (omega (arith, length-states T))
-      ∙ ap (λ i. transitionsOf lower upper A T i (getD (setsAndSink T) j [])) (sym z)
-      ∙ ap (transitionsOf lower upper A T j) (states-at T j)
+      ∙ ap (λ i. setTransitions lower upper A T i (getD (setsAndSink T) j [])) (sym z)
+      ∙ ap (setTransitions lower upper A T j) (states-at T j)
 
   pub accept-built : (j : ℕ) → getD (D .accept) j 0 ≡ kindOf A (getD T j [])
   unfolding subsetAutomaton kindOf
@@ -110,14 +110,14 @@ module _ (lower upper : ℕ) (A : Automaton) (T : List Set) where
 
   -- every symbol between the ends has exactly one transition in every state
   pub one-built : (j x : ℕ) → j < D .size → lower ≤ x → x ≤ upper → (d : Transition) × (filter (carries j x) (D .transitions) ≡ d ∷ [])
-  unfolding carries leaving transitionsOf transitionOf inside holds
+  unfolding carries leaving setTransitions setTransition inside holds
   one-built j x b l u =
       let S = getD T j [] in
       let h = containing lower upper (outgoing A S) x l u in
       let f : Transition → Bool = λ e. eqb (e .kind) 1 && holds x e in (
-        transitionOf A T j S (h .span),
+        setTransition A T j S (h .span),
         filter-and (λ e. eqb (e .from) j) f (D .transitions)
             ∙ ap (filter f) (leaving-built j b)
-            ∙ filter-map f (transitionOf A T j S) (inside x) (cutAll lower upper (outgoing A S)) (λ s. refl)
-            ∙ ap (map (transitionOf A T j S)) (h .only),
+            ∙ filter-map f (setTransition A T j S) (inside x) (cutAll lower upper (outgoing A S)) (λ s. refl)
+            ∙ ap (map (setTransition A T j S)) (h .only),
       )

@@ -24,7 +24,7 @@ use Rattle.words.proofs.Kind.{kindOf-some, kindOf-least}
 use Rattle.search.specs.Search.{found}
 use Rattle.lists.proofs.Members.{at-in}
 use Rattle.ranges.proofs.Spans.{cut-stretch, cut-alike}
-use Rattle.determinize.specs.Determinize.{table, setsAndSink, transitionOf, subsetAutomaton}
+use Rattle.determinize.specs.Determinize.{setTable, setsAndSink, setTransition, subsetAutomaton}
 use Rattle.determinize.proofs.Steps.{step-alike}
 use Rattle.determinize.proofs.Finished.{table-start, table-closed, table-all}
 use Rattle.determinize.proofs.Result.{states-at, length-states, origin, accept-built, one-built}
@@ -33,7 +33,7 @@ zero-both : (a b : ℕ) → a ≤ 0 → (0 < b → 0 < a) → a ≡ b
 zero-both a zero h f = omega arith
 zero-both a (suc b) h f = absurd (let g = f (omega arith) in omega arith)
 
-module _ (lower upper : ℕ) (A : Automaton) (ok : InBounds A) (T : List Set) (e : table lower upper A ≡ found T) where
+module _ (lower upper : ℕ) (A : Automaton) (ok : InBounds A) (T : List Set) (e : setTable lower upper A ≡ found T) where
   abbrev D : Automaton
   D = subsetAutomaton lower upper A T
 
@@ -42,13 +42,13 @@ module _ (lower upper : ℕ) (A : Automaton) (ok : InBounds A) (T : List Set) (e
     pub is-range : d .kind ≡ 1
     pub from-lt : d .from < D .size
     pub to-lt : d .to < D .size
-    pub low : lower ≤ d .first
+    pub above : lower ≤ d .first
     pub full : d .first ≤ d .last
-    pub high : d .last ≤ upper
+    pub below : d .last ≤ upper
     pub to-at : (x : ℕ) → d .first ≤ x → x ≤ d .last → getD T (d .to) [] ≡ step A (getD T (d .from) []) x
 
   pub transition-facts : (d : Transition) → d ∈ D .transitions → TransitionFacts d
-  unfolding subsetAutomaton transitionOf
+  unfolding subsetAutomaton setTransition
   transition-facts d m =
       let r = origin lower upper A T 0 (setsAndSink T) d m in
       let s = r .span in
@@ -58,20 +58,20 @@ module _ (lower upper : ℕ) (A : Automaton) (ok : InBounds A) (T : List Set) (e
       let p : getD (setsAndSink T) (r .place) [] ≡ S = states-at T (r .place) ∙ ap (λ k. getD T k []) (sym f) in
       let i = rw p at (r .in) in
       let v = cut-stretch lower upper (outgoing A S) s i in
-      let t : d .to ≡ index same (step A S (s .low)) T = ap (λ x. x .to) (r .is) ∙ ap (λ R. index same (step A R (s .low)) T) p in
-      let z = index-le same (step A S (s .low)) T in
-      let a : d .first ≡ s .low = ap (λ x. x .first) (r .is) in
-      let b : d .last ≡ s .high = ap (λ x. x .last) (r .is) in
+      let t : d .to ≡ index same (step A S (s .first)) T = ap (λ x. x .to) (r .is) ∙ ap (λ R. index same (step A R (s .first)) T) p in
+      let z = index-le same (step A S (s .first)) T in
+      let a : d .first ≡ s .first = ap (λ x. x .first) (r .is) in
+      let b : d .last ≡ s .last = ap (λ x. x .last) (r .is) in
       record {
         is-range = ap (λ x. x .kind) (r .is);
         from-lt = omega arith;
         to-lt = omega arith;
-        low = omega (arith, v .above);
+        above = omega (arith, v .above);
         full = omega (arith, v .full);
-        high = omega (arith, v .below);
+        below = omega (arith, v .below);
         to-at = λ x l u.
-            ap (λ k. getD T k []) t ∙ at-index T _ (table-closed lower upper A ok T e (d .from) (s .low) (v .above) (omega (arith, v .full, v .below)))
-            ∙ sym (step-alike A S x (s .low) (cut-alike lower upper (outgoing A S) s i x (omega arith) (omega arith)));
+            ap (λ k. getD T k []) t ∙ at-index T _ (table-closed lower upper A ok T e (d .from) (s .first) (v .above) (omega (arith, v .full, v .below)))
+            ∙ sym (step-alike A S x (s .first) (cut-alike lower upper (outgoing A S) s i x (omega arith) (omega arith)));
       }
 
   pub built-bounds : InBounds D

@@ -10,9 +10,9 @@ use borrow.Author.Tests.{eq-eqb, ne-eqb}
 use lib.ListN.{getD, length, take, drop, replicate, length-append, length-drop, length-map}
 use lib.Seq.{length-take-le}
 use Rattle.lists.specs.Lists.{tabulate}
-use Rattle.lists.specs.Written.{Written}
+use Rattle.stores.specs.Written.{Written}
 use Rattle.lists.proofs.Lists.{tabulate-end}
-use Rattle.lists.proofs.Written.{written-none, written-append, written-length}
+use Rattle.stores.proofs.Written.{written-none, written-append, written-length}
 use Rattle.automata.specs.Automaton.{Transition, Automaton}
 use Rattle.automata.specs.Records.{readRecords, writeRecords}
 use Rattle.automata.specs.inner.Records.{recordAt}
@@ -23,49 +23,50 @@ use Rattle.sets.specs.inner.Words.{putAt}
 use Rattle.sets.proofs.BitSet.{length-entries}
 use Rattle.sheets.specs.Sheet.{write}
 use Rattle.words.specs.Simulation.{kindOf}
-use Rattle.determinize.specs.inner.Notes.{settle}
-use Rattle.determinize.specs.inner.Sheets.{automatonOf}
-use Rattle.lists.proofs.Left.{Left, left-start, left-done, left-next}
+use Rattle.determinize.specs.inner.Notes.{notedTransition}
+use Rattle.determinize.specs.inner.Sheets.{notedAutomaton}
+use Rattle.stores.proofs.Left.{Left, left-start, left-done, left-next}
 use Rattle.determinize.proofs.Queued.{row-at, row-canon}
 
 -- the record that a note stands for
 module _ (l m note : List ℕ) (at sink r : ℕ) where
   pub note-sink : getD note 4 0 ≡ 256 → Written l at (getD note 0 0 ∷ getD note 1 0 ∷ getD note 2 0 ∷ getD note 3 0 ∷ sink ∷ []) m r
-      → Written l at (writeRecords (settle sink (recordAt note 0) ∷ [])) m r
-  unfolding settle writeRecords
+      → Written l at (writeRecords (notedTransition sink (recordAt note 0) ∷ [])) m r
+  unfolding notedTransition writeRecords
   note-sink h w = rw (eq-eqb (getD note 4 0) 256 h) w
 
   pub note-set : (getD note 4 0 ≡ 256 → ⊥) → Written l at (getD note 0 0 ∷ getD note 1 0 ∷ getD note 2 0 ∷ getD note 3 0 ∷ getD note 4 0 ∷ []) m r
-      → Written l at (writeRecords (settle sink (recordAt note 0) ∷ [])) m r
-  unfolding settle writeRecords
+      → Written l at (writeRecords (notedTransition sink (recordAt note 0) ∷ [])) m r
+  unfolding notedTransition writeRecords
   note-set h w = rw (ne-eqb (getD note 4 0) 256 h) w
 
-pub ruleset settleLaws = (note-sink, note-set, needs)
+pub ruleset notedLaws = (note-sink, note-set, needs)
 
 -- the records that the notes stand for, one after the other
 module _ (notes : List ℕ) (sink : ℕ) (l : List ℕ) (at : ℕ) where
   -- those of the notes from i on are left
   pub record NotesLeft (m : List ℕ) (end i : ℕ) : Type 0 where
-    pub left : Left l at (writeRecords (map (settle sink) (readRecords notes))) m end (writeRecords (map (settle sink) (readRecords (drop i notes))))
+    pub left : Left l at (writeRecords (map (notedTransition sink) (readRecords notes))) m end (writeRecords (map (notedTransition sink) (readRecords (drop i notes))))
 
   pub notes-begin : NotesLeft l at 0
   notes-begin = record { left = left-start l at _ }
 
   module _ (m : List ℕ) (end i : ℕ) (p : NotesLeft m end i) where
-    pub notes-next : 5 ≤ length notes - i → (n : List ℕ) (k : ℕ) → Written m end (writeRecords (settle sink (recordAt (take (i + 5 - i) (drop i notes)) 0) ∷ [])) n k → NotesLeft n k (i + 5)
+    pub notes-next : 5 ≤ length notes - i → (n : List ℕ) (k : ℕ) → Written m end (writeRecords (notedTransition sink (recordAt (take (i + 5 - i) (drop i notes)) 0) ∷ [])) n k → NotesLeft n k (i + 5)
     unfolding writeRecords
     notes-next h n k w =
-        let e : writeRecords (map (settle sink) (readRecords (drop i notes))) ≡ writeRecords (settle sink (recordAt notes i) ∷ []) ++ writeRecords (map (settle sink) (readRecords (drop (i + 5) notes))) =
-        ap (λ es. writeRecords (map (settle sink) es)) (records-at notes i h) in
+        let e : writeRecords (map (notedTransition sink) (readRecords (drop i notes)))
+        ≡ writeRecords (notedTransition sink (recordAt notes i) ∷ []) ++ writeRecords (map (notedTransition sink) (readRecords (drop (i + 5) notes))) =
+        ap (λ es. writeRecords (map (notedTransition sink) es)) (records-at notes i h) in
         record {
           left = left-next _ _ _ _ _ _ (p .left) _ _ e n k
-              (subst (λ x. Written m end (writeRecords (settle sink x ∷ [])) n k) (part-record notes i) w);
+              (subst (λ x. Written m end (writeRecords (notedTransition sink x ∷ [])) n k) (part-record notes i) w);
         }
 
-    pub notes-ended : length notes - i < 5 → Written l at (writeRecords (map (settle sink) (readRecords notes))) m end
+    pub notes-ended : length notes - i < 5 → Written l at (writeRecords (map (notedTransition sink) (readRecords notes))) m end
     unfolding writeRecords
     notes-ended h =
-        left-done _ _ _ _ _ _ (p .left) (ap (λ es. writeRecords (map (settle sink) es)) (records-end notes i h))
+        left-done _ _ _ _ _ _ (p .left) (ap (λ es. writeRecords (map (notedTransition sink) es)) (records-end notes i h))
 
 pub notes-part : (t : List ℕ) (i : ℕ) → 5 ≤ length t - i → length (take (i + 5 - i) (drop i t)) ≡ 5
 notes-part t i h = rw (add-sub-cancel-left, length-take-le 5 (drop i t) (rw (length-drop i t) h))
@@ -138,18 +139,18 @@ module _ (A : Automaton) (t o₀ o₁ o₂ : List ℕ) (n x start behind : ℕ) 
     pub sheet-records-room : n < 256 → 10500 ≤ length o₀ → length notes ≤ 10240 → records + length notes ≤ length o₃
     sheet-records-room h r l = omega (arith, accepts-behind, accepts-length, w .behind, written-length o₂ o₃ _ behind records w)
 
-    pub sheet-written : (o₄ : List ℕ) (end : ℕ) → x ≡ n + 1 → Written o₃ records (writeRecords (map (settle n) (readRecords notes))) o₄ end
-        → Written o₀ 0 (write (automatonOf A (entries t n) (readRecords notes))) o₄ end
-    unfolding automatonOf
+    pub sheet-written : (o₄ : List ℕ) (end : ℕ) → x ≡ n + 1 → Written o₃ records (writeRecords (map (notedTransition n) (readRecords notes))) o₄ end
+        → Written o₀ 0 (write (notedAutomaton A (entries t n) (readRecords notes))) o₄ end
+    unfolding notedAutomaton
     sheet-written o₄ end e y =
         let es = readRecords notes in
         let p : x ≡ suc (length (entries t n)) = e ∙ add-one n ∙ ap suc (sym (length-entries t n)) in
-        let q : length notes / 5 ≡ length (map (settle n) es) = count-read notes ∙ sym (length-map es (settle n)) in
-        let words : ℕ → ℕ → ℕ → List ℕ = λ z m i. 1 ∷ 0 ∷ z ∷ ((map (kindOf A) (entries t n) ++ 0 ∷ []) ++ (m ∷ writeRecords (map (settle i) es))) in
-        let g : words x (length notes / 5) n ≡ words (suc (length (entries t n))) (length (map (settle (length (entries t n))) es)) (length (entries t n)) =
+        let q : length notes / 5 ≡ length (map (notedTransition n) es) = count-read notes ∙ sym (length-map es (notedTransition n)) in
+        let words : ℕ → ℕ → ℕ → List ℕ = λ z m i. 1 ∷ 0 ∷ z ∷ ((map (kindOf A) (entries t n) ++ 0 ∷ []) ++ (m ∷ writeRecords (map (notedTransition i) es))) in
+        let g : words x (length notes / 5) n ≡ words (suc (length (entries t n))) (length (map (notedTransition (length (entries t n))) es)) (length (entries t n)) =
         ap (λ z. words z (length notes / 5) n) p
         ∙ ap (λ m. words (suc (length (entries t n))) m n) q
-        ∙ ap (λ i. words (suc (length (entries t n))) (length (map (settle i) es)) i) (sym (length-entries t n)) in
+        ∙ ap (λ i. words (suc (length (entries t n))) (length (map (notedTransition i) es)) i) (sym (length-entries t n)) in
         subst (λ ws. Written o₀ 0 ws o₄ end) g
         (written-append o₀ o₁ o₄ _ _ 0 start end u (written-append o₁ o₂ o₄ _ _ start behind end v (written-append o₂ o₃ o₄ _ _ behind records end w y)))
 

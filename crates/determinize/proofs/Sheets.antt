@@ -6,8 +6,8 @@ use native.Mathlib.Numerals.{add-one}
 use native.Mathlib.Omega.{arith}
 use lib.ListN.{length, take, drop, length-map}
 use lib.Seq.{sets, sets-eq, length-take-le, take-append-seam}
-use Rattle.lists.specs.Written.{Written}
-use Rattle.lists.proofs.Written.{written-length}
+use Rattle.stores.specs.Written.{Written}
+use Rattle.stores.proofs.Written.{written-length}
 use Rattle.automata.specs.Automaton.{Transition, Automaton, InBounds}
 use Rattle.automata.specs.Records.{readRecords, writeRecords}
 use Rattle.automata.proofs.Records.{read-write, length-write}
@@ -23,11 +23,11 @@ use Rattle.determinize.specs.declared.Progress.{Progress}
 use Rattle.determinize.specs.declared.Progress.the-variants.{Sets, Over}
 use Rattle.determinize.specs.declared.Determinized.the-variants.{Sheet, Refused}
 use Rattle.determinize.specs.Determinize.{setsAndSink, subsetAutomaton, determinize}
-use Rattle.determinize.specs.inner.Notes.{notesFrom, settle, Canonical, TableFinished, Explored}
-use Rattle.determinize.specs.inner.Attempts.{Complete}
-use Rattle.determinize.specs.inner.Sheets.{automatonOf, sheetOutput, determinizedOf}
+use Rattle.determinize.specs.inner.Notes.{notesFrom, notedTransition, Canonical, TableFinished, TableResult}
+use Rattle.determinize.specs.inner.Attempts.{TableResultWithRoom}
+use Rattle.determinize.specs.inner.Sheets.{notedAutomaton, sheetOutput, determinizedOf}
 use Rattle.determinize.proofs.Answers.{answer-over, answer-many, answer-given}
-use Rattle.determinize.proofs.Notes.{settle-states}
+use Rattle.determinize.proofs.Notes.{noted-states}
 
 take-sets : (l vs : List ℕ) → length vs ≤ length l → take (length vs) (sets l 0 vs) ≡ vs
 take-sets l vs h = ap (take (length vs)) (sets-eq vs l 0 (omega arith)) ∙ take-append-seam vs (drop (0 + length vs) l)
@@ -47,13 +47,13 @@ module _ (lower upper : ℕ) (A : Automaton) (ok : InBounds A) (before t r : Lis
   count-all : m ≡ length all
   count-all = omega (arith, noted .behind, length-write all)
 
-  finished-transitions : map (settle (length T)) all ≡ subsetAutomaton lower upper A T .transitions
+  finished-transitions : map (notedTransition (length T)) all ≡ subsetAutomaton lower upper A T .transitions
   unfolding all T subsetAutomaton
-  finished-transitions = settle-states lower upper A ok (entries t n) (f .whole)
+  finished-transitions = noted-states lower upper A ok (entries t n) (f .whole)
 
   pub finished-count : m ≡ length (subsetAutomaton lower upper A (entries t n) .transitions)
   unfolding T
-  finished-count = count-all ∙ sym (length-map all (settle (length T))) ∙ ap length finished-transitions
+  finished-count = count-all ∙ sym (length-map all (notedTransition (length T))) ∙ ap length finished-transitions
 
   notes-read : 5 * m ≤ length before → readRecords (take (5 * m) r) ≡ all
   notes-read b =
@@ -67,22 +67,22 @@ module _ (lower upper : ℕ) (A : Automaton) (ok : InBounds A) (before t r : Lis
   accept-words [] = refl
   accept-words (R ∷ S) = ap (λ l. kindOf A R ∷ l) (accept-words S)
 
-  pub finished-sheet : 5 * m ≤ length before → automatonOf A (entries t n) (readRecords (take (5 * m) r)) ≡ subsetAutomaton lower upper A (entries t n)
-  unfolding automatonOf subsetAutomaton T setsAndSink
+  pub finished-sheet : 5 * m ≤ length before → notedAutomaton A (entries t n) (readRecords (take (5 * m) r)) ≡ subsetAutomaton lower upper A (entries t n)
+  unfolding notedAutomaton subsetAutomaton T setsAndSink
   finished-sheet b =
       ap₂ (λ x y. record { size = suc (length (entries t n)); start = 0; accept = x; transitions = y }) (accept-words (entries t n))
-      (ap (map (settle (length (entries t n)))) (notes-read b) ∙ finished-transitions)
+      (ap (map (notedTransition (length (entries t n)))) (notes-read b) ∙ finished-transitions)
 
 -- the answers of determinizing an accepted sheet
-module _ (lower upper : ℕ) (s : List ℕ) (a : Accepted s) (t r : List ℕ) (x : Progress) (p : Complete lower upper (read s) t r x) where
+module _ (lower upper : ℕ) (s : List ℕ) (a : Accepted s) (t r : List ℕ) (x : Progress) (p : TableResultWithRoom lower upper (read s) t r x) where
   pub accepted-over : (o : List ℕ) → x ≡ Over → determinizedOf (Refused States) o ≡ sheetOutput o (determinize lower upper (read s))
-  unfolding Explored sheetOutput
-  accepted-over o e = sym (ap (sheetOutput o) (answer-over lower upper (read s) (subst (Explored lower upper (read s) (p .before) t r) e (p .explored))))
+  unfolding TableResult sheetOutput
+  accepted-over o e = sym (ap (sheetOutput o) (answer-over lower upper (read s) (subst (TableResult lower upper (read s) (p .before) t r) e (p .explored))))
 
   module _ (n m : ℕ) (e : x ≡ Sets n m) where
     finished : TableFinished lower upper (read s) (p .before) t r n m
-    unfolding Explored
-    finished = subst (Explored lower upper (read s) (p .before) t r) e (p .explored)
+    unfolding TableResult
+    finished = subst (TableResult lower upper (read s) (p .before) t r) e (p .explored)
 
     ok : InBounds (read s)
     ok = read-well s a .states
@@ -108,7 +108,7 @@ module _ (lower upper : ℕ) (s : List ℕ) (a : Accepted s) (t r : List ℕ) (x
         (ap (sheetOutput o)
         (answer-many lower upper (read s) (entries t n) (finished .whole) (subst (λ k. 2048 < k) (finished-count lower upper (read s) ok (p .before) t r n m finished) k)))
 
-    pub accepted-given : m ≤ 2048 → (o o′ : List ℕ) (w : ℕ) → Written o 0 (write (automatonOf (read s) (entries t n) (readRecords (take (5 * m) r)))) o′ w
+    pub accepted-given : m ≤ 2048 → (o o′ : List ℕ) (w : ℕ) → Written o 0 (write (notedAutomaton (read s) (entries t n) (readRecords (take (5 * m) r)))) o′ w
         → determinizedOf (Sheet w (n + 1)) o′ ≡ sheetOutput o (determinize lower upper (read s))
     unfolding sheetOutput subsetAutomaton
     accepted-given h o o′ w v =

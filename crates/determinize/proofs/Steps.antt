@@ -49,7 +49,7 @@ module _ (A : Automaton) (ok : InBounds A) where
 
   -- a part leads to the union of the closures of its targets
   pub part-step : (S : Set) (s : Span)
-      → step A S (s .low) ≡ pick (A .size) (λ q. any (λ t. has q (closure A t)) (partOf (A .size) (outgoing A S) s .targets))
+      → step A S (s .first) ≡ pick (A .size) (λ q. any (λ t. has q (closure A t)) (partOf (A .size) (outgoing A S) s .targets))
   unfolding step partOf outgoing
   part-step S s =
       pick-ext 0 (A .size) _ _
@@ -58,17 +58,17 @@ module _ (A : Automaton) (ok : InBounds A) where
       (λ h.
       let r = any-out _ (outgoing A S) h in
       let e = r .0 in
-      let c = and-parts (holds (s .low) e) _ (r .2) in
+      let c = and-parts (holds (s .first) e) _ (r .2) in
       let k = filter-out _ e (A .transitions) (r .1) .0 in
       any-in (λ t. has q (closure A t))
       (has-mem (e .to) _
       (picked (A .size) _ (e .to) (ok .tos e k)
-      (any-in (λ d. holds (s .low) d && eqb (d .to) (e .to)) (r .1) (and-both _ _ (c .0) (eq-eqb (e .to) (e .to) refl)))))
+      (any-in (λ d. holds (s .first) d && eqb (d .to) (e .to)) (r .1) (and-both _ _ (c .0) (eq-eqb (e .to) (e .to) refl)))))
       (c .1))
       (λ h.
       let r = any-out _ (partOf (A .size) (outgoing A S) s .targets) h in
       let t = r .0 in
       let v = any-out _ (outgoing A S) (pick-out 0 (A .size) _ t (mem-has (r .1)) .2) in
       let e = v .0 in
-      let c = and-parts (holds (s .low) e) _ (v .2) in
+      let c = and-parts (holds (s .first) e) _ (v .2) in
       any-in _ (v .1) (and-both _ _ (c .0) (rw (sym (eqb-true (e .to) t (c .1))) at (r .2)))))

@@ -2,14 +2,14 @@
 use Prim.Native.Nat.{ℕ, _+_, _-_, _*_, _≤_, _<_}
 use mathlib.Core.Bool.{Bool, true, false, _&&_}
 use mathlib.Core.List.{List, [], _∷_}
-use mathlib.Core.Path.{_≡_, refl, sym, _∙_, ap}
+use mathlib.Core.Path.{_≡_, refl, sym, _∙_, ap, subst}
 use native.Mathlib.Omega.{arith}
 use borrow.Author.Needs.{needs}
 use borrow.Author.Tests.{lt-ltb, le-ltb, ltb-true}
 use lib.Dec.{ltb}
 use lib.ListN.{getD, replicate}
 use Rattle.lists.specs.Index.{index, same}
-use Rattle.lists.specs.Written.{Written}
+use Rattle.stores.specs.Written.{Written}
 use Rattle.lists.proofs.Index.{same-decides, same-equal, index-at, index-in}
 use Rattle.lists.proofs.Tests.{and-parts}
 use Rattle.automata.specs.Automaton.{Transition}
@@ -21,8 +21,8 @@ use Rattle.sets.specs.inner.Words.{putAt}
 use Rattle.sets.proofs.BitSet.{entry-at, length-entries}
 use Rattle.sweep.specs.inner.Passing.{Passing}
 use Rattle.sweep.proofs.Turns.{passing-later}
-use Rattle.determinize.specs.inner.Notes.{number, Placed, Visited}
-use Rattle.determinize.specs.inner.Attempts.{Numbered}
+use Rattle.determinize.specs.inner.Notes.{setNumber, SetPlaced, SpanVisited}
+use Rattle.determinize.specs.inner.Attempts.{SetNumbered}
 use Rattle.determinize.proofs.Tables.{add-known}
 use Rattle.determinize.proofs.Queued.{row-at}
 use Rattle.determinize.proofs.Visits.{visit-done}
@@ -37,28 +37,28 @@ row-same n j b c h e = e ∙ sym (rw (lt-ltb _ _ h))
 pub ruleset isRowLaws = (row-past, row-same, needs)
 
 -- a set that has a number below 256 is not empty
-number-some : (R : Set) (T : List Set) → number R T < 256 → (R ≡ [] → ⊥) × (index same R T ≡ number R T)
-unfolding number
+number-some : (R : Set) (T : List Set) → setNumber R T < 256 → (R ≡ [] → ⊥) × (index same R T ≡ setNumber R T)
+unfolding setNumber
 number-some [] T h = absurd (omega arith)
 number-some (q ∷ R) T h = (λ e. let z : _≡_ {A = ℕ} 0 1 = cc in omega arith, refl)
 
 -- `place_near`
-pub near-known : (t set : List ℕ) (n j : ℕ) (b : Bool) → n < 256 → Numbered (entries t n) j → b ≡ (ltb j n && same (setAt set 0) (setAt t (4 * j)))
-    → b ≡ true → Placed (setAt set 0) (entries t n) t n j
+pub near-known : (t set : List ℕ) (n j : ℕ) (b : Bool) → n < 256 → SetNumbered (entries t n) j → b ≡ (ltb j n && same (setAt set 0) (setAt t (4 * j)))
+    → b ≡ true → SetPlaced (setAt set 0) (entries t n) t n j
 near-known t set n j b few k e h =
     let p = and-parts (ltb j n) _ (sym e ∙ h) in
     let l : j < n = ltb-true _ _ (p .0) in
     let f : getD (entries t n) j [] ≡ setAt set 0 = entry-at t n j l ∙ sym (same-equal _ _ (p .1)) in
-    let g : number (setAt set 0) (entries t n) ≡ j = ap (λ R. number R (entries t n)) (sym f) ∙ k .found (omega (arith, length-entries t n)) in
+    let g : setNumber (setAt set 0) (entries t n) ≡ j = ap (λ R. setNumber R (entries t n)) (sym f) ∙ k .found (omega (arith, length-entries t n)) in
     let s = number-some (setAt set 0) (entries t n) (omega arith) in
     record { added = sym (add-known (setAt set 0) (entries t n) (s .0) (omega (arith, s .1, length-entries t n))); named = sym g; few = omega arith }
 
 pub ruleset nearLaws = (near-known, needs)
 
-pub numbered-none : (t : List ℕ) (n : ℕ) → n < 256 → Numbered (entries t n) 256
+pub numbered-none : (t : List ℕ) (n : ℕ) → n < 256 → SetNumbered (entries t n) 256
 numbered-none t n h = record { found = λ l. absurd (omega (arith, length-entries t n)) }
 
-pub numbered-placed : (R : Set) (T : List Set) (t : List ℕ) (n j : ℕ) → Placed R T t n j → Numbered (entries t n) j
+pub numbered-placed : (R : Set) (T : List Set) (t : List ℕ) (n j : ℕ) → SetPlaced R T t n j → SetNumbered (entries t n) j
 numbered-placed R T t n j p =
     record {
       found = λ l.
@@ -66,16 +66,20 @@ numbered-placed R T t n j p =
           let i : index same R (entries t n) ≡ j = s .1 ∙ sym (p .named) in
           let g : getD (entries t n) j [] ≡ R =
           ap (λ k. getD (entries t n) k []) (sym i) ∙ index-at same same-decides [] R (entries t n) (index-in same same-decides R (entries t n) (omega arith)) in
-          ap (λ S. number S (entries t n)) g ∙ sym (p .named);
+          ap (λ S. setNumber S (entries t n)) g ∙ sym (p .named);
     }
 
 -- `visit_swept`
-pub visit-swept-done : (R : Set) (T : List Set) (tree next t r v : List ℕ) (m j first last k to : ℕ) → setAt tree 4 ≡ R
-    → next ≡ putAt (replicate 4 0) 0 tree (4 * 1) → Placed (setAt next 0) T t m to
-    → Written r (5 * k) (j ∷ 1 ∷ first ∷ last ∷ to ∷ []) v (5 * k + 5) → Visited R T j first last r k t v m
-visit-swept-done R T tree next t r v m j first last k to e f p w = visit-done R T t next r v m j first last k to (row-at next tree 1 f ∙ e) p w
+pub visit-swept-done : (T : List Set) (tree next t r v : List ℕ) (m j first last k to : ℕ) → next ≡ putAt (replicate 4 0) 0 tree (4 * 1)
+    → SetPlaced (setAt next 0) T t m to → Written r (5 * k) (j ∷ 1 ∷ first ∷ last ∷ to ∷ []) v (5 * k + 5)
+    → SpanVisited (setAt tree 4) T j first last r k t v m
+visit-swept-done T tree next t r v m j first last k to f p w = visit-done (setAt tree 4) T t next r v m j first last k to (row-at next tree 1 f) p w
 
--- `sweep_spans`
+-- `sweep_spans`: the set in the tree is what the span leads to
+pub visited-root : (R S : Set) (T : List Set) (j first last : ℕ) (r : List ℕ) (k : ℕ) (t v : List ℕ) (m : ℕ) → R ≡ S
+    → SpanVisited R T j first last r k t v m → SpanVisited S T j first last r k t v m
+visited-root R S T j first last r k t v m e p = subst (λ Q. SpanVisited Q T j first last r k t v m) e p
+
 pub passing-next : (s c opens ends : List ℕ) (S : Set) (i j a : ℕ) (r t : List ℕ) → Passing s c opens ends S i j a r t
     → (top x : ℕ) (es : List Transition) → a < top → x ≡ nextCut a top es → Passing s c opens ends S i j x r t
 passing-next s c opens ends S i j a r t p top x es h e = passing-later s c opens ends S i j a r t p x (omega (arith, next-gt a top es h))

@@ -18,8 +18,8 @@ use Rattle.ranges.proofs.Cuts.{cut-end, cut-step}
 use Rattle.lists.proofs.Members.{map-in, map-out}
 use Rattle.ranges.proofs.Spans.{cut-stretch, cut-alike, containing}
 use Rattle.determinize.specs.Partition.{partOf, partition}
-use Rattle.determinize.specs.Determinize.{targets}
-use Rattle.determinize.specs.inner.Notes.{add, meet}
+use Rattle.determinize.specs.Determinize.{setTargets}
+use Rattle.determinize.specs.inner.Notes.{addSet, meetSets}
 use Rattle.determinize.specs.Reached.{SetReached}
 use Rattle.determinize.proofs.Steps.{step-alike, step-free, simulate-end}
 use Rattle.determinize.proofs.Tables.{meet-nil, meet-cons, add-empty}
@@ -30,7 +30,7 @@ word-end (more p q r) l u = more p q (word-end r l u)
 
 -- the sets to which the spans from a to upper lead, those without a target too
 unfoldable pub spanTargets : ℕ → ℕ → Automaton → Set → List Set
-spanTargets a upper A S = map (λ s. step A S (s .low)) (cutAll a upper (outgoing A S))
+spanTargets a upper A S = map (λ s. step A S (s .first)) (cutAll a upper (outgoing A S))
 
 module _ (lower upper : ℕ) (A : Automaton) where
   pub reach-step : (S : Set) (a : ℕ) → lower ≤ a → a ≤ upper → SetReached lower upper A S → SetReached lower upper A (step A S a)
@@ -40,50 +40,50 @@ module _ (lower upper : ℕ) (A : Automaton) where
     es : List Transition
     es = outgoing A S
 
-    targets-held : targets lower upper A S ≡ map (λ s. step A S (s .low)) (filter (covered es) (cutAll lower upper es))
-    unfolding targets partition partOf es
-    targets-held = map-map (λ p. step A S (p .low)) (partOf (A .size) es) (filter (covered es) (cutAll lower upper es))
+    targets-held : setTargets lower upper A S ≡ map (λ s. step A S (s .first)) (filter (covered es) (cutAll lower upper es))
+    unfolding setTargets partition partOf es
+    targets-held = map-map (λ p. step A S (p .first)) (partOf (A .size) es) (filter (covered es) (cutAll lower upper es))
 
-    pub targets-reached : SetReached lower upper A S → (R : Set) → R ∈ targets lower upper A S → SetReached lower upper A R
+    pub targets-reached : SetReached lower upper A S → (R : Set) → R ∈ setTargets lower upper A S → SetReached lower upper A R
     unfolding es
     targets-reached r R m =
         let t = map-out _ _ R (rw targets-held at m) in
         let s = t .0 in
         let v = cut-stretch lower upper es s (filter-out (covered es) s (cutAll lower upper es) (t .1) .0) in
-        rw (t .2) (reach-step S (s .low) (v .above) (omega (arith, v .full, v .below)) r)
+        rw (t .2) (reach-step S (s .first) (v .above) (omega (arith, v .full, v .below)) r)
 
-    pub targets-in : (a : ℕ) → lower ≤ a → a ≤ upper → (step A S a ≡ []) ⊎ (step A S a ∈ targets lower upper A S)
+    pub targets-in : (a : ℕ) → lower ≤ a → a ≤ upper → (step A S a ≡ []) ⊎ (step A S a ∈ setTargets lower upper A S)
     unfolding es covered
     targets-in a l u =
         let h = containing lower upper es a l u in
         let s = h .span in
-        let q : step A S a ≡ step A S (s .low) = step-alike A S a (s .low) (cut-alike lower upper es s (h .in) a (h .low) (h .high)) in
-        ⊎-elim (λ (t : any (holds (s .low)) es ≡ true). inr (rw (q, targets-held) (map-in (λ s. step A S (s .low)) (filter-in (covered es) (h .in) t))))
-        (λ (t : any (holds (s .low)) es ≡ false). inl (q ∙ step-free A S (s .low) t))
-        (test (any (holds (s .low)) es))
+        let q : step A S a ≡ step A S (s .first) = step-alike A S a (s .first) (cut-alike lower upper es s (h .in) a (h .above) (h .below)) in
+        ⊎-elim (λ (t : any (holds (s .first)) es ≡ true). inr (rw (q, targets-held) (map-in (λ s. step A S (s .first)) (filter-in (covered es) (h .in) t))))
+        (λ (t : any (holds (s .first)) es ≡ false). inl (q ∙ step-free A S (s .first) t))
+        (test (any (holds (s .first)) es))
 
     -- a hole leads to nothing
-    meet-held : (l : List Span) (T : List Set) → meet (map (λ s. step A S (s .low)) (filter (covered es) l)) T ≡ meet (map (λ s. step A S (s .low)) l) T
+    meet-held : (l : List Span) (T : List Set) → meetSets (map (λ s. step A S (s .first)) (filter (covered es) l)) T ≡ meetSets (map (λ s. step A S (s .first)) l) T
     unfolding filter es covered
     meet-held [] T = refl
     meet-held (s ∷ l) T =
-        let R = step A S (s .low) in
-        let Rs : List Span → List Set = map (λ s. step A S (s .low)) in
-        ⊎-elim (λ (t : any (holds (s .low)) es ≡ true). rw t (meet-cons R (Rs (filter (covered es) l)) T ∙ meet-held l (add R T) ∙ sym (meet-cons R (Rs l) T)))
-        (λ (t : any (holds (s .low)) es ≡ false).
-        rw t (meet-held l T ∙ ap (meet (Rs l)) (sym (ap (λ R. add R T) (step-free A S (s .low) t) ∙ add-empty T)) ∙ sym (meet-cons R (Rs l) T)))
-        (test (any (holds (s .low)) es))
+        let R = step A S (s .first) in
+        let Rs : List Span → List Set = map (λ s. step A S (s .first)) in
+        ⊎-elim (λ (t : any (holds (s .first)) es ≡ true). rw t (meet-cons R (Rs (filter (covered es) l)) T ∙ meet-held l (addSet R T) ∙ sym (meet-cons R (Rs l) T)))
+        (λ (t : any (holds (s .first)) es ≡ false).
+        rw t (meet-held l T ∙ ap (meetSets (Rs l)) (sym (ap (λ R. addSet R T) (step-free A S (s .first) t) ∙ add-empty T)) ∙ sym (meet-cons R (Rs l) T)))
+        (test (any (holds (s .first)) es))
 
     -- the parts are met span by span
-    pub meet-start : (T : List Set) → meet (targets lower upper A S) T ≡ meet (spanTargets lower upper A S) T
+    pub meet-start : (T : List Set) → meetSets (setTargets lower upper A S) T ≡ meetSets (spanTargets lower upper A S) T
     unfolding spanTargets es
-    meet-start T = ap (λ l. meet l T) targets-held ∙ meet-held (cutAll lower upper es) T
+    meet-start T = ap (λ l. meetSets l T) targets-held ∙ meet-held (cutAll lower upper es) T
 
     pub meet-step : (a : ℕ) (T : List Set) → a ≤ upper
-        → meet (spanTargets a upper A S) T ≡ meet (spanTargets (nextCut a (suc upper) (outgoing A S)) upper A S) (add (step A S a) T)
+        → meetSets (spanTargets a upper A S) T ≡ meetSets (spanTargets (nextCut a (suc upper) (outgoing A S)) upper A S) (addSet (step A S a) T)
     unfolding spanTargets
-    meet-step a T h = ap (λ l. meet (map (λ s. step A S (s .low)) l) T) (cut-step upper (outgoing A S) a h) ∙ meet-cons (step A S a) _ T
+    meet-step a T h = ap (λ l. meetSets (map (λ s. step A S (s .first)) l) T) (cut-step upper (outgoing A S) a h) ∙ meet-cons (step A S a) _ T
 
-    pub meet-end : (a : ℕ) (T : List Set) → upper < a → meet (spanTargets a upper A S) T ≡ T
+    pub meet-end : (a : ℕ) (T : List Set) → upper < a → meetSets (spanTargets a upper A S) T ≡ T
     unfolding spanTargets
-    meet-end a T h = ap (λ l. meet (map (λ s. step A S (s .low)) l) T) (cut-end upper (outgoing A S) a h) ∙ meet-nil T
+    meet-end a T h = ap (λ l. meetSets (map (λ s. step A S (s .first)) l) T) (cut-end upper (outgoing A S) a h) ∙ meet-nil T

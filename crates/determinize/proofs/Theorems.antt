@@ -45,11 +45,11 @@ use Rattle.ranges.proofs.Missing.{missing-holes}
 use Rattle.refusal.specs.Answer.{Answer, refused, given}
 use Rattle.search.specs.Search.{found, over}
 use Rattle.determinize.specs.Partition.{Part, partOf, partition, Parts}
-use Rattle.determinize.specs.Determinize.{table, subsetAutomaton, determinize}
+use Rattle.determinize.specs.Determinize.{setTable, subsetAutomaton, determinize}
 use Rattle.automata.specs.Deterministic.{Deterministic, Between}
 use Rattle.determinize.specs.Sink.{Sink}
 use Rattle.determinize.specs.Reached.{MoreThan, AllReached, degrees, MoreTransitions}
-use Rattle.determinize.specs.Sheets.{labelled, determinizeAnswer}
+use Rattle.determinize.specs.Sheets.{subsetPattern, determinizeAnswer}
 use Rattle.determinize.proofs.Parts.{parts-exact}
 use Rattle.determinize.proofs.Steps.{part-step}
 use Rattle.determinize.proofs.Finished.{table-few, table-all, over-exact}
@@ -57,7 +57,7 @@ use Rattle.determinize.proofs.Result.{one-built}
 use Rattle.determinize.proofs.Runs.{transition-facts, words-kept, kind-kept, state-reached, run-exact}
 use Rattle.determinize.proofs.Written.{built-well-formed}
 use Rattle.determinize.proofs.Sink.{state-same, part-transition, hole-transition, only-transition, sink-loop, sink-rejects}
-use Rattle.determinize.proofs.Counts.{listed-states, listed-transitions, many-exact}
+use Rattle.determinize.proofs.Degrees.{listed-states, listed-transitions, many-exact}
 use Rattle.determinize.proofs.Answers.{Outcome, too-many-sets, too-many-transitions, fits, outcome, Built, made-built, refused-above, refused-over, refused-many, answer-over}
 
 module _ (lower upper : ℕ) (A : Automaton) (ok : InBounds A) where
@@ -72,7 +72,7 @@ module _ (lower upper : ℕ) (A : Automaton) (ok : InBounds A) where
 
   -- a part leads to the union of the closures of its targets
   pub determinize-targets : (S : Set) (s : Span)
-      → step A S (s .low) ≡ pick (A .size) (λ q. any (λ t. has q (closure A t)) (partOf (A .size) (outgoing A S) s .targets))
+      → step A S (s .first) ≡ pick (A .size) (λ q. any (λ t. has q (closure A t)) (partOf (A .size) (outgoing A S) s .targets))
   determinize-targets = part-step A ok
 
   module _ (D : Automaton) (e : determinize lower upper A ≡ given D) where
@@ -101,7 +101,7 @@ module _ (lower upper : ℕ) (A : Automaton) (ok : InBounds A) where
     pub determinize-between : Between lower upper D
     determinize-between =
         let l = transition-facts lower upper A ok (by .sets) (by .whole) in
-        rw (by .is) (record { above = λ d m. l d m .low; below = λ d m. l d m .high })
+        rw (by .is) (record { above = λ d m. l d m .above; below = λ d m. l d m .below })
 
     -- a word leads to every state but the last
     pub determinize-reached : (j : ℕ) → suc j < D .size → (w : List ℕ) × Word lower upper w × Run D (D .start) w j
@@ -130,8 +130,8 @@ module _ (lower upper : ℕ) (A : Automaton) (ok : InBounds A) where
 
       -- each part of its set has a transition, to the state of exactly the set to which the part leads; that is not the sink
       pub determinize-part : (p : Part) → p ∈ partition (A .size) lower upper (outgoing A (simulate A (startSet A) w))
-          → (k : ℕ) × (suc k < D .size) × ((record { from = j; kind = 1; first = p .low; last = p .high; to = k }) ∈ D .transitions)
-          × ((v : List ℕ) → Word lower upper v → Run D (D .start) v k ↔ (simulate A (startSet A) v ≡ step A (simulate A (startSet A) w) (p .low)))
+          → (k : ℕ) × (suc k < D .size) × ((record { from = j; kind = 1; first = p .first; last = p .last; to = k }) ∈ D .transitions)
+          × ((v : List ℕ) → Word lower upper v → Run D (D .start) v k ↔ (simulate A (startSet A) v ≡ step A (simulate A (startSet A) w) (p .first)))
       unfolding subsetAutomaton
       determinize-part p m =
           let (k, l, t, q) = part-transition lower upper A ok (by .sets) (by .whole) w j run p m in
@@ -139,7 +139,7 @@ module _ (lower upper : ℕ) (A : Automaton) (ok : InBounds A) where
 
       -- each hole of its set has a transition, to the sink
       pub determinize-hole : (s : Span) → s ∈ missing lower upper (outgoing A (simulate A (startSet A) w)) → (k : ℕ) → D .size ≡ suc k
-          → (record { from = j; kind = 1; first = s .low; last = s .high; to = k }) ∈ D .transitions
+          → (record { from = j; kind = 1; first = s .first; last = s .last; to = k }) ∈ D .transitions
       unfolding subsetAutomaton
       determinize-hole s m k n =
           let z : length (by .sets) ≡ k = let y = rw (by .is) at n in omega (arith, y) in
@@ -147,8 +147,8 @@ module _ (lower upper : ℕ) (A : Automaton) (ok : InBounds A) where
 
       -- it has no other transitions
       pub determinize-only : (d : Transition) → d ∈ D .transitions → d .from ≡ j
-          → ((p : Part) × p ∈ partition (A .size) lower upper (outgoing A (simulate A (startSet A) w)) × (d .first ≡ p .low) × (d .last ≡ p .high))
-          ⊎ ((h : Span) × h ∈ missing lower upper (outgoing A (simulate A (startSet A) w)) × (d .first ≡ h .low) × (d .last ≡ h .high))
+          → ((p : Part) × p ∈ partition (A .size) lower upper (outgoing A (simulate A (startSet A) w)) × (d .first ≡ p .first) × (d .last ≡ p .last))
+          ⊎ ((h : Span) × h ∈ missing lower upper (outgoing A (simulate A (startSet A) w)) × (d .first ≡ h .first) × (d .last ≡ h .last))
       determinize-only d m f =
           only-transition lower upper A ok (by .sets) (by .whole) w j run d (subst (λ (E : Automaton). d ∈ E .transitions) (by .is) m) f
 
@@ -194,7 +194,7 @@ module _ (lower upper : ℕ) (A : Automaton) (ok : InBounds A) where
   pub refused-21 : (determinize lower upper A ≡ refused 21) ↔ MoreThan 255 lower upper A
   refused-21 = (λ e. over-exact lower upper A ok .0 (refused-over lower upper A e), λ m. answer-over lower upper A (over-exact lower upper A ok .1 m))
 
-  found-few : {T : List Set} → table lower upper A ≡ found T → MoreThan 255 lower upper A → ⊥
+  found-few : {T : List Set} → setTable lower upper A ≡ found T → MoreThan 255 lower upper A → ⊥
   found-few {T} e m = let c : found T ≡ over = sym e ∙ over-exact lower upper A ok .1 m in let z : _≡_ {A = ℕ} 0 1 = cc in absurd (omega arith)
 
   -- 22 is given exactly where they don't, and the parts and the holes of the sets with the sink's loop are more than 2,048
@@ -219,29 +219,29 @@ module _ (lower upper : ℕ) (A : Automaton) (ok : InBounds A) where
       go (fits T e h q) = (subsetAutomaton lower upper A T, q)
 
 -- the answer with labels is refused and given where the answer is
-labelled-refused : (a : Answer Automaton) (n : ℕ) → (labelled a ≡ refused n) ↔ (a ≡ refused n)
-unfolding labelled
-labelled-refused (refused m) n = (λ e. let z : m ≡ n = cc in ap refused z, λ e. let z : m ≡ n = cc in ap refused z)
-labelled-refused (given D) n = (λ e. let z : _≡_ {A = ℕ} 0 1 = cc in absurd (omega arith), λ e. let z : _≡_ {A = ℕ} 0 1 = cc in absurd (omega arith))
+pattern-refused : (a : Answer Automaton) (n : ℕ) → (subsetPattern a ≡ refused n) ↔ (a ≡ refused n)
+unfolding subsetPattern
+pattern-refused (refused m) n = (λ e. let z : m ≡ n = cc in ap refused z, λ e. let z : m ≡ n = cc in ap refused z)
+pattern-refused (given D) n = (λ e. let z : _≡_ {A = ℕ} 0 1 = cc in absurd (omega arith), λ e. let z : _≡_ {A = ℕ} 0 1 = cc in absurd (omega arith))
 
 -- the result with its labels
 abbrev pattern : Automaton → Pattern
 pattern D = record { automaton = D; labels = numbered (D .size) }
 
-labelled-given : (a : Answer Automaton) (P : Pattern) → labelled a ≡ given P → (D : Automaton) × (a ≡ given D)
-unfolding labelled
-labelled-given (refused m) P e = let z : _≡_ {A = ℕ} 0 1 = cc in absurd (omega arith)
-labelled-given (given D) P e = (D, refl)
+pattern-given : (a : Answer Automaton) (P : Pattern) → subsetPattern a ≡ given P → (D : Automaton) × (a ≡ given D)
+unfolding subsetPattern
+pattern-given (refused m) P e = let z : _≡_ {A = ℕ} 0 1 = cc in absurd (omega arith)
+pattern-given (given D) P e = (D, refl)
 
-given-labelled : (a : Answer Automaton) (D : Automaton) → a ≡ given D → labelled a ≡ given (pattern D)
-unfolding labelled
-given-labelled a D e = ap labelled e
+given-pattern : (a : Answer Automaton) (D : Automaton) → a ≡ given D → subsetPattern a ≡ given (pattern D)
+unfolding subsetPattern
+given-pattern a D e = ap subsetPattern e
 
 -- what the call leaves: r is its answer, o and l are the outputs before it, o′ and l′ after it
 module _ (s o l o′ l′ : List ℕ) (r : Made) (call : outputOf r o′ l′ ≡ outputs o l (determinizeAnswer s o l)) where
   -- the answer behind 20 and the sheet's faults
   abbrev answer : Answer Pattern
-  answer = labelled (determinize 0 lastSymbol (read s))
+  answer = subsetPattern (determinize 0 lastSymbol (read s))
 
   contract : outputOf r o′ l′ ≡ outputs o l (roomFirst o l (sheetFirst s answer))
   unfolding determinizeAnswer
@@ -251,13 +251,13 @@ module _ (s o l o′ l′ : List ℕ) (r : Made) (call : outputOf r o′ l′ �
   well f = read-well s (accepted s f)
 
   over-20 : (n : ℕ) → answer ≡ refused n → 20 < n
-  over-20 n e = refused-above 0 lastSymbol (read s) n (labelled-refused (determinize 0 lastSymbol (read s)) n .0 e)
+  over-20 n e = refused-above 0 lastSymbol (read s) n (pattern-refused (determinize 0 lastSymbol (read s)) n .0 e)
 
   module _ (w b : ℕ) (lengths : r ≡ Lengths w b) where
     made : (fault s ≡ 0) × ((D : Automaton) × (determinize 0 lastSymbol (read s) ≡ given D))
     made =
         let (room, f, (P, e)) = sheet-call-given s o l o′ l′ r answer contract .0 (ap madeNumber lengths) in
-        (f, labelled-given (determinize 0 lastSymbol (read s)) P e)
+        (f, pattern-given (determinize 0 lastSymbol (read s)) P e)
 
     writable : (D : Automaton) → determinize 0 lastSymbol (read s) ≡ given D → Writable (pattern D)
     unfolding numbered
@@ -275,7 +275,7 @@ module _ (s o l o′ l′ : List ℕ) (r : Made) (call : outputOf r o′ l′ �
     pub determinize-left : (D : Automaton) × (determinize 0 lastSymbol (read s) ≡ given D) × Leaves o l o′ l′ w b D (numbered (D .size))
     determinize-left =
         let (D, e) = made .1 in
-        (D, e, sheet-call-leaves s o l o′ l′ r answer contract w b lengths (pattern D) (given-labelled (determinize 0 lastSymbol (read s)) D e) (writable D e))
+        (D, e, sheet-call-leaves s o l o′ l′ r answer contract w b lengths (pattern D) (given-pattern (determinize 0 lastSymbol (read s)) D e) (writable D e))
 
     -- what is read from the output accepts the words of the input
     pub determinize-left-words : (v : List ℕ) → Word 0 lastSymbol v → Accepts (read (take w o′)) v ↔ Accepts (read s) v
@@ -300,7 +300,7 @@ module _ (s o l o′ l′ : List ℕ) (r : Made) (call : outputOf r o′ l′ �
   limit : (n : ℕ) → 20 < n → (madeNumber r ≡ n) ↔ (Room o l × (fault s ≡ 0) × (determinize 0 lastSymbol (read s) ≡ refused n))
   limit n k =
       let c = sheet-call-number s o l o′ l′ r answer contract n (omega arith) (λ z. omega arith) in
-      let q = labelled-refused (determinize 0 lastSymbol (read s)) n in
+      let q = pattern-refused (determinize 0 lastSymbol (read s)) n in
       (λ e. let (m, f, h) = c .0 e in (m, f, q .0 h), λ (m, f, h). c .1 (m, f, q .1 h))
 
   -- 21 is answered exactly where there is room, the sheet has no fault, and words reach more than 255 nonempty sets
@@ -327,12 +327,12 @@ module _ (s o l o′ l′ : List ℕ) (r : Made) (call : outputOf r o′ l′ �
       let c = sheet-call-given s o l o′ l′ r answer contract in (
         λ e.
             let (m, f, (P, h)) = c .0 e in
-            let (D, q) = labelled-given (determinize 0 lastSymbol (read s)) P h in
+            let (D, q) = pattern-given (determinize 0 lastSymbol (read s)) P h in
             let few : MoreThan 255 0 lastSymbol (read s) → ⊥ = λ n. given-not _ _ (sym q ∙ refused-21 0 lastSymbol (read s) (well f .states) .1 n) in
             (m, f, few, λ k. given-not _ _ (sym q ∙ refused-22 0 lastSymbol (read s) (well f .states) .1 (few, k))),
         λ (m, f, n, k).
             let (D, q) = determinize-given 0 lastSymbol (read s) (well f .states) n k in
-            c .1 (m, f, (pattern D, given-labelled (determinize 0 lastSymbol (read s)) D q)),
+            c .1 (m, f, (pattern D, given-pattern (determinize 0 lastSymbol (read s)) D q)),
       )
 
   -- a refusal leaves the outputs as they were

@@ -16,18 +16,18 @@ use Rattle.words.specs.Simulation.{outgoing, kindOf}
 use Rattle.words.proofs.Kind.{kindOf-some}
 use Rattle.search.specs.Search.{found}
 use Rattle.lists.proofs.Members.{ascending-map, ascending-append}
-use Rattle.ranges.proofs.Spans.{Ahead, cut-ascend}
-use Rattle.determinize.specs.Determinize.{table, setsAndSink, transitionOf, transitionsOf, transitionsFrom, subsetAutomaton}
+use Rattle.ranges.proofs.Spans.{SpanBefore, cut-ascend}
+use Rattle.determinize.specs.Determinize.{setTable, setsAndSink, setTransition, setTransitions, setTransitionsFrom, subsetAutomaton}
 use Rattle.determinize.proofs.Result.{length-states, from-of, from-above, accept-built}
 use Rattle.determinize.proofs.Runs.{transition-facts, built-bounds}
 
 module _ (lower upper : ℕ) (A : Automaton) (T : List Set) where
-  transitions-ascend : (j : ℕ) (Ss : List Set) → Ascending Before (transitionsFrom lower upper A T j Ss)
-  unfolding transitionsFrom transitionsOf transitionOf
+  transitions-ascend : (j : ℕ) (Ss : List Set) → Ascending Before (setTransitionsFrom lower upper A T j Ss)
+  unfolding setTransitionsFrom setTransitions setTransition
   transitions-ascend j [] = Ascending.none
   transitions-ascend j (S ∷ Ss) =
       ascending-append
-      (ascending-map {R = Ahead} (transitionOf A T j S) (λ s t h. Lex.later refl (Lex.later refl (Lex.here (omega (arith, h .0, h .1))))) (cut-ascend lower upper (outgoing A S)))
+      (ascending-map {R = SpanBefore} (setTransition A T j S) (λ s t h. Lex.later refl (Lex.later refl (Lex.here (omega (arith, h .0, h .1))))) (cut-ascend lower upper (outgoing A S)))
       (transitions-ascend (suc j) Ss)
       (λ d c m n. let f = from-of lower upper A T j S d m in let g = from-above lower upper A T (suc j) Ss c n in Lex.here (omega arith))
 
@@ -37,7 +37,7 @@ kindOf-most A h S =
     ⊎-elim (λ t. let r = kindOf-some A S (ltb-true 0 (kindOf A S) t) in let k = h (r .0) in omega (arith, r .2)) (λ t. let k = ltb-false 0 (kindOf A S) t in omega arith)
     (test (ltb 0 (kindOf A S)))
 
-pub built-well-formed : (lower upper : ℕ) (A : Automaton) → WellFormed A → (T : List Set) → table lower upper A ≡ found T → WellFormed (subsetAutomaton lower upper A T)
+pub built-well-formed : (lower upper : ℕ) (A : Automaton) → WellFormed A → (T : List Set) → setTable lower upper A ≡ found T → WellFormed (subsetAutomaton lower upper A T)
 built-well-formed lower upper A w T e =
     record {
       states = built-bounds lower upper A (w .states) T e;

@@ -19,20 +19,20 @@ use Rattle.refusal.specs.Answer.{Answer, refused, given}
 use Rattle.determinize.specs.Partition.{partition}
 
 -- the sets to which the parts of S lead, parts ascending
-unfoldable pub targets : ℕ → ℕ → Automaton → Set → List Set
-targets lower upper A S = map (λ p. step A S (p .low)) (partition (A .size) lower upper (outgoing A S))
+unfoldable pub setTargets : ℕ → ℕ → Automaton → Set → List Set
+setTargets lower upper A S = map (λ p. step A S (p .first)) (partition (A .size) lower upper (outgoing A S))
 
 -- those that are not empty
-unfoldable pub someOf : List Set → List Set
-someOf Rs = filter (λ R. not (isEmpty R)) Rs
+unfoldable pub nonemptyOf : List Set → List Set
+nonemptyOf Rs = filter (λ R. not (isEmpty R)) Rs
 
 -- the nonempty sets, from the start's closure on, each with those to which its parts lead
 unfoldable pub subsets : ℕ → ℕ → Automaton → Graph Set
-subsets lower upper A = record { same = same; next = λ S. someOf (targets lower upper A S); start = startSet A }
+subsets lower upper A = record { same = same; next = λ S. nonemptyOf (setTargets lower upper A S); start = startSet A }
 
 -- the nonempty sets that words reach, as a queue meets them; `over` where they and the sink are more than 256
-unfoldable pub table : ℕ → ℕ → Automaton → SearchResult Set
-table lower upper A = Search.table (subsets lower upper A) (mostStates - 1)
+unfoldable pub setTable : ℕ → ℕ → Automaton → SearchResult Set
+setTable lower upper A = Search.table (subsets lower upper A) (mostStates - 1)
 
 -- The states of the result are the sets of the table, and the empty set for the sink, which is the last. The table doesn't have the empty set, so
 -- that the index of the empty set is the sink.
@@ -40,16 +40,16 @@ unfoldable pub setsAndSink : List Set → List Set
 setsAndSink T = T ++ [] ∷ []
 
 -- state j, which is the set S, has a transition for each span between cuts. No range leaves the sink, so that it has one for all symbols.
-unfoldable pub transitionOf : Automaton → List Set → ℕ → Set → Span → Transition
-transitionOf A T j S s = record { from = j; kind = 1; first = s .low; last = s .high; to = index same (step A S (s .low)) T }
+unfoldable pub setTransition : Automaton → List Set → ℕ → Set → Span → Transition
+setTransition A T j S s = record { from = j; kind = 1; first = s .first; last = s .last; to = index same (step A S (s .first)) T }
 
-unfoldable pub transitionsOf : ℕ → ℕ → Automaton → List Set → ℕ → Set → List Transition
-transitionsOf lower upper A T j S = map (transitionOf A T j S) (cutAll lower upper (outgoing A S))
+unfoldable pub setTransitions : ℕ → ℕ → Automaton → List Set → ℕ → Set → List Transition
+setTransitions lower upper A T j S = map (setTransition A T j S) (cutAll lower upper (outgoing A S))
 
 -- the transitions of the states from j on, which are the sets Ss
-unfoldable pub transitionsFrom : ℕ → ℕ → Automaton → List Set → ℕ → List Set → List Transition
-transitionsFrom lower upper A T j [] = []
-transitionsFrom lower upper A T j (S ∷ Ss) = transitionsOf lower upper A T j S ++ transitionsFrom lower upper A T (suc j) Ss
+unfoldable pub setTransitionsFrom : ℕ → ℕ → Automaton → List Set → ℕ → List Set → List Transition
+setTransitionsFrom lower upper A T j [] = []
+setTransitionsFrom lower upper A T j (S ∷ Ss) = setTransitions lower upper A T j S ++ setTransitionsFrom lower upper A T (suc j) Ss
 
 -- the automaton of a finished table
 unfoldable pub subsetAutomaton : ℕ → ℕ → Automaton → List Set → Automaton
@@ -57,7 +57,7 @@ subsetAutomaton lower upper A T = record {
   size = suc (length T);
   start = 0;
   accept = map (kindOf A) (setsAndSink T);
-  transitions = transitionsFrom lower upper A T 0 (setsAndSink T);
+  transitions = setTransitionsFrom lower upper A T 0 (setsAndSink T);
 }
 
 -- 21 where there are too many sets, 22 where there are too many transitions
@@ -66,4 +66,4 @@ subsetsAnswer lower upper A over = refused 21
 subsetsAnswer lower upper A (found T) = transitionsFirst (subsetAutomaton lower upper A T) (given (subsetAutomaton lower upper A T))
 
 unfoldable pub determinize : ℕ → ℕ → Automaton → Answer Automaton
-determinize lower upper A = subsetsAnswer lower upper A (table lower upper A)
+determinize lower upper A = subsetsAnswer lower upper A (setTable lower upper A)

@@ -13,15 +13,15 @@ use Rattle.ranges.specs.Span.{Span}
 use Rattle.ranges.specs.Cuts.{Cut, cutAll}
 use Rattle.ranges.specs.Missing.{covered}
 
--- the symbols from low to high, and the targets of the ranges that hold them
+-- the symbols from first to last, and the targets of the ranges that hold them
 pub record Part : Type 0 where
-  pub low : ℕ
-  pub high : ℕ
+  pub first : ℕ
+  pub last : ℕ
   pub targets : Set
 
 -- a span between cuts with its targets, which are states below n: a range that holds its first symbol holds all of it
 unfoldable pub partOf : ℕ → List Transition → Span → Part
-partOf n es s = record { low = s .low; high = s .high; targets = pick n (λ q. any (λ e. holds (s .low) e && eqb (e .to) q) es) }
+partOf n es s = record { first = s .first; last = s .last; targets = pick n (λ q. any (λ e. holds (s .first) e && eqb (e .to) q) es) }
 
 -- the spans between cuts that some range holds, ascending
 unfoldable pub partition : ℕ → ℕ → ℕ → List Transition → List Part
@@ -38,10 +38,10 @@ HeldTo es x q = (e : Transition) × e ∈ es × (holds x e ≡ true) × (e .to �
 -- what document 01 says of the parts: they ascend and no two share a symbol, they are cut at every cut and nowhere else, a symbol lies in one just
 -- when some range holds it, and the targets of a part are those of the ranges that hold its symbols
 pub record Parts (lower upper : ℕ) (es : List Transition) (ps : List Part) : Type 0 where
-  pub ascends : Ascending (λ p q. p .high < q .low) ps
-  pub full : (p : Part) → p ∈ ps → p .low ≤ p .high
-  pub begins : (p : Part) → p ∈ ps → (p .low ≡ lower) ⊎ Cut es (p .low)
-  pub ends : (p : Part) → p ∈ ps → (p .high ≡ upper) ⊎ Cut es (suc (p .high))
-  pub uncut : (p : Part) → p ∈ ps → (c : ℕ) → Cut es c → p .low < c → p .high < c
-  pub exact : (x : ℕ) → ((p : Part) × p ∈ ps × (p .low ≤ x) × (x ≤ p .high)) ↔ ((lower ≤ x) × (x ≤ upper) × HeldBy es x)
-  pub targets : (p : Part) → p ∈ ps → (x : ℕ) → p .low ≤ x → x ≤ p .high → (q : ℕ) → (has q (p .targets) ≡ true) ↔ HeldTo es x q
+  pub ascends : Ascending (λ p q. p .last < q .first) ps
+  pub full : (p : Part) → p ∈ ps → p .first ≤ p .last
+  pub begins : (p : Part) → p ∈ ps → (p .first ≡ lower) ⊎ Cut es (p .first)
+  pub ends : (p : Part) → p ∈ ps → (p .last ≡ upper) ⊎ Cut es (suc (p .last))
+  pub uncut : (p : Part) → p ∈ ps → (c : ℕ) → Cut es c → p .first < c → p .last < c
+  pub exact : (x : ℕ) → ((p : Part) × p ∈ ps × (p .first ≤ x) × (x ≤ p .last)) ↔ ((lower ≤ x) × (x ≤ upper) × HeldBy es x)
+  pub targets : (p : Part) → p ∈ ps → (x : ℕ) → p .first ≤ x → x ≤ p .last → (q : ℕ) → (has q (p .targets) ≡ true) ↔ HeldTo es x q

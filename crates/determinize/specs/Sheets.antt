@@ -8,12 +8,13 @@ use Rattle.refusal.specs.Answer.{Answer, refused, given}
 use Rattle.sheets.specs.Checked.{sheetFirst}
 use Rattle.sheets.specs.Sheet.{read}
 use Rattle.determinize.specs.Determinize.{determinize}
+use Rattle.automata.specs.WellFormed.{lastSymbol}
 
 -- the result with the labels D0, D1 and so on, the sink's too
-unfoldable pub labelled : Answer Automaton → Answer Pattern
-labelled (refused n) = refused n
-labelled (given D) = given (record { automaton = D; labels = numbered (D .size) })
+unfoldable pub subsetPattern : Answer Automaton → Answer Pattern
+subsetPattern (refused n) = refused n
+subsetPattern (given D) = given (record { automaton = D; labels = numbered (D .size) })
 
 -- determinizing a sheet s into the outputs o and l: 20, then the sheet's faults, then 21 and 22
 unfoldable pub determinizeAnswer : List ℕ → List ℕ → List ℕ → Answer Pattern
-determinizeAnswer s o l = roomFirst o l (sheetFirst s (labelled (determinize 0 4294967295 (read s))))
+determinizeAnswer s o l = roomFirst o l (sheetFirst s (subsetPattern (determinize 0 lastSymbol (read s))))

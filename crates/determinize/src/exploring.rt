@@ -7,23 +7,30 @@ ghost use mathlib.Core.List.{[], _∷_};
 ghost use Prim.Native.Nat.{_+_, _-_, _*_, _%_, _≤_, _<_};
 ghost use lib.Dec.{eqb, ltb};
 ghost use lib.ListN.{length, getD};
-ghost use Rattle.lists.specs.Written.{Written};
+ghost use Rattle.stores.specs.Written.{Written};
 ghost use Rattle.automata.specs.Records.{writeRecords};
-ghost use Rattle.sets.specs.inner.Members.{Canon};
 ghost use Rattle.sets.specs.inner.BitSet.{setAt, entries};
-ghost use Rattle.sheets.specs.Sheet.{stateCount, read};
-ghost use Rattle.words.specs.Simulation.{outgoing, step, startSet};
+ghost use Rattle.sheets.specs.Sheet.{read};
+ghost use Rattle.words.specs.Simulation.{outgoing, step};
 ghost use Rattle.words.specs.inner.Gather.{Tables};
 ghost use Rattle.ranges.specs.Cuts.{nextCut};
-ghost use Rattle.determinize.specs.inner.Notes.{sinkNotes, Canonical, Placed, Visited, SetVisited};
-ghost use Rattle.determinize.specs.inner.Attempts.{runLength, recordsOf, SetTried, Attempted};
+ghost use Rattle.determinize.specs.inner.Notes.{sinkNotes, SetPlaced, SpanVisited, SpansResult};
+ghost use Rattle.determinize.specs.inner.Memory.{StateSet, TableAndNotes, StartTable};
+ghost use Rattle.determinize.specs.inner.Attempts.{runLength, recordsOf, SpansExploration, TableExploration};
 use crate::Exploration;
 use crate::Progress;
+use ranges::Ends;
 
 // Where a set stands in the table, and how many sets the table has.
 pub struct Entry {
     pub number: u32,
     pub sets: usize,
+}
+
+// How many sets the table has, and how many transitions are noted.
+pub struct Counts {
+    pub sets: usize,
+    pub notes: usize,
 }
 
 // Where a span ends, which is before the next cut, and how many sets the table has once it is visited.
@@ -35,7 +42,7 @@ pub struct SpanEnd {
 // The number of a set in the table of n sets. A nonempty set that the table lacks goes to its end; the empty set has the number 256.
 pub fn place(table: &mut [u64], n: usize, set: &[u64]) -> Entry
     requires { ⌜ (n < 256) × (length (now table) ≡ 1024) × (4 ≤ length (now set)) ⌝ }
-    ensures { λ r. ⌜ Placed (setAt (now (set .entry)) 0) (entries (now (table .entry)) n) (now (table .exit)) (r .sets) (r .number) ⌝ }
+    ensures { λ r. ⌜ SetPlaced (setAt (now (set .entry)) 0) (entries (now (table .entry)) n) (now (table .exit)) (r .sets) (r .number) ⌝ }
 {
     if sets::is_empty(set) {
         return Entry {
@@ -67,8 +74,8 @@ pub fn note(notes: &mut [u32], count: usize, from: u32, first: u32, last: u32, t
     }
 }
 
-// The span of a set from first up to the next cut, which is top where no range is cut before: the set that it leads to gets its place in the table of
-// n sets, and the transition is noted.
+// The span of a set from first up to the next cut, which is top where no range is cut before: the set that it leads to gets its place in the table, and
+// the transition is noted.
 fn visit(
     s: &[u32],
     starts: &[u32],
@@ -78,19 +85,20 @@ fn visit(
     first: u32,
     top: u64,
     table: &mut [u64],
-    n: usize,
     notes: &mut [u32],
-    count: usize,
+    counts: Counts,
 ) -> SpanEnd
-    requires { ⌜ Tables (now s) (now starts) (now closures) × Canon (stateCount (now s)) (setAt (now set) 0) × (4 ≤ length (now set)) × (n < 256) × (length (now table) ≡ 1024) × (length (now notes) % 5 ≡ 0) × (first < top) × (top ≤ 4294967296) ⌝ }
+    requires { ⌜ Tables (now s) (now starts) (now closures) × StateSet (now s) (now set) × (first < top) × (top ≤ 4294967296) ⌝ }
+    requires { ⌜ (counts .sets < 256) × (length (now table) ≡ 1024) × (length (now notes) % 5 ≡ 0) ⌝ }
     ensures cut { λ r. ⌜ r .cut ≡ nextCut first top (outgoing (read (now (s .entry))) (setAt (now (set .entry)) 0)) ⌝ }
-    ensures visited { λ r. ⌜ Visited (step (read (now (s .entry))) (setAt (now (set .entry)) 0) first) (entries (now (table .entry)) n) from first (r .cut - 1) (now (notes .entry)) count (now (table .exit)) (now (notes .exit)) (r .sets) ⌝ }
+    ensures visited { λ r. ⌜ SpanVisited (step (read (now (s .entry))) (setAt (now (set .entry)) 0) first) (entries (now (table .entry)) (counts .sets))
+        from first (r .cut - 1) (now (notes .entry)) (counts .notes) (now (table .exit)) (now (notes .exit)) (r .sets) ⌝ }
 {
     let mut next = [0u64; 4];
     let cut = words::step(s, starts, closures, set, first, &mut next, top);
-    let placed = place(table, n, &next);
+    let placed = place(table, counts.sets, &next);
     let last = (cut - 1) as u32;
-    note(notes, count, from, first, last, placed.number);
+    note(notes, counts.notes, from, first, last, placed.number);
     SpanEnd {
         cut,
         sets: placed.sets,
@@ -103,23 +111,23 @@ pub fn visit_spans(
     s: &[u32],
     starts: &[u32],
     closures: &[u64],
-    lower: u32,
-    upper: u32,
+    symbols: Ends,
     set: &[u64],
     from: u32,
     table: &mut [u64],
-    sets: usize,
     notes: &mut [u32],
-    noted: usize,
+    counts: Counts,
 ) -> Progress
-    requires { ⌜ Tables (now s) (now starts) (now closures) × Canon (stateCount (now s)) (setAt (now set) 0) × (4 ≤ length (now set)) ⌝ }
-    requires { ⌜ (sets < 256) × (length (now table) ≡ 1024) × Canonical (stateCount (now s)) (entries (now table) sets) × (length (now notes) % 5 ≡ 0) × (noted ≤ 1099511627776) ⌝ }
-    ensures { λ r. ⌜ SetVisited lower upper (read (now (s .entry))) (setAt (now (set .entry)) 0) (entries (now (table .entry)) sets) from (now (notes .entry)) noted (now (table .exit)) (now (notes .exit)) r ⌝ }
+    requires { ⌜ Tables (now s) (now starts) (now closures) × StateSet (now s) (now set) ⌝ }
+    requires { ⌜ TableAndNotes (now s) (now table) (now notes) (counts .sets) (counts .notes) ⌝ }
+    ensures { λ r. ⌜ SpansResult (symbols .lower) (symbols .upper) (read (now (s .entry))) (setAt (now (set .entry)) 0) (entries (now (table .entry)) (counts .sets))
+        from (now (notes .entry)) (counts .notes) (now (table .exit)) (now (notes .exit)) r ⌝ }
 {
+    let upper = symbols.upper;
     let top = upper as u64 + 1;
-    let mut a = lower as u64;
-    let mut n = sets;
-    let mut count = noted;
+    let mut a = symbols.lower as u64;
+    let mut n = counts.sets;
+    let mut count = counts.notes;
     while a < top {
         let visited = visit(
             s,
@@ -130,9 +138,11 @@ pub fn visit_spans(
             a as u32,
             top,
             table,
-            n,
             notes,
-            count,
+            Counts {
+                sets: n,
+                notes: count,
+            },
         );
         n = visited.sets;
         if n == 256 {
@@ -145,12 +155,12 @@ pub fn visit_spans(
 }
 
 // The note of the sink's loop, which holds all symbols, behind `count` others; answers how many notes there are then.
-pub fn note_sink(notes: &mut [u32], count: usize, sink: u32, lower: u32, upper: u32) -> usize
+pub fn note_sink(notes: &mut [u32], count: usize, sink: u32, symbols: Ends) -> usize
     requires { ⌜ (length (now notes) % 5 ≡ 0) × (count ≤ 1099511627776) ⌝ }
-    ensures { λ r. ⌜ Written (now (notes .entry)) (5 * count) (writeRecords (sinkNotes lower upper sink)) (now (notes .exit)) (5 * r) ⌝ }
+    ensures { λ r. ⌜ Written (now (notes .entry)) (5 * count) (writeRecords (sinkNotes (symbols .lower) (symbols .upper) sink)) (now (notes .exit)) (5 * r) ⌝ }
 {
-    if lower <= upper {
-        note(notes, count, sink, lower, upper, 256);
+    if symbols.lower <= symbols.upper {
+        note(notes, count, sink, symbols.lower, symbols.upper, 256);
         return count + 1;
     }
     count
@@ -206,22 +216,23 @@ fn try_spans(
     s: &[u32],
     starts: &[u32],
     closures: &[u64],
-    lower: u32,
-    upper: u32,
+    symbols: Ends,
     set: &[u64],
     from: u32,
     table: &mut [u64],
-    sets: usize,
     notes: &mut [u32],
-    noted: usize,
+    counts: Counts,
 ) -> Exploration
-    requires { ⌜ Tables (now s) (now starts) (now closures) × Canon (stateCount (now s)) (setAt (now set) 0) × (4 ≤ length (now set)) ⌝ }
-    requires { ⌜ (0 < sets) × (sets < 256) × (length (now table) ≡ 1024) × Canonical (stateCount (now s)) (entries (now table) sets) × (length (now notes) % 5 ≡ 0) × (noted ≤ 1099511627776) ⌝ }
-    ensures { λ r. ⌜ SetTried lower upper (read (now (s .entry))) (setAt (now (set .entry)) 0) (entries (now (table .entry)) sets) from (now (notes .entry)) noted (now (table .entry)) (now (table .exit)) (now (notes .exit)) r ⌝ }
+    requires { ⌜ Tables (now s) (now starts) (now closures) × StateSet (now s) (now set) ⌝ }
+    requires { ⌜ TableAndNotes (now s) (now table) (now notes) (counts .sets) (counts .notes) × (0 < counts .sets) ⌝ }
+    ensures { λ r. ⌜ SpansExploration (symbols .lower) (symbols .upper) (read (now (s .entry))) (setAt (now (set .entry)) 0) (entries (now (table .entry)) (counts .sets))
+        from (now (notes .entry)) (counts .notes) (now (table .entry)) (now (table .exit)) (now (notes .exit)) r ⌝ }
 {
+    let upper = symbols.upper;
     let top = upper as u64 + 1;
-    let mut a = lower as u64;
-    let mut n = sets;
+    let noted = counts.notes;
+    let mut a = symbols.lower as u64;
+    let mut n = counts.sets;
     let mut count = noted;
     while a < top {
         let visited = visit(
@@ -233,9 +244,11 @@ fn try_spans(
             a as u32,
             top,
             table,
-            n,
             notes,
-            count,
+            Counts {
+                sets: n,
+                notes: count,
+            },
         );
         n = visited.sets;
         if n == 256 {
@@ -255,16 +268,15 @@ fn visit_set(
     s: &[u32],
     starts: &[u32],
     closures: &[u64],
-    lower: u32,
-    upper: u32,
+    symbols: Ends,
     i: usize,
     table: &mut [u64],
-    n: usize,
     notes: &mut [u32],
-    count: usize,
+    counts: Counts,
 ) -> Exploration
-    requires { ⌜ Tables (now s) (now starts) (now closures) × (i < n) × (n < 256) × (length (now table) ≡ 1024) × Canonical (stateCount (now s)) (entries (now table) n) × (length (now notes) % 5 ≡ 0) × (count ≤ 1099511627776) ⌝ }
-    ensures { λ r. ⌜ SetTried lower upper (read (now (s .entry))) (getD (entries (now (table .entry)) n) i []) (entries (now (table .entry)) n) i (now (notes .entry)) count (now (table .entry)) (now (table .exit)) (now (notes .exit)) r ⌝ }
+    requires { ⌜ Tables (now s) (now starts) (now closures) × TableAndNotes (now s) (now table) (now notes) (counts .sets) (counts .notes) × (i < counts .sets) ⌝ }
+    ensures { λ r. ⌜ SpansExploration (symbols .lower) (symbols .upper) (read (now (s .entry))) (getD (entries (now (table .entry)) (counts .sets)) i [])
+        (entries (now (table .entry)) (counts .sets)) i (now (notes .entry)) (counts .notes) (now (table .entry)) (now (table .exit)) (now (notes .exit)) r ⌝ }
 {
     let mut set = [0u64; 4];
     sets::copy_row(&mut set, table, i);
@@ -272,14 +284,12 @@ fn visit_set(
         s,
         starts,
         closures,
-        lower,
-        upper,
+        symbols,
         &set,
         i as u32,
         table,
-        n,
         notes,
-        count,
+        counts,
     )
 }
 
@@ -300,13 +310,12 @@ pub fn explore(
     s: &[u32],
     starts: &[u32],
     closures: &[u64],
-    lower: u32,
-    upper: u32,
+    symbols: Ends,
     table: &mut [u64],
     notes: &mut [u32],
 ) -> Exploration
-    requires { ⌜ Tables (now s) (now starts) (now closures) × (setAt (now table) 0 ≡ startSet (read (now s))) × (length (now table) ≡ 1024) × (length (now notes) % 5 ≡ 0) ⌝ }
-    ensures { λ r. ⌜ Attempted lower upper (read (now (s .entry))) (now (table .exit)) (now (notes .exit)) r ⌝ }
+    requires { ⌜ StartTable (now s) (now starts) (now closures) (now table) × (length (now notes) % 5 ≡ 0) ⌝ }
+    ensures { λ r. ⌜ TableExploration (symbols .lower) (symbols .upper) (read (now (s .entry))) (now (table .exit)) (now (notes .exit)) r ⌝ }
 {
     let mut n: usize = 1;
     let mut count: usize = 0;
@@ -315,7 +324,11 @@ pub fn explore(
         if is_full(notes, count) {
             return Exploration::Unfinished;
         }
-        match visit_set(s, starts, closures, lower, upper, i, table, n, notes, count) {
+        let counts = Counts {
+            sets: n,
+            notes: count,
+        };
+        match visit_set(s, starts, closures, symbols, i, table, notes, counts) {
             Exploration::Finished(progress) => match progress {
                 Progress::Sets(sets, noted) => {
                     n = sets;
@@ -327,7 +340,7 @@ pub fn explore(
             Exploration::Unfinished => return Exploration::Unfinished,
         }
     }
-    let all = note_sink(notes, count, n as u32, lower, upper);
+    let all = note_sink(notes, count, n as u32, symbols);
     if is_full(notes, all) {
         return Exploration::Unfinished;
     }

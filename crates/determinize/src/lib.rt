@@ -5,16 +5,15 @@ ghost use Prim.Native.Nat.{_≤_};
 ghost use lib.ListN.{length};
 ghost use Rattle.sheets.specs.inner.Accepted.{Accepted};
 ghost use Rattle.sheets.specs.Sheet.{read};
-ghost use Rattle.sets.specs.inner.BitSet.{setAt};
-ghost use Rattle.words.specs.Simulation.{startSet};
-ghost use Rattle.words.specs.inner.Gather.{Tables};
 ghost use Rattle.output.specs.Made.{outputOf};
-ghost use Rattle.output.specs.Output.{outputs};
+ghost use Rattle.output.specs.Output.{outputs, sheetSize};
 ghost use Rattle.determinize.specs.Determinize.{determinize};
 ghost use Rattle.determinize.specs.Sheets.{determinizeAnswer};
-ghost use Rattle.determinize.specs.inner.Attempts.{Complete};
+ghost use Rattle.determinize.specs.inner.Memory.{StartTable};
+ghost use Rattle.determinize.specs.inner.Attempts.{TableResultWithRoom};
 ghost use Rattle.determinize.specs.inner.Sheets.{determinizedOf, sheetOutput};
 use output::Made;
+use ranges::Ends;
 use refusal::Refusal;
 use refusal::StateRefusal;
 use sheets::Checked;
@@ -44,15 +43,14 @@ pub enum Exploration {
 // The answer of determinizing, from what the first pass came to.
 fn finish(
     s: &[u32],
-    lower: u32,
-    upper: u32,
+    symbols: Ends,
     table: &[u64],
     notes: &[u32],
     progress: Progress,
     out: &mut [u32],
 ) -> Determinized
-    requires { ⌜ Accepted (now s) × Complete lower upper (read (now s)) (now table) (now notes) progress × (length (now table) ≡ 1024) × (10500 ≤ length (now out)) ⌝ }
-    ensures { λ r. ⌜ determinizedOf r (now (out .exit)) ≡ sheetOutput (now (out .entry)) (determinize lower upper (read (now (s .entry)))) ⌝ }
+    requires { ⌜ Accepted (now s) × TableResultWithRoom (symbols .lower) (symbols .upper) (read (now s)) (now table) (now notes) progress × (length (now table) ≡ 1024) × (sheetSize ≤ length (now out)) ⌝ }
+    ensures { λ r. ⌜ determinizedOf r (now (out .exit)) ≡ sheetOutput (now (out .entry)) (determinize (symbols .lower) (symbols .upper) (read (now (s .entry)))) ⌝ }
 {
     match progress {
         Progress::Sets(n, count) => {
@@ -71,28 +69,26 @@ fn determinize_large(
     s: &[u32],
     starts: &[u32],
     closures: &[u64],
-    lower: u32,
-    upper: u32,
+    symbols: Ends,
     table: &mut [u64],
     out: &mut [u32],
 ) -> Determinized
-    requires { ⌜ Tables (now s) (now starts) (now closures) × (setAt (now table) 0 ≡ startSet (read (now s))) × (length (now table) ≡ 1024) × (10500 ≤ length (now out)) ⌝ }
-    ensures { λ r. ⌜ determinizedOf r (now (out .exit)) ≡ sheetOutput (now (out .entry)) (determinize lower upper (read (now (s .entry)))) ⌝ }
+    requires { ⌜ StartTable (now s) (now starts) (now closures) (now table) × (sheetSize ≤ length (now out)) ⌝ }
+    ensures { λ r. ⌜ determinizedOf r (now (out .exit)) ≡ sheetOutput (now (out .entry)) (determinize (symbols .lower) (symbols .upper) (read (now (s .entry)))) ⌝ }
 {
     let mut notes = [0u32; 10240];
-    match exploring::explore(s, starts, closures, lower, upper, table, &mut notes) {
-        Exploration::Finished(progress) => finish(s, lower, upper, table, &notes, progress, out),
+    match exploring::explore(s, starts, closures, symbols, table, &mut notes) {
+        Exploration::Finished(progress) => finish(s, symbols, table, &notes, progress, out),
         Exploration::Unfinished => {
             let progress = sweeping::explore_by_events(
                 s,
                 starts,
                 closures,
-                lower,
-                upper,
+                symbols,
                 table,
                 &mut notes,
             );
-            finish(s, lower, upper, table, &notes, progress, out)
+            finish(s, symbols, table, &notes, progress, out)
         }
     }
 }
@@ -102,34 +98,34 @@ fn determinize_small(
     s: &[u32],
     starts: &[u32],
     closures: &[u64],
-    lower: u32,
-    upper: u32,
+    symbols: Ends,
     table: &mut [u64],
     out: &mut [u32],
 ) -> Determinized
-    requires { ⌜ Tables (now s) (now starts) (now closures) × (setAt (now table) 0 ≡ startSet (read (now s))) × (length (now table) ≡ 1024) × (10500 ≤ length (now out)) ⌝ }
-    ensures { λ r. ⌜ determinizedOf r (now (out .exit)) ≡ sheetOutput (now (out .entry)) (determinize lower upper (read (now (s .entry)))) ⌝ }
+    requires { ⌜ StartTable (now s) (now starts) (now closures) (now table) × (sheetSize ≤ length (now out)) ⌝ }
+    ensures { λ r. ⌜ determinizedOf r (now (out .exit)) ≡ sheetOutput (now (out .entry)) (determinize (symbols .lower) (symbols .upper) (read (now (s .entry)))) ⌝ }
 {
     let mut notes = [0u32; 640];
-    match exploring::explore(s, starts, closures, lower, upper, table, &mut notes) {
-        Exploration::Finished(progress) => finish(s, lower, upper, table, &notes, progress, out),
-        Exploration::Unfinished => determinize_large(s, starts, closures, lower, upper, table, out),
+    match exploring::explore(s, starts, closures, symbols, table, &mut notes) {
+        Exploration::Finished(progress) => finish(s, symbols, table, &notes, progress, out),
+        Exploration::Unfinished => determinize_large(s, starts, closures, symbols, table, out),
     }
 }
 
 // Determinizes an accepted sheet over the symbols from lower to upper, without labels.
 pub fn determinize_accepted(s: &[u32], lower: u32, upper: u32, out: &mut [u32]) -> Determinized
-    requires { ⌜ Accepted (now s) × (10500 ≤ length (now out)) ⌝ }
+    requires { ⌜ Accepted (now s) × (sheetSize ≤ length (now out)) ⌝ }
     ensures { λ r. ⌜ determinizedOf r (now (out .exit)) ≡ sheetOutput (now (out .entry)) (determinize lower upper (read (now (s .entry)))) ⌝ }
 {
     let mut starts = [0u32; 257];
     let mut closures = [0u64; 1024];
     let mut table = [0u64; 1024];
     words::begin(s, &mut starts, &mut closures, &mut table);
+    let symbols = Ends { lower, upper };
     if 40 < s.len() {
-        return determinize_large(s, &starts, &closures, lower, upper, &mut table, out);
+        return determinize_large(s, &starts, &closures, symbols, &mut table, out);
     }
-    determinize_small(s, &starts, &closures, lower, upper, &mut table, out)
+    determinize_small(s, &starts, &closures, symbols, &mut table, out)
 }
 
 // Determinizes a sheet: the result at the front of out, its labels D0, D1 and so on at the front of names.

@@ -7,16 +7,17 @@ ghost use lib.Dec.{ltb};
 ghost use lib.ListN.{length, getD};
 ghost use Rattle.lists.specs.Index.{same};
 ghost use Rattle.sets.specs.inner.BitSet.{setAt, entries};
-ghost use Rattle.sheets.specs.Sheet.{stateCount, read};
-ghost use Rattle.words.specs.Simulation.{outgoing, step, startSet};
+ghost use Rattle.sheets.specs.Sheet.{read};
 ghost use Rattle.words.specs.inner.Gather.{Tables};
-ghost use Rattle.ranges.specs.Cuts.{nextCut};
 ghost use Rattle.sweep.specs.inner.Events.{Lined};
-ghost use Rattle.sweep.specs.inner.Passing.{Closed, Passing};
-ghost use Rattle.determinize.specs.inner.Notes.{Canonical, Placed, Visited, SetVisited, Explored};
-ghost use Rattle.determinize.specs.inner.Attempts.{Complete, Numbered};
+ghost use Rattle.sweep.specs.inner.Passing.{Closed};
+ghost use Rattle.determinize.specs.inner.Notes.{SetPlaced, SpanVisited, SpansResult, TableResult};
+ghost use Rattle.determinize.specs.inner.Memory.{TableAndNotes, StartTable};
+ghost use Rattle.determinize.specs.inner.Attempts.{TableResultWithRoom, SetNumbered};
 use crate::Progress;
+use crate::exploring::Counts;
 use crate::exploring::Entry;
+use ranges::Ends;
 use sweep::Turn;
 
 // Whether row j is one of the first n of the table and is the set.
@@ -32,8 +33,8 @@ fn is_row(table: &[u64], n: usize, set: &[u64], j: usize) -> bool
 
 // The number of a set in the table of n sets, like `place`. Row `near` is compared first.
 fn place_near(table: &mut [u64], n: usize, set: &[u64], near: u32) -> Entry
-    requires { ⌜ (n < 256) × (length (now table) ≡ 1024) × (4 ≤ length (now set)) × Numbered (entries (now table) n) near ⌝ }
-    ensures { λ r. ⌜ Placed (setAt (now (set .entry)) 0) (entries (now (table .entry)) n) (now (table .exit)) (r .sets) (r .number) ⌝ }
+    requires { ⌜ (n < 256) × (length (now table) ≡ 1024) × (4 ≤ length (now set)) × SetNumbered (entries (now table) n) near ⌝ }
+    ensures { λ r. ⌜ SetPlaced (setAt (now (set .entry)) 0) (entries (now (table .entry)) n) (now (table .exit)) (r .sets) (r .number) ⌝ }
 {
     if is_row(table, n, set, near as usize) {
         return Entry {
@@ -44,70 +45,29 @@ fn place_near(table: &mut [u64], n: usize, set: &[u64], near: u32) -> Entry
     crate::exploring::place(table, n, set)
 }
 
-// How far the visit of a set's spans has come: where the pass stands among the openings and among the endings, the symbol that it stands at, how many sets the
-// table has, and the number of the set that the span before leads to.
-pub struct Visit {
-    pub opens: usize,
-    pub ends: usize,
-    pub cut: u64,
-    pub sets: usize,
-    pub number: u32,
-}
-
-// The span of a set from the symbol that the visit stands at, like `visit`.
+// The span of state `from` from first up to the cut, which leads to the set in row 1 of the tree, like `visit`. Row `near` is compared first.
 fn visit_swept(
-    s: &[u32],
-    closures: &[u64],
-    opens: &[u32],
-    ends: &[u32],
-    set: &[u64],
+    tree: &[u64],
     from: u32,
-    top: u64,
-    at: Visit,
-    reach: &mut [u64],
-    tree: &mut [u64],
+    first: u32,
+    cut: u64,
+    near: u32,
     table: &mut [u64],
     notes: &mut [u32],
-    count: usize,
-) -> Visit
-    requires { ⌜ Passing (now s) (now closures) (now opens) (now ends) (setAt (now set) 0) (at .opens) (at .ends) (at .cut) (now reach) (now tree) × (4 ≤ length (now set)) ⌝ }
-    requires { ⌜ (at .sets < 256) × (length (now table) ≡ 1024) × (length (now notes) % 5 ≡ 0) × (at .cut < top) × (top ≤ 4294967296) × Numbered (entries (now table) (at .sets)) (at .number) ⌝ }
-    ensures cut { λ r. ⌜ r .cut ≡ nextCut (at .cut) top (outgoing (read (now (s .entry))) (setAt (now (set .entry)) 0)) ⌝ }
-    ensures visited { λ r. ⌜ Visited (step (read (now (s .entry))) (setAt (now (set .entry)) 0) (at .cut)) (entries (now (table .entry)) (at .sets)) from (at .cut) (r .cut - 1) (now (notes .entry)) count (now (table .exit)) (now (notes .exit)) (r .sets) ⌝ }
-    ensures passing { λ r. ⌜ Passing (now (s .entry)) (now (closures .entry)) (now (opens .entry)) (now (ends .entry)) (setAt (now (set .entry)) 0) (r .opens) (r .ends) (at .cut) (now (reach .exit)) (now (tree .exit)) ⌝ }
-    ensures numbered { λ r. ⌜ Numbered (entries (now (table .exit)) (r .sets)) (r .number) ⌝ }
+    counts: Counts,
+) -> Entry
+    requires { ⌜ (8 ≤ length (now tree)) × (1 ≤ cut) × (cut ≤ 4294967296) × (counts .sets < 256) × (length (now table) ≡ 1024) × (length (now notes) % 5 ≡ 0)
+        × SetNumbered (entries (now table) (counts .sets)) near ⌝ }
+    ensures visited { λ r. ⌜ SpanVisited (setAt (now (tree .entry)) 4) (entries (now (table .entry)) (counts .sets)) from first (cut - 1)
+        (now (notes .entry)) (counts .notes) (now (table .exit)) (now (notes .exit)) (r .sets) ⌝ }
+    ensures numbered { λ r. ⌜ SetNumbered (entries (now (table .exit)) (r .sets)) (r .number) ⌝ }
 {
-    let first = at.cut as u32;
-    let before = Turn {
-        opens: at.opens,
-        ends: at.ends,
-        cut: at.cut,
-    };
-    let turn = sweep::step(
-        s,
-        closures,
-        opens,
-        ends,
-        set,
-        first,
-        before,
-        reach,
-        tree,
-        top,
-    );
-    let cut = turn.cut;
     let mut next = [0u64; 4];
     sets::copy_row(&mut next, tree, 1);
-    let placed = place_near(table, at.sets, &next, at.number);
+    let placed = place_near(table, counts.sets, &next, near);
     let last = (cut - 1) as u32;
-    crate::exploring::note(notes, count, from, first, last, placed.number);
-    Visit {
-        opens: turn.opens,
-        ends: turn.ends,
-        cut,
-        sets: placed.sets,
-        number: placed.number,
-    }
+    crate::exploring::note(notes, counts.notes, from, first, last, placed.number);
+    placed
 }
 
 // Visits the spans of a set like `visit_spans`, by one pass over the openings and the endings of the sheet.
@@ -116,52 +76,65 @@ fn sweep_spans(
     closures: &[u64],
     opens: &[u32],
     ends: &[u32],
-    lower: u32,
-    upper: u32,
+    symbols: Ends,
     set: &[u64],
     from: u32,
     table: &mut [u64],
-    sets: usize,
     notes: &mut [u32],
-    noted: usize,
+    counts: Counts,
 ) -> Progress
     requires { ⌜ Closed (now s) (now closures) × Lined 0 (now s) (now opens) × Lined 1 (now s) (now ends) × (4 ≤ length (now set)) ⌝ }
-    requires { ⌜ (sets < 256) × (length (now table) ≡ 1024) × Canonical (stateCount (now s)) (entries (now table) sets) × (length (now notes) % 5 ≡ 0) × (noted ≤ 1099511627776) ⌝ }
-    ensures { λ r. ⌜ SetVisited lower upper (read (now (s .entry))) (setAt (now (set .entry)) 0) (entries (now (table .entry)) sets) from (now (notes .entry)) noted (now (table .exit)) (now (notes .exit)) r ⌝ }
+    requires { ⌜ TableAndNotes (now s) (now table) (now notes) (counts .sets) (counts .notes) ⌝ }
+    ensures { λ r. ⌜ SpansResult (symbols .lower) (symbols .upper) (read (now (s .entry))) (setAt (now (set .entry)) 0) (entries (now (table .entry)) (counts .sets))
+        from (now (notes .entry)) (counts .notes) (now (table .exit)) (now (notes .exit)) r ⌝ }
 {
     let mut reach = [0u64; 256];
     let mut tree = [0u64; 2048];
+    let upper = symbols.upper;
     let top = upper as u64 + 1;
-    let mut at = Visit {
+    let mut turn = Turn {
         opens: 0,
         ends: 0,
-        cut: lower as u64,
-        sets,
-        number: 256,
+        cut: symbols.lower as u64,
     };
-    let mut count = noted;
-    while at.cut < top {
-        at = visit_swept(
+    let mut n = counts.sets;
+    let mut near: u32 = 256;
+    let mut count = counts.notes;
+    while turn.cut < top {
+        let first = turn.cut as u32;
+        turn = sweep::step(
             s,
             closures,
             opens,
             ends,
             set,
-            from,
-            top,
-            at,
+            first,
+            turn,
             &mut reach,
             &mut tree,
+            top,
+        );
+        let placed = visit_swept(
+            &tree,
+            from,
+            first,
+            turn.cut,
+            near,
             table,
             notes,
-            count,
+            Counts {
+                sets: n,
+                notes: count,
+            },
         );
-        if at.sets == 256 {
+        n = placed.sets;
+        if n == 256 {
             return Progress::Over;
         }
+        near = placed.number;
         count += 1;
     }
-    Progress::Sets(at.sets, count)
+    Progress::Sets(n, count)
 }
 
 // Visits the spans of entry i of the table.
@@ -171,16 +144,16 @@ fn visit_entry(
     closures: &[u64],
     opens: &[u32],
     ends: &[u32],
-    lower: u32,
-    upper: u32,
+    symbols: Ends,
     i: usize,
     table: &mut [u64],
-    n: usize,
     notes: &mut [u32],
-    count: usize,
+    counts: Counts,
 ) -> Progress
-    requires { ⌜ Tables (now s) (now starts) (now closures) × Lined 0 (now s) (now opens) × Lined 1 (now s) (now ends) × (i < n) × (n < 256) × (length (now table) ≡ 1024) × Canonical (stateCount (now s)) (entries (now table) n) × (length (now notes) % 5 ≡ 0) × (count ≤ 1099511627776) ⌝ }
-    ensures { λ r. ⌜ SetVisited lower upper (read (now (s .entry))) (getD (entries (now (table .entry)) n) i []) (entries (now (table .entry)) n) i (now (notes .entry)) count (now (table .exit)) (now (notes .exit)) r ⌝ }
+    requires { ⌜ Tables (now s) (now starts) (now closures) × Lined 0 (now s) (now opens) × Lined 1 (now s) (now ends) ⌝ }
+    requires { ⌜ TableAndNotes (now s) (now table) (now notes) (counts .sets) (counts .notes) × (i < counts .sets) ⌝ }
+    ensures { λ r. ⌜ SpansResult (symbols .lower) (symbols .upper) (read (now (s .entry))) (getD (entries (now (table .entry)) (counts .sets)) i [])
+        (entries (now (table .entry)) (counts .sets)) i (now (notes .entry)) (counts .notes) (now (table .exit)) (now (notes .exit)) r ⌝ }
 {
     let mut set = [0u64; 4];
     sets::copy_row(&mut set, table, i);
@@ -190,28 +163,24 @@ fn visit_entry(
             closures,
             opens,
             ends,
-            lower,
-            upper,
+            symbols,
             &set,
             i as u32,
             table,
-            n,
             notes,
-            count,
+            counts,
         );
     }
     crate::exploring::visit_spans(
         s,
         starts,
         closures,
-        lower,
-        upper,
+        symbols,
         &set,
         i as u32,
         table,
-        n,
         notes,
-        count,
+        counts,
     )
 }
 
@@ -222,31 +191,32 @@ fn explore_swept(
     closures: &[u64],
     opens: &[u32],
     ends: &[u32],
-    lower: u32,
-    upper: u32,
+    symbols: Ends,
     table: &mut [u64],
     notes: &mut [u32],
 ) -> Progress
-    requires { ⌜ Tables (now s) (now starts) (now closures) × Lined 0 (now s) (now opens) × Lined 1 (now s) (now ends) × (setAt (now table) 0 ≡ startSet (read (now s))) × (length (now table) ≡ 1024) × (length (now notes) % 5 ≡ 0) ⌝ }
-    ensures { λ r. ⌜ Explored lower upper (read (now (s .entry))) (now (notes .entry)) (now (table .exit)) (now (notes .exit)) r ⌝ }
+    requires { ⌜ StartTable (now s) (now starts) (now closures) (now table) × Lined 0 (now s) (now opens) × Lined 1 (now s) (now ends) × (length (now notes) % 5 ≡ 0) ⌝ }
+    ensures { λ r. ⌜ TableResult (symbols .lower) (symbols .upper) (read (now (s .entry))) (now (notes .entry)) (now (table .exit)) (now (notes .exit)) r ⌝ }
 {
     let mut n: usize = 1;
     let mut count: usize = 0;
     let mut i: usize = 0;
     while i < n {
+        let counts = Counts {
+            sets: n,
+            notes: count,
+        };
         match visit_entry(
             s,
             starts,
             closures,
             opens,
             ends,
-            lower,
-            upper,
+            symbols,
             i,
             table,
-            n,
             notes,
-            count,
+            counts,
         ) {
             Progress::Sets(sets, noted) => {
                 n = sets;
@@ -258,7 +228,7 @@ fn explore_swept(
     }
     Progress::Sets(
         n,
-        crate::exploring::note_sink(notes, count, n as u32, lower, upper),
+        crate::exploring::note_sink(notes, count, n as u32, symbols),
     )
 }
 
@@ -267,13 +237,12 @@ pub fn explore_by_events(
     s: &[u32],
     starts: &[u32],
     closures: &[u64],
-    lower: u32,
-    upper: u32,
+    symbols: Ends,
     table: &mut [u64],
     notes: &mut [u32],
 ) -> Progress
-    requires { ⌜ Tables (now s) (now starts) (now closures) × (setAt (now table) 0 ≡ startSet (read (now s))) × (length (now table) ≡ 1024) × (length (now notes) ≡ 10240) ⌝ }
-    ensures { λ r. ⌜ Complete lower upper (read (now (s .entry))) (now (table .exit)) (now (notes .exit)) r ⌝ }
+    requires { ⌜ StartTable (now s) (now starts) (now closures) (now table) × (length (now notes) ≡ 10240) ⌝ }
+    ensures { λ r. ⌜ TableResultWithRoom (symbols .lower) (symbols .upper) (read (now (s .entry))) (now (table .exit)) (now (notes .exit)) r ⌝ }
 {
     let mut opens = [0u32; 2048];
     let mut ends = [0u32; 2048];
@@ -285,8 +254,7 @@ pub fn explore_by_events(
         closures,
         &opens[0..opened],
         &ends[0..ended],
-        lower,
-        upper,
+        symbols,
         table,
         notes,
     )

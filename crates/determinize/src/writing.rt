@@ -3,15 +3,16 @@ ghost use mathlib.Core.List.{[], _∷_, _++_, map};
 ghost use mathlib.Core.Path.{_≡_};
 ghost use Prim.Native.Nat.{_+_, _*_, _≤_, _<_};
 ghost use lib.ListN.{length};
-ghost use Rattle.lists.specs.Written.{Written};
+ghost use Rattle.stores.specs.Written.{Written};
 ghost use Rattle.automata.specs.Records.{readRecords, writeRecords};
 ghost use Rattle.automata.specs.inner.Records.{recordAt};
 ghost use Rattle.sets.specs.inner.BitSet.{setAt, entries};
 ghost use Rattle.sheets.specs.inner.Accepted.{Accepted};
 ghost use Rattle.sheets.specs.Sheet.{stateCount, read, write};
 ghost use Rattle.words.specs.Simulation.{kindOf};
-ghost use Rattle.determinize.specs.inner.Notes.{settle, Canonical};
-ghost use Rattle.determinize.specs.inner.Sheets.{automatonOf};
+ghost use Rattle.determinize.specs.inner.Notes.{notedTransition, Canonical};
+ghost use Rattle.determinize.specs.inner.Sheets.{notedAutomaton};
+ghost use Rattle.output.specs.Output.{sheetSize};
 
 // The accept word of the set in row j of the table.
 fn accept_word(s: &[u32], table: &[u64], n: usize, j: usize) -> u32
@@ -31,16 +32,16 @@ fn put_accept_words(s: &[u32], table: &[u64], n: usize, out: &mut [u32], at: usi
     let mut end = at;
     let mut j: usize = 0;
     while j < n {
-        end = output::put_word(out, end, accept_word(s, table, n, j));
+        end = stores::put_word(out, end, accept_word(s, table, n, j));
         j += 1;
     }
-    output::put_word(out, end, 0)
+    stores::put_word(out, end, 0)
 }
 
 // The record that a note stands for.
 fn put_note(note: &[u32], sink: u32, out: &mut [u32], at: usize) -> usize
     requires { ⌜ (length (now note) ≡ 5) × (at + 5 ≤ length (now out)) ⌝ }
-    ensures { λ r. ⌜ Written (now (out .entry)) at (writeRecords (settle sink (recordAt (now (note .entry)) 0) ∷ [])) (now (out .exit)) r ⌝ }
+    ensures { λ r. ⌜ Written (now (out .entry)) at (writeRecords (notedTransition sink (recordAt (now (note .entry)) 0) ∷ [])) (now (out .exit)) r ⌝ }
 {
     let to = note[4];
     if to == 256 {
@@ -52,7 +53,7 @@ fn put_note(note: &[u32], sink: u32, out: &mut [u32], at: usize) -> usize
 // The records that the notes stand for.
 fn put_notes(notes: &[u32], sink: u32, out: &mut [u32], at: usize) -> usize
     requires { ⌜ at + length (now notes) ≤ length (now out) ⌝ }
-    ensures { λ r. ⌜ Written (now (out .entry)) at (writeRecords (map (settle sink) (readRecords (now (notes .entry))))) (now (out .exit)) r ⌝ }
+    ensures { λ r. ⌜ Written (now (out .entry)) at (writeRecords (map (notedTransition sink) (readRecords (now (notes .entry))))) (now (out .exit)) r ⌝ }
 {
     let mut end = at;
     let mut i: usize = 0;
@@ -65,11 +66,11 @@ fn put_notes(notes: &[u32], sink: u32, out: &mut [u32], at: usize) -> usize
 
 // The sheet of a table of n sets and the notes of its transitions.
 pub fn write_sheet(s: &[u32], table: &[u64], n: usize, notes: &[u32], out: &mut [u32]) -> usize
-    requires { ⌜ Accepted (now s) × Canonical (stateCount (now s)) (entries (now table) n) × (n < 256) × (length (now table) ≡ 1024) × (length (now notes) ≤ 10240) × (10500 ≤ length (now out)) ⌝ }
-    ensures { λ r. ⌜ Written (now (out .entry)) 0 (write (automatonOf (read (now (s .entry))) (entries (now (table .entry)) n) (readRecords (now (notes .entry))))) (now (out .exit)) r ⌝ }
+    requires { ⌜ Accepted (now s) × Canonical (stateCount (now s)) (entries (now table) n) × (n < 256) × (length (now table) ≡ 1024) × (length (now notes) ≤ 10240) × (sheetSize ≤ length (now out)) ⌝ }
+    ensures { λ r. ⌜ Written (now (out .entry)) 0 (write (notedAutomaton (read (now (s .entry))) (entries (now (table .entry)) n) (readRecords (now (notes .entry))))) (now (out .exit)) r ⌝ }
 {
     let start = output::put_start(out, 0, n as u32 + 1);
     let accepts = put_accept_words(s, table, n, out, start);
-    let records = output::put_word(out, accepts, (notes.len() / 5) as u32);
+    let records = stores::put_word(out, accepts, (notes.len() / 5) as u32);
     put_notes(notes, n as u32, out, records)
 }

@@ -1,12 +1,15 @@
 -- Laws of the lines and of the run, as the functions that read and count ask them. Assumes nothing.
-use Prim.Native.Nat.{ℕ, _+_, _-_, _*_, _%_, _^_, _≤_, _<_}
-use mathlib.Core.Bool.{Bool, true, false}
+use Prim.Native.Nat.{ℕ, _+_, _*_, _%_, _^_, _≤_, _<_}
+use mathlib.Core.Bool.{Bool, true, false, not}
 use mathlib.Core.List.{List}
 use mathlib.Core.Path.{_≡_, sym, ap, _∙_}
 use lib.Dec.{eqb}
 use lib.ListN.{getD}
+use native.Mathlib.Omega.{arith}
 use borrow.Author.Needs.{needs}
-use borrow.Author.Tests.{lt-ltb, le-ltb, eq-eqb, ne-eqb}
+use borrow.Author.Tests.{not-true, not-false, lt-ltb, le-ltb, eq-eqb, ne-eqb}
+use Rattle.decimal.specs.Decimal.{isDigit, withDigit}
+use Rattle.decimal.proofs.Decimal.{digit-most}
 use Rattle.refusal.specs.declared.StateRefusal.{StateRefusal}
 use Rattle.dsu.specs.declared.Found.the-variants.{Root}
 use Rattle.dsu.specs.declared.Found.the-variants as found
@@ -20,17 +23,21 @@ use Rattle.dsu_replay.specs.declared.Line.{Line}
 use Rattle.dsu_replay.specs.declared.Line.the-variants.{Read}
 use Rattle.dsu_replay.specs.Replay.{digitOf, numberAt, lineOf, tallied, withSets, isRoot, isDone, afterFind, afterChange, hasAt, afterLine}
 
-pub digit-below : (b : ℕ) → b < 48 → _≡_ {A = ℕ} 0 (digitOf b)
-unfolding digitOf
-digit-below b h = rw (lt-ltb b 48 h)
+module _ (b : ℕ) (x : Bool) (e : x ≡ isDigit b) where
+  pub digit-none : not x ≡ true → _≡_ {A = ℕ} 0 (digitOf b)
+  unfolding digitOf
+  digit-none h = rw (sym e ∙ not-true x h)
 
-pub digit-above : (b : ℕ) → 48 ≤ b → 57 < b → _≡_ {A = ℕ} 0 (digitOf b)
-unfolding digitOf
-digit-above b h k = rw (le-ltb b 48 h, lt-ltb 57 b k)
+  pub digit-some : not x ≡ false → isDigit b ≡ true
+  digit-some h = sym e ∙ not-false x h
 
-pub digit-within : (b : ℕ) → 48 ≤ b → b ≤ 57 → b - 48 ≡ digitOf b
-unfolding digitOf
-digit-within b h k = rw (le-ltb b 48 h, le-ltb 57 b k)
+  module _ (h : not x ≡ false) (v : ℕ) (f : v ≡ withDigit 0 b) where
+    pub digit-small : v ≤ 9
+    digit-small = omega (arith, digit-most b (digit-some h))
+
+    pub digit-read : v ≡ digitOf b
+    unfolding digitOf
+    digit-read = f ∙ sym (rw (digit-some h))
 
 pub number-read : (s : List ℕ) (at x y z : ℕ) → x ≡ digitOf (getD s at 0) → y ≡ digitOf (getD s (at + 1) 0) → z ≡ digitOf (getD s (at + 2) 0) → 100 * x + 10 * y + z ≡ numberAt s at
 unfolding numberAt
@@ -40,7 +47,7 @@ pub line-read : (s : List ℕ) (a b : ℕ) → a ≡ numberAt s 2 → b ≡ numb
 unfolding lineOf
 line-read s a b e f = rw (e, f)
 
-pub ruleset lineLaws = (digit-below, digit-above, digit-within, number-read, line-read, needs)
+pub ruleset lineLaws = (digit-none, digit-some, digit-small, digit-read, number-read, line-read, needs)
 
 -- one count grows
 module _ (s : Run) (same : Bool) (v : ℕ) where

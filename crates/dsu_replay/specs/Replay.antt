@@ -1,10 +1,11 @@
 -- The lines of the list, and what the run does at each.
-use Prim.Native.Nat.{ℕ, _+_, _-_, _*_, _%_, _^_}
+use Prim.Native.Nat.{ℕ, _+_, _*_, _%_, _^_}
 use mathlib.Core.Bool.{Bool, true, false, cond}
 use mathlib.Core.List.{List}
 use mathlib.Core.Path.{_≡_}
 use lib.Dec.{eqb, ltb}
 use lib.ListN.{length, getD}
+use Rattle.decimal.specs.Decimal.{isDigit, withDigit}
 use Rattle.dsu.specs.declared.DSU.{DSU}
 use Rattle.dsu.specs.declared.Found.{Found}
 use Rattle.dsu.specs.declared.Found.the-variants.{Root}
@@ -21,7 +22,7 @@ use Rattle.dsu_replay.specs.declared.Line.the-variants.{Read, End}
 
 -- the value of a digit's byte, 0 of any other
 unfoldable pub digitOf : ℕ → ℕ
-digitOf b = cond (ltb b 48) 0 (cond (ltb 57 b) 0 (b - 48))
+digitOf b = cond (isDigit b) (withDigit 0 b) 0
 
 -- the number of the three digits from a place on
 unfoldable pub numberAt : List ℕ → ℕ → ℕ

@@ -121,17 +121,15 @@ enum Line {
     End,
 }
 
+// The value of a digit's byte, 0 of any other.
 fn digit(b: u8) -> usize
     ensures small { λ r. ⌜ r ≤ 9 ⌝ }
     ensures is { λ r. ⌜ r ≡ digitOf b ⌝ }
 {
-    if b < 48 {
+    if !decimal::is_digit(b) {
         return 0;
     }
-    if 57 < b {
-        return 0;
-    }
-    (b - 48) as usize
+    decimal::with_digit(0, b) as usize
 }
 
 // The number of the three digits from a place on.

@@ -7,6 +7,7 @@ use native.Mathlib.Omega.{arith}
 use borrow.Author.Needs.{needs}
 use lib.ListN.{length, replicate, length-replicate}
 use lib.Seq.{sets}
+use Rattle.lists.proofs.Lists.{blank-at}
 use Rattle.refusal.specs.Answer.{given, refused}
 use Rattle.refusal.specs.Number.{inputNumber}
 use Rattle.refusal.specs.declared.InputRefusal.{InputRefusal}
@@ -18,7 +19,6 @@ use Rattle.sheets.specs.Sheet.{read}
 use Rattle.sheets.specs.declared.Checked.{Checked}
 use Rattle.sheets.specs.declared.Checked.the-variants.{Accepted, Refused}
 use Rattle.sheets.proofs.Accepted.{check-accepted}
-use Rattle.sheets.proofs.Below.{blank-at}
 use Rattle.sheets.proofs.Checking.{sheet-passed, sheet-refused}
 use Rattle.sheets.proofs.Runs.{starts-indexed}
 use Rattle.emptiness.specs.inner.Marks.{UnmarkedSearch}

@@ -8,8 +8,8 @@ use borrow.Author.Needs.{needs}
 use borrow.Author.Tests.{lt-ltb, le-ltb}
 use lib.Dec.{ltb}
 use lib.ListN.{length, take, drop}
-use Rattle.lists.specs.Written.{Written}
-use Rattle.lists.proofs.Written.{written-length}
+use Rattle.stores.specs.Written.{Written}
+use Rattle.stores.proofs.Written.{written-length}
 use Rattle.automata.specs.Automaton.{states}
 use Rattle.automata.specs.Ordered.{inOrder}
 use Rattle.labels.specs.Checked as labelCheck
@@ -20,11 +20,13 @@ use Rattle.labels.specs.declared.Checked.the-variants as labelAnswer
 use Rattle.labels.proofs.Labels.{label-list, count-read}
 use Rattle.output.specs.inner.Gathering.{Collected}
 use Rattle.output.specs.Made.{outputOf}
-use Rattle.output.specs.Output.{Output, Pattern, outputs, roomFirst, labelsFirst, transitionsFirst}
+use Rattle.output.specs.Output as output
+use Rattle.output.specs.Output.{Outputs, Pattern, outputs, labelsFirst, transitionsFirst}
 use Rattle.output.specs.declared.Made.the-variants.{Lengths, Refused}
 use Rattle.output.proofs.Collecting.{small-memory, large-memory}
 use Rattle.output.proofs.Answers.{made-given, made-refused, labels-accepted, labels-passed, labels-refused, room-lacking, room-enough, room-words, room-bytes}
 use Rattle.refusal.specs.Answer.{Answer}
+use Rattle.refusal.specs.Outcome.{Outcome}
 use Rattle.refusal.specs.declared.InputRefusal.{InputRefusal}
 use Rattle.refusal.specs.declared.Refusal.the-variants.{Input, State}
 use Rattle.refusal.specs.declared.StateRefusal.the-variants.{OutputLength, Transitions}
@@ -80,7 +82,7 @@ pub ruleset resultLaws = (all-written, kept-list, kept-count, written-length, ne
 
 -- the check of the labels
 module _ (n : ℕ) (b : List ℕ) (r : labelled.Checked) (e : labelCheck.checkedNumber r ≡ labelsFault n b) (a : Answer Pattern) where
-  pub labels-given : r ≡ labelAnswer.Accepted → (o l : List ℕ) (x : Output) → x ≡ outputs o l a → x ≡ outputs o l (labelsFirst n b a)
+  pub labels-given : r ≡ labelAnswer.Accepted → (o l : List ℕ) (x : Outcome output.Lengths Outputs) → x ≡ outputs o l a → x ≡ outputs o l (labelsFirst n b a)
   labels-given h o l x p = p ∙ ap (outputs o l) (sym (labels-passed n b a r e h))
 
   pub labels-stopped : (i : InputRefusal) → r ≡ labelAnswer.Refused i → (o l : List ℕ) → outputOf (Refused (Input i)) o l ≡ outputs o l (labelsFirst n b a)
@@ -93,14 +95,15 @@ pub sheet-ready : (o l s : List ℕ) (w : Bool) → w ≡ (ltb (length o) 10500 
 sheet-ready o l s w e h r f g = record { accepted = check-accepted r s f g; words = room-words o l w e h; bytes = room-bytes o l w e h }
 
 module _ (o l s b : List ℕ) (w : Bool) (e : w ≡ (ltb (length o) 10500 || ltb (length l) 16642)) where
-  pub room-stopped : w ≡ true → outputOf (Refused (State OutputLength)) o l ≡ outputs o l (roomFirst o l (eliminateAnswer s b))
+  pub room-stopped : w ≡ true → outputOf (Refused (State OutputLength)) o l ≡ outputs o l (eliminateAnswer s b o l)
+  unfolding eliminateAnswer
   room-stopped h = made-refused o l (State OutputLength) _ (room-lacking o l _ w e h)
 
   module _ (h : w ≡ false) (r : Checked) (f : checkedNumber r ≡ fault s) where
-    pub sheet-stopped : (i : InputRefusal) → r ≡ sheetAnswer.Refused i → outputOf (Refused (Input i)) o l ≡ outputs o l (roomFirst o l (eliminateAnswer s b))
+    pub sheet-stopped : (i : InputRefusal) → r ≡ sheetAnswer.Refused i → outputOf (Refused (Input i)) o l ≡ outputs o l (eliminateAnswer s b o l)
     unfolding eliminateAnswer
     sheet-stopped i g = made-refused o l (Input i) _ (room-enough o l _ w e h ∙ sheet-refused s _ r f i g)
 
-    pub sheet-given : r ≡ sheetAnswer.Accepted → (x : Output) → x ≡ outputs o l (labelsFirst (stateCount s) b (eliminatedWith (read s) (readLabels b))) → x ≡ outputs o l (roomFirst o l (eliminateAnswer s b))
+    pub sheet-given : r ≡ sheetAnswer.Accepted → (x : Outcome output.Lengths Outputs) → x ≡ outputs o l (labelsFirst (stateCount s) b (eliminatedWith (read s) (readLabels b))) → x ≡ outputs o l (eliminateAnswer s b o l)
     unfolding eliminateAnswer
     sheet-given g x p = p ∙ ap (outputs o l) (sym (room-enough o l _ w e h ∙ sheet-passed s _ r f g))

@@ -101,7 +101,7 @@ pub ruleset runLaws = (run-begins, run-room, run-ended, run-next, run-over, need
 -- a closure; v is the row of p in the table of closures
 module _ (s c : List ℕ) (t : ClosuresOf s c) (p : ℕ) (l : p < stateCount s) where
   pub row-inside : 4 * p + 4 ≤ length c
-  row-inside = omega (arith, t .long, t .accepted .few-states)
+  row-inside = omega (arith, t .long)
 
   pub row-entry : setAt c (4 * p) ≡ closure (read s) p
   unfolding closure

@@ -29,7 +29,7 @@ use Rattle.output.specs.declared.Made.{Made}
 use Rattle.output.specs.declared.Made.the-variants.{Lengths}
 use Rattle.output.specs.Left.{madeNumber, Room, Leaves, Unchanged}
 use Rattle.output.specs.Made.{outputOf}
-use Rattle.output.specs.Output.{outputs, roomFirst}
+use Rattle.output.specs.Output.{outputs}
 use Rattle.output.proofs.Exact.{inputs-given, checked-given, checked-20, checked-fault, checked-10, checked-number}
 use Rattle.output.proofs.Left.{call-refused, call-leaves}
 use Rattle.sheets.specs.Fault.{fault}
@@ -77,7 +77,7 @@ module _ (A : Automaton) (ok : InBounds A) where
   )
 
 -- the call on the sheet s with the labels b: r is its answer, o and l are the outputs before it, o′ and l′ after it
-module _ (s b o l o′ l′ : List ℕ) (r : Made) (call : outputOf r o′ l′ ≡ outputs o l (roomFirst o l (eliminateAnswer s b))) where
+module _ (s b o l o′ l′ : List ℕ) (r : Made) (call : outputOf r o′ l′ ≡ outputs o l (eliminateAnswer s b o l)) where
   -- nothing is refused exactly where there is room, nothing has a fault and the transitions are few enough
   pub eliminate-lengths : (madeNumber r ≡ 0) ↔ (Room o l × (fault s ≡ 0) × (labelsFault (stateCount s) b ≡ 0) × (length (eliminated (read s) .transitions) ≤ mostTransitions))
   unfolding eliminateAnswer
@@ -98,7 +98,7 @@ module _ (s b o l o′ l′ : List ℕ) (r : Made) (call : outputOf r o′ l′ 
     eliminate-left =
         let (f, g, few) = answered in
         let e = inputs-given s b (eliminatedWith (read s) (readLabels b)) (result s b) .1 (f, g, given-behind s b few) in
-        call-leaves o l o′ l′ r (eliminateAnswer s b) call w n lengths (result s b) e (result-writable s b f g few)
+        call-leaves o l o′ l′ r _ call w n lengths (result s b) e (result-writable s b f g few)
 
     -- the sheet left accepts the words that the input accepts
     pub eliminate-left-words : (v : List ℕ) → Accepts (read (take w o′)) v ↔ Accepts (read s) v
@@ -144,4 +144,5 @@ module _ (s b o l o′ l′ : List ℕ) (r : Made) (call : outputOf r o′ l′ 
 
   -- a refusal leaves both outputs as they were
   pub eliminate-unchanged : (madeNumber r ≡ 0 → ⊥) → Unchanged o l o′ l′
-  eliminate-unchanged = call-refused o l o′ l′ r (eliminateAnswer s b) call
+  unfolding eliminateAnswer
+  eliminate-unchanged = call-refused o l o′ l′ r _ call

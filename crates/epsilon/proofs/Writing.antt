@@ -10,9 +10,9 @@ use lib.ListN.{length, getD}
 use mir.Syntax.{w32}
 use mir.Val.{Fits}
 use Rattle.lists.specs.Lists.{tabulate}
-use Rattle.lists.specs.Written.{Written}
+use Rattle.stores.specs.Written.{Written}
 use Rattle.lists.proofs.Lists.{tabulate-end, length-tabulate}
-use Rattle.lists.proofs.Written.{written-none, written-append, written-length}
+use Rattle.stores.proofs.Written.{written-none, written-append, written-length}
 use Rattle.automata.specs.Automaton.{Transition}
 use Rattle.automata.proofs.Records.{length-write}
 use Rattle.output.proofs.Collecting.{collect-all}

@@ -6,7 +6,7 @@ use Rattle.lists.specs.Lists.{tabulate}
 use Rattle.automata.specs.Automaton.{Transition, Automaton, states, leaving, rangesOf}
 use Rattle.automata.specs.Ordered.{inOrder}
 use Rattle.labels.specs.Labels.{readLabels}
-use Rattle.output.specs.Output.{Pattern, labelsFirst, transitionsFirst}
+use Rattle.output.specs.Output.{Pattern, roomFirst, labelsFirst, transitionsFirst}
 use Rattle.refusal.specs.Answer.{Answer, given}
 use Rattle.sets.specs.Sets.{Set}
 use Rattle.sheets.specs.Checked.{sheetFirst}
@@ -46,6 +46,6 @@ eliminated A = record {
 unfoldable pub eliminatedWith : Automaton → List (List ℕ) → Answer Pattern
 eliminatedWith A ls = transitionsFirst (eliminated A) (given (record { automaton = eliminated A; labels = ls }))
 
--- the answer for the sheet s and its labels b, which are kept
-unfoldable pub eliminateAnswer : List ℕ → List ℕ → Answer Pattern
-eliminateAnswer s b = sheetFirst s (labelsFirst (stateCount s) b (eliminatedWith (read s) (readLabels b)))
+-- the answer for the sheet s and its labels b, which are kept, into the outputs o and l: 20, the sheet's faults, the labels', then 22
+unfoldable pub eliminateAnswer : List ℕ → List ℕ → List ℕ → List ℕ → Answer Pattern
+eliminateAnswer s b o l = roomFirst o l (sheetFirst s (labelsFirst (stateCount s) b (eliminatedWith (read s) (readLabels b))))

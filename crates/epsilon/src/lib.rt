@@ -5,7 +5,7 @@ ghost use mathlib.Core.List.{[], _∷_, _++_, flatMap};
 ghost use mathlib.Core.Path.{_≡_};
 ghost use Prim.Native.Nat.{_+_, _≤_, _<_};
 ghost use lib.ListN.{length};
-ghost use Rattle.lists.specs.Written.{Written};
+ghost use Rattle.stores.specs.Written.{Written};
 ghost use Rattle.automata.specs.Automaton.{states};
 ghost use Rattle.automata.specs.Records.{readRecords};
 ghost use Rattle.automata.specs.inner.Records.{recordAt};
@@ -13,12 +13,13 @@ ghost use Rattle.labels.specs.Labels.{labelsFault, readLabels};
 ghost use Rattle.output.specs.inner.Gathering.{Memory, Open, Gathered, Collected};
 ghost use Rattle.output.specs.Made.{outputOf};
 ghost use Rattle.output.specs.inner.Ordered.{recordsIn};
-ghost use Rattle.output.specs.Output.{outputs, roomFirst, labelsFirst};
+ghost use Rattle.output.specs.Output.{outputs, labelsFirst, sheetSize};
 ghost use Rattle.sets.specs.inner.BitSet.{setAt};
 ghost use Rattle.sets.specs.inner.Members.{Canon};
 ghost use Rattle.sheets.specs.inner.Accepted.{Accepted};
 ghost use Rattle.sheets.specs.inner.Runs.{Indexed};
 ghost use Rattle.sheets.specs.Sheet.{stateCount, read, write};
+ghost use Rattle.words.specs.inner.Epsilons.{Fresh};
 ghost use Rattle.words.specs.inner.Gather.{Tables};
 ghost use Rattle.words.specs.Simulation.{closure, kindOf};
 ghost use Rattle.epsilon.specs.Eliminate.{movedTo, rangesFrom, closureRanges, closureKinds, eliminated, eliminatedWith, eliminateAnswer};
@@ -157,7 +158,7 @@ fn put_accepts(s: &[u32], closures: &[u64], out: &mut [u32], at: usize) -> usize
     let mut p: u32 = 0;
     while p < n {
         let kind = closure_kind(s, closures, p);
-        end = output::put_word(out, end, kind);
+        end = stores::put_word(out, end, kind);
         p += 1;
     }
     end
@@ -165,13 +166,13 @@ fn put_accepts(s: &[u32], closures: &[u64], out: &mut [u32], at: usize) -> usize
 
 // The sheet whose records are these words; its length.
 fn put_sheet(s: &[u32], closures: &[u64], records: &[u32], out: &mut [u32]) -> usize
-    requires { ⌜ ClosuresOf (now s) (now closures) × TransitionsOf (now s) (now records) × (10500 ≤ length (now out)) ⌝ }
+    requires { ⌜ ClosuresOf (now s) (now closures) × TransitionsOf (now s) (now records) × (sheetSize ≤ length (now out)) ⌝ }
     ensures { λ r. ⌜ Written (now (out .entry)) 0 (write (eliminated (read (now (s .entry))))) (now (out .exit)) r ⌝ }
 {
     let first = output::put_start(out, s[1], s[2]);
     let count = put_accepts(s, closures, out, first);
-    let behind = output::put_word(out, count, (records.len() / 5) as u32);
-    output::put_words(out, behind, records)
+    let behind = stores::put_word(out, count, (records.len() / 5) as u32);
+    stores::put_words(out, behind, records)
 }
 
 // The sheet whose records are these words, with its labels.
@@ -213,7 +214,7 @@ fn eliminate_large(
 }
 
 // The same; memory for 128 transitions is tried first, and where it is too small the call is made again. Met is how many words of transitions were met
-// there, or 0. The compiler does not take a function with a large array into one that calls itself, so few transitions do not pay for the large memory.
+// there, or at first those that the sheet has, so that a long sheet takes the large memory at once. The compiler does not take a function with a large array into one that calls itself, so few transitions do not pay for the large memory.
 fn eliminate_tables(
     s: &[u32],
     starts: &[u32],
@@ -238,16 +239,46 @@ fn eliminate_tables(
     put_result(s, closures, &buf[0..end], labels, out, names)
 }
 
-// Eliminates the epsilons of an accepted sheet with an accepted list of labels.
-fn eliminate_accepted(s: &[u32], labels: &[u8], out: &mut [u32], names: &mut [u8]) -> Made
+// Eliminates the epsilons of an accepted sheet with an accepted list of labels. Where the runs begin and the closures are
+// put into tables that have an entry and a zeroed row for each state.
+fn eliminate_in(
+    s: &[u32],
+    starts: &mut [u32],
+    closures: &mut [u64],
+    labels: &[u8],
+    out: &mut [u32],
+    names: &mut [u8],
+) -> Made
+    requires { ⌜ (stateCount (now s) < length (now starts)) × Fresh (stateCount (now s)) (now closures) × EliminationInputs (now s) (now out) (now names) × (labelsFault (stateCount (now s)) (now labels) ≡ 0) ⌝ }
+    ensures { λ r. ⌜ outputOf r (now (out .exit)) (now (names .exit)) ≡ outputs (now (out .entry)) (now (names .entry)) (eliminatedWith (read (now (s .entry))) (readLabels (now (labels .entry)))) ⌝ }
+{
+    sheets::run_starts(s, starts);
+    words::state_closures(s, closures);
+    let given = s.len() - s[2] as usize;
+    eliminate_tables(s, starts, closures, labels, out, names, given)
+}
+
+// The same with tables for as many states as a sheet may have.
+fn eliminate_many_states(s: &[u32], labels: &[u8], out: &mut [u32], names: &mut [u8]) -> Made
     requires { ⌜ EliminationInputs (now s) (now out) (now names) × (labelsFault (stateCount (now s)) (now labels) ≡ 0) ⌝ }
     ensures { λ r. ⌜ outputOf r (now (out .exit)) (now (names .exit)) ≡ outputs (now (out .entry)) (now (names .entry)) (eliminatedWith (read (now (s .entry))) (readLabels (now (labels .entry)))) ⌝ }
 {
     let mut starts = [0u32; 257];
     let mut closures = [0u64; 1024];
-    sheets::run_starts(s, &mut starts);
-    words::state_closures(s, &mut closures);
-    eliminate_tables(s, &starts, &closures, labels, out, names, 0)
+    eliminate_in(s, &mut starts, &mut closures, labels, out, names)
+}
+
+// The same with tables for 32 states where they are enough.
+fn eliminate_accepted(s: &[u32], labels: &[u8], out: &mut [u32], names: &mut [u8]) -> Made
+    requires { ⌜ EliminationInputs (now s) (now out) (now names) × (labelsFault (stateCount (now s)) (now labels) ≡ 0) ⌝ }
+    ensures { λ r. ⌜ outputOf r (now (out .exit)) (now (names .exit)) ≡ outputs (now (out .entry)) (now (names .entry)) (eliminatedWith (read (now (s .entry))) (readLabels (now (labels .entry)))) ⌝ }
+{
+    if 32 < s[2] {
+        return eliminate_many_states(s, labels, out, names);
+    }
+    let mut starts = [0u32; 33];
+    let mut closures = [0u64; 128];
+    eliminate_in(s, &mut starts, &mut closures, labels, out, names)
 }
 
 // Eliminates the epsilons of an accepted sheet.
@@ -263,7 +294,7 @@ fn eliminate_checked(s: &[u32], labels: &[u8], out: &mut [u32], names: &mut [u8]
 
 // The same states and start, each with the ranges and the acceptance of its closure; the labels are kept.
 pub fn epsilon_eliminate(s: &[u32], labels: &[u8], out: &mut [u32], names: &mut [u8]) -> Made
-    ensures { λ r. ⌜ outputOf r (now (out .exit)) (now (names .exit)) ≡ outputs (now (out .entry)) (now (names .entry)) (roomFirst (now (out .entry)) (now (names .entry)) (eliminateAnswer (now (s .entry)) (now (labels .entry)))) ⌝ }
+    ensures { λ r. ⌜ outputOf r (now (out .exit)) (now (names .exit)) ≡ outputs (now (out .entry)) (now (names .entry)) (eliminateAnswer (now (s .entry)) (now (labels .entry)) (now (out .entry)) (now (names .entry))) ⌝ }
 {
     if output::lacks_room(out, names) {
         return Made::Refused(Refusal::State(StateRefusal::OutputLength));

@@ -1,143 +1,71 @@
--- The determinizations of two sheets, and the verdict on them. Assumes nothing.
-use Prim.Native.Nat.{ℕ, _+_, _≤_, _<_}
-use mathlib.Core.List.{List, _++_}
-use mathlib.Core.Path.{_≡_, refl, sym, ap, subst, _∙_}
-use native.Mathlib.Omega.{arith}
+-- The verdict on the determinizations of two sheets. Assumes nothing.
+use Prim.Native.Nat.{ℕ, _≤_, _<_}
+use mathlib.Core.List.{List}
+use mathlib.Core.Path.{_≡_, refl, sym, subst, _∙_}
 use borrow.Author.Needs.{needs}
 use borrow.Author.Tests.{lt-ltb, le-ltb}
-use lib.ListN.{length, take, drop}
-use lib.Seq.{sets, sets-eq, length-sets, take-append-seam, length-take-le}
-use Rattle.automata.specs.Automaton.{Automaton}
+use lib.ListN.{length, take}
+use lib.Seq.{length-take-le}
 use Rattle.refusal.specs.declared.InputRefusal.{InputRefusal}
 use Rattle.refusal.specs.declared.StateRefusal.{StateRefusal}
 use Rattle.refusal.specs.declared.StateRefusal.the-variants.{OutputLength}
 use Rattle.refusal.specs.declared.Refusal.{Refusal}
 use Rattle.refusal.specs.declared.Refusal.the-variants.{Input, State}
-use Rattle.refusal.specs.Answer.{Answer, refused, given}
+use Rattle.refusal.specs.Answer.{Answer, refused}
 use Rattle.refusal.specs.Number.{stateNumber, numberOf}
 use Rattle.sheets.specs.declared.Checked.{Checked}
 use Rattle.sheets.specs.declared.Checked.the-variants as checked
-use Rattle.sheets.specs.inner.Accepted.{Accepted}
 use Rattle.sheets.specs.Checked.{checkedNumber}
 use Rattle.sheets.specs.Fault.{fault}
-use Rattle.sheets.specs.Sheet.{read, write}
-use Rattle.sheets.proofs.Accepted.{accepted, check-accepted}
+use Rattle.sheets.specs.Sheet.{read}
+use Rattle.sheets.proofs.Accepted.{check-accepted}
 use Rattle.sheets.proofs.Checking.{sheet-passed, sheet-refused}
-use Rattle.sheets.proofs.Meaning.{read-well}
-use Rattle.determinize.specs.declared.Determinized.{Determinized}
-use Rattle.determinize.specs.declared.Determinized.the-variants.{Sheet}
-use Rattle.determinize.specs.declared.Determinized.the-variants as outcome
-use Rattle.automata.specs.Deterministic.{Deterministic}
-use Rattle.determinize.specs.Determinize.{determinize}
-use Rattle.determinize.specs.inner.Sheets.{SheetSize, SheetOutput, sheetOutput, determinizedOf}
-use Rattle.determinize.proofs.Theorems.{determinize-deterministic, determinize-written, determinize-read, determinize-room}
+use Rattle.determinizations.specs.Two.{Two}
+use Rattle.determinizations.specs.declared.Both.{Both}
+use Rattle.determinizations.specs.declared.Both.the-variants as both
+use Rattle.determinizations.specs.Determinizations.{determinized}
+use Rattle.determinizations.specs.inner.Sheets.{twoOf, FrontsDeterminized, BothDeterminized}
 use Rattle.equality.specs.declared.Verdict.{Verdict}
 use Rattle.equality.specs.declared.Verdict.the-variants.{Refused}
-use Rattle.equality.specs.Forced.{Two}
 use Rattle.equality.specs.Verdict.{Decided}
-use Rattle.equality.specs.Equality.{withSecond, withFirst, determinized, equalityAnswer, Judged}
-use Rattle.equality.specs.inner.Code.{twoOf}
-
--- the sheet d is the determinization of the sheet s
-pub record Determinizes (lower upper : ℕ) (s d : List ℕ) : Type 0 where
-  pub is : determinize lower upper (read s) ≡ given (read d)
-  pub good : Accepted d
-  pub one : Deterministic lower upper (read d)
-
--- the answer of `determinize_accepted`, with the output before and after
-module _ (lower upper : ℕ) (s old new : List ℕ) (r : Determinized) (e : determinizedOf r new ≡ sheetOutput old (determinize lower upper (read s))) where
-  pub refused-number : (k : StateRefusal) → r ≡ outcome.Refused k → determinize lower upper (read s) ≡ refused (stateNumber k)
-  unfolding sheetOutput
-  refused-number k q = by-answer (determinize lower upper (read s)) refl
-    where
-      by-answer : (x : Answer Automaton) → determinize lower upper (read s) ≡ x → x ≡ refused (stateNumber k)
-      by-answer (refused n) h =
-          let z : determinizedOf (outcome.Refused k) new ≡ sheetOutput old (refused n) = ap (λ (r : Determinized). determinizedOf r new) (sym q) ∙ e ∙ ap (sheetOutput old) h in
-          let y = ap (λ (o : SheetOutput). o .answer) z in
-          let n-is : stateNumber k ≡ n = cc in
-          ap refused (sym n-is)
-      by-answer (given D) h =
-          let z : determinizedOf (outcome.Refused k) new ≡ sheetOutput old (given D) = ap (λ (r : Determinized). determinizedOf r new) (sym q) ∙ e ∙ ap (sheetOutput old) h in
-          let y = ap (λ (o : SheetOutput). o .answer) z in
-          absurd (let w : _≡_ {A = ℕ} 0 1 = cc in omega arith)
-
-  module _ (n m : ℕ) (q : r ≡ Sheet n m) where
-    record Stored (D : Automaton) : Type 0 where
-      is-n : n ≡ length (write D)
-      is-new : new ≡ sets old 0 (write D)
-
-    stored : (D : Automaton) → determinize lower upper (read s) ≡ given D → Stored D
-    unfolding sheetOutput
-    stored D h =
-        let z : determinizedOf (Sheet n m) new ≡ sheetOutput old (given D) = ap (λ (r : Determinized). determinizedOf r new) (sym q) ∙ e ∙ ap (sheetOutput old) h in
-        let y = ap (λ (o : SheetOutput). o .answer) z in
-        let v : _≡_ {A = SheetSize} (record { words = n; states = m }) (record { words = length (write D); states = D .size }) = cc in
-        record { is-n = ap (λ (x : SheetSize). x .words) v; is-new = ap (λ (o : SheetOutput). o .sheet) z }
-
-    some : (D : Automaton) × (determinize lower upper (read s) ≡ given D)
-    unfolding sheetOutput
-    some = by-answer (determinize lower upper (read s)) refl
-      where
-        by-answer : (x : Answer Automaton) → determinize lower upper (read s) ≡ x → (D : Automaton) × (determinize lower upper (read s) ≡ given D)
-        by-answer (given D) h = (D, h)
-        by-answer (refused k) h =
-            let z : determinizedOf (Sheet n m) new ≡ sheetOutput old (refused k) = ap (λ (r : Determinized). determinizedOf r new) (sym q) ∙ e ∙ ap (sheetOutput old) h in
-            let y = ap (λ (o : SheetOutput). o .answer) z in
-            absurd (let w : _≡_ {A = ℕ} 0 1 = cc in omega arith)
-
-    module _ (good : Accepted s) (long : length old ≡ 10500) where
-      abbrev D : Automaton
-      D = some .0
-
-      is-d : determinize lower upper (read s) ≡ given D
-      is-d = some .1
-
-      front : take n new ≡ write D
-      front =
-          let t = stored D is-d in
-          let l = determinize-room lower upper (read s) (read-well s good .states) D is-d (read-well s good) in
-          ap (take n) (t .is-new ∙ sets-eq (write D) old 0 (omega arith)) ∙ ap (λ (k : ℕ). take k (write D ++ drop (0 + length (write D)) old)) (t .is-n) ∙ take-append-seam (write D) _
-
-      pub part-length : length new ≡ 10500
-      part-length = ap length (stored D is-d .is-new) ∙ length-sets old 0 (write D) ∙ long
-
-      pub part-within : n ≤ length new
-      part-within = let l = determinize-room lower upper (read s) (read-well s good .states) D is-d (read-well s good) in omega (arith, stored D is-d .is-n, part-length)
-
-      pub part-count : n ≡ length (take n new)
-      part-count = sym (length-take-le n new part-within)
-
-      pub part-determinizes : Determinizes lower upper s (take n new)
-      part-determinizes =
-          let w = read-well s good in
-          let k = determinize-read lower upper (read s) (w .states) D is-d w in
-          subst (Determinizes lower upper s) (sym front) (record {
-            is = is-d ∙ ap given (sym k);
-            good = accepted (write D) (determinize-written lower upper (read s) (w .states) D is-d w);
-            one = subst (Deterministic lower upper) (sym k) (determinize-deterministic lower upper (read s) (w .states) D is-d);
-          })
+use Rattle.equality.specs.Equality.{equalityAnswer, Judged}
+use Rattle.equality.specs.inner.Code.{WalkInput}
 
 judged-refused : (o : List ℕ) (r : Refusal) → Judged (refused (numberOf r)) o o (Refused r)
 unfolding Judged
 judged-refused o r = (refl, refl)
 
-module _ (d b o : List ℕ) (lower upper : ℕ) where
-  pub second-refused : (k : StateRefusal) → determinize lower upper (read b) ≡ refused (stateNumber k) → Judged (withSecond lower upper (read d) (determinize lower upper (read b))) o o (Refused (State k))
-  unfolding withSecond
-  second-refused k e = subst (λ (x : Answer Automaton). Judged (withSecond lower upper (read d) x) o o (Refused (State k))) (sym e) (judged-refused o (State k))
+-- the answer of `determinize_both`, with the outputs p and q afterwards
+module _ (lower upper : ℕ) (a b p q : List ℕ) (r : Both) (is-r : BothDeterminized lower upper (read a) (read b) p q r) where
+  pub both-refused : (k : StateRefusal) → r ≡ both.Refused k → (o : List ℕ) → Judged (determinized lower upper (read a) (read b)) o o (Refused (State k))
+  both-refused k e o =
+      let d : determinized lower upper (read a) (read b) ≡ refused (stateNumber k) = subst (BothDeterminized lower upper (read a) (read b) p q) e is-r in
+      subst (λ (x : Answer Two). Judged x o o (Refused (State k))) (sym d) (judged-refused o (State k))
 
-  pub second-given : (e : List ℕ) → Determinizes lower upper b e → (o′ : List ℕ) (r : Verdict) → Decided (twoOf d e lower upper) o o′ r → Judged (withSecond lower upper (read d) (determinize lower upper (read b))) o o′ r
-  unfolding Judged withSecond
-  second-given e s o′ r h = subst (λ (x : Answer Automaton). Judged (withSecond lower upper (read d) x) o o′ r) (sym (s .is)) h
+  module _ (m n : ℕ) (e : r ≡ both.Lengths m n) where
+    fronts : FrontsDeterminized lower upper (read a) (read b) p q m n
+    fronts = subst (BothDeterminized lower upper (read a) (read b) p q) e is-r
 
-module _ (a b o : List ℕ) (lower upper : ℕ) where
-  pub first-refused : (k : StateRefusal) → determinize lower upper (read a) ≡ refused (stateNumber k) → Judged (determinized lower upper (read a) (read b)) o o (Refused (State k))
-  unfolding determinized withFirst
-  first-refused k e = subst (λ (x : Answer Automaton). Judged (withFirst lower upper x (determinize lower upper (read b))) o o (Refused (State k))) (sym e) (judged-refused o (State k))
+    pub first-within : m ≤ length p
+    first-within = fronts .first-in
 
-  pub first-given : (d : List ℕ) → Determinizes lower upper a d → (o′ : List ℕ) (r : Verdict) → Judged (withSecond lower upper (read d) (determinize lower upper (read b))) o o′ r → Judged (determinized lower upper (read a) (read b)) o o′ r
-  unfolding determinized withFirst
-  first-given d s o′ r h = subst (λ (x : Answer Automaton). Judged (withFirst lower upper x (determinize lower upper (read b))) o o′ r) (sym (s .is)) h
+    pub second-within : n ≤ length q
+    second-within = fronts .second-in
+
+    pub first-count : m ≡ length (take m p)
+    first-count = sym (length-take-le m p first-within)
+
+    pub second-count : n ≡ length (take n q)
+    second-count = sym (length-take-le n q second-within)
+
+    pub both-walkable : (o : List ℕ) → 510 ≤ length o → WalkInput (take m p) (take n q) lower upper o
+    both-walkable o room = record { sheets = fronts .sheets; room = room }
+
+    pub both-judged : (o o′ : List ℕ) (v : Verdict) → Decided (twoOf (take m p) (take n q) lower upper) o o′ v → Judged (determinized lower upper (read a) (read b)) o o′ v
+    unfolding Judged
+    both-judged o o′ v h = subst (λ (x : Answer Two). Judged x o o′ v) (sym (fronts .are)) h
+
+pub ruleset determinizedLaws = (both-refused, first-within, second-within, first-count, second-count, both-walkable, both-judged, needs)
 
 module _ (lower upper : ℕ) (a b o : List ℕ) where
   pub word-short : length o < 510 → Judged (equalityAnswer lower upper a b o) o o (Refused (State OutputLength))

@@ -10,7 +10,8 @@ use borrow.Author.Tests.{lt-ltb, le-ltb, ltb-true, ltb-false}
 use Rattle.automata.specs.Automaton.{Automaton, Word, none, more, InBounds, acceptOf}
 use Rattle.automata.specs.Deterministic.{Deterministic}
 use Rattle.automata.specs.Successors.{successor, stateAfter, acceptAfter}
-use Rattle.equality.specs.Forced.{Two, Symbol, totalSize, left, right, successorIn, JoinsSuccessors, Forced, starts, follow, reflexive, symmetric, transitive}
+use Rattle.determinizations.specs.Two.{Two, Symbol, totalSize}
+use Rattle.equality.specs.Forced.{left, right, successorIn, JoinsSuccessors, Forced, starts, follow, reflexive, symmetric, transitive}
 use Rattle.automata.proofs.Successors.{next-inside}
 
 unfoldable pub acceptIn : Two → ℕ → ℕ

@@ -11,20 +11,20 @@ use Rattle.automata.specs.Automaton.{Transition}
 use Rattle.ranges.specs.declared.Common.{Common}
 use Rattle.ranges.specs.declared.Common.the-variants.{Range, Nothing}
 use Rattle.ranges.specs.Span.{Span, intersectRanges, spanOf}
-use Rattle.equality.specs.declared.pairs.First.the-variants as first
+use Rattle.equality.specs.declared.walk.First.the-variants as first
 use Rattle.equality.specs.inner.Code.{FirstOf}
 
 -- the answer of `intersect_ranges`
-module _ (f₁ l₁ f₂ l₂ : ℕ) (r : Common) (e : spanOf r ≡ intersectRanges (record { low = f₁; high = l₁ }) (record { low = f₂; high = l₂ })) where
+module _ (f₁ l₁ f₂ l₂ : ℕ) (r : Common) (e : spanOf r ≡ intersectRanges (record { first = f₁; last = l₁ }) (record { first = f₂; last = l₂ })) where
   shared : (f l : ℕ) → r ≡ Range f l → (f ≡ max f₁ f₂) × (l ≡ min l₁ l₂) × (f ≤ l)
   unfolding intersectRanges
   shared f l k = by-test (leb (max f₁ f₂) (min l₁ l₂)) refl (sym (ap spanOf k) ∙ e)
     where
-      by-test : (b : Bool) → leb (max f₁ f₂) (min l₁ l₂) ≡ b → _≡_ {A = Option Span} (some (record { low = f; high = l })) (cond b (some (record { low = max f₁ f₂; high = min l₁ l₂ })) none) → (f ≡ max f₁ f₂) × (l ≡ min l₁ l₂) × (f ≤ l)
+      by-test : (b : Bool) → leb (max f₁ f₂) (min l₁ l₂) ≡ b → _≡_ {A = Option Span} (some (record { first = f; last = l })) (cond b (some (record { first = max f₁ f₂; last = min l₁ l₂ })) none) → (f ≡ max f₁ f₂) × (l ≡ min l₁ l₂) × (f ≤ l)
       by-test true t q =
-          let s : _≡_ {A = Span} (record { low = f; high = l }) (record { low = max f₁ f₂; high = min l₁ l₂ }) = cc in
-          let a = ap (λ (s : Span). s .low) s in
-          let b = ap (λ (s : Span). s .high) s in
+          let s : _≡_ {A = Span} (record { first = f; last = l }) (record { first = max f₁ f₂; last = min l₁ l₂ }) = cc in
+          let a = ap (λ (s : Span). s .first) s in
+          let b = ap (λ (s : Span). s .last) s in
           (a, b, omega (arith, leb-true (max f₁ f₂) (min l₁ l₂) t))
       by-test false t q = absurd (let z : _≡_ {A = ℕ} 0 1 = cc in omega arith)
 
@@ -32,15 +32,15 @@ module _ (f₁ l₁ f₂ l₂ : ℕ) (r : Common) (e : spanOf r ≡ intersectRan
   unfolding intersectRanges
   apart k = by-test (leb (max f₁ f₂) (min l₁ l₂)) refl (sym (ap spanOf k) ∙ e)
     where
-      by-test : (b : Bool) → leb (max f₁ f₂) (min l₁ l₂) ≡ b → _≡_ {A = Option Span} none (cond b (some (record { low = max f₁ f₂; high = min l₁ l₂ })) none) → min l₁ l₂ < max f₁ f₂
+      by-test : (b : Bool) → leb (max f₁ f₂) (min l₁ l₂) ≡ b → _≡_ {A = Option Span} none (cond b (some (record { first = max f₁ f₂; last = min l₁ l₂ })) none) → min l₁ l₂ < max f₁ f₂
       by-test true t q = absurd (let z : _≡_ {A = ℕ} 0 1 = cc in omega arith)
       by-test false t q = leb-false (max f₁ f₂) (min l₁ l₂) t
 
-module _ (d e : Transition) (lower upper : ℕ) (r : Common) (is-r : spanOf r ≡ intersectRanges (record { low = d .first; high = d .last }) (record { low = e .first; high = e .last })) where
+module _ (d e : Transition) (lower upper : ℕ) (r : Common) (is-r : spanOf r ≡ intersectRanges (record { first = d .first; last = d .last }) (record { first = e .first; last = e .last })) where
   pub common-none : r ≡ Nothing → FirstOf d e lower upper first.Nothing
   common-none k x c = let n = apart _ _ _ _ r is-r k in omega (arith, c .first-one, c .last-one, c .first-two, c .last-two)
 
-  module _ (f l : ℕ) (k : r ≡ Range f l) (q : Common) (is-q : spanOf q ≡ intersectRanges (record { low = f; high = l }) (record { low = lower; high = upper })) where
+  module _ (f l : ℕ) (k : r ≡ Range f l) (q : Common) (is-q : spanOf q ≡ intersectRanges (record { first = f; last = l }) (record { first = lower; last = upper })) where
     pub common-outside : q ≡ Nothing → FirstOf d e lower upper first.Nothing
     common-outside n x c =
         let s = shared _ _ _ _ r is-r f l k in

@@ -8,11 +8,12 @@ use lib.ListN.{length, getD, set, take, drop, length-set}
 use lib.Seq.{drop-cons, getD-set-same, drop-set-lt, length-take-le}
 use Rattle.automata.specs.Automaton.{Word, none, more, acceptOf}
 use Rattle.automata.specs.Successors.{successor, stateAfter}
-use Rattle.equality.specs.Forced.{Two, Symbol}
-use Rattle.equality.specs.inner.Walking.{Queue, Trail, trail, Walking, Chained, Leads, here, back, Spelled}
+use Rattle.determinizations.specs.Two.{Two, Symbol}
+use Rattle.pairs.specs.inner.Pairs.{Pairs, oneAt, twoAt}
+use Rattle.equality.specs.inner.Walking.{Trail, trailOf, WalkedPairs, Chained, Leads, here, back, Spelled}
 use Rattle.equality.specs.Verdict.{Apart}
 use Rattle.equality.proofs.Forced.{Total}
-use Rattle.equality.proofs.Queue.{short}
+use Rattle.equality.proofs.WalkedPairs.{short}
 
 -- while it is written: the word from pair c on stands from at to n
 pub record Spelling (r : Trail) (i x n : ℕ) (o₀ o : List ℕ) (at c : ℕ) : Type 0 where
@@ -93,30 +94,30 @@ module _ (r : Trail) (i x : ℕ) where
         c-none = by-place (ℕ-discrete c 0)
 
 -- the walk's trail is one
-pub chained : {t : Two} {f : ℕ → ℕ} {r : Queue} {made i : ℕ} → Walking t f r made → i < made → Chained (trail r) i
-chained w i-in = record {
-  at-top = w .at-top;
-  earlier = λ c h z. w .met c (omega arith) z .earlier;
-  deeper = λ c h z. w .met c (omega arith) z .deeper;
-  shallow = λ c h. w .shallow c (omega arith);
+pub chained : {t : Two} {w : Pairs} {l : List ℕ} {i : ℕ} → WalkedPairs t w l → i < w .made → Chained (trailOf l) i
+chained v i-in = record {
+  at-top = v .at-top;
+  earlier = λ c h z. v .met c (omega arith) z .earlier;
+  deeper = λ c h z. v .met c (omega arith) z .deeper;
+  shallow = λ c h. v .shallow c (omega arith);
 }
 
--- the word leads both machines to the successors
-led : {t : Two} {f : ℕ → ℕ} {r : Queue} {made i x : ℕ} → Walking t f r made → i < made → Symbol t x → {c : ℕ} {v : List ℕ} → Leads (trail r) i x c v → Word (t .lower) (t .upper) v × (stateAfter (t .one) (r .one c) v ≡ successor (t .one) (r .one i) x) × (stateAfter (t .two) (r .two c) v ≡ successor (t .two) (r .two i) x)
+-- the word leads both automata to the successors
+led : {t : Two} {w : Pairs} {l : List ℕ} {i x : ℕ} → WalkedPairs t w l → i < w .made → Symbol t x → {c : ℕ} {v : List ℕ} → Leads (trailOf l) i x c v → Word (t .lower) (t .upper) v × (stateAfter (t .one) (oneAt w c) v ≡ successor (t .one) (oneAt w i) x) × (stateAfter (t .two) (twoAt w c) v ≡ successor (t .two) (twoAt w i) x)
 unfolding stateAfter
-led w i-in s here = (more (s .0) (s .1) none, refl, refl)
-led {t} w i-in s (back {c = c} {v = v} z h l) =
-    let m = w .met c (omega arith) z in
-    let ih = led w i-in s l in
+led p i-in s here = (more (s .0) (s .1) none, refl, refl)
+led {t} p i-in s (back {c = c} {v = v} z h l) =
+    let m = p .met c (omega arith) z in
+    let ih = led p i-in s l in
     (more (m .symbol .0) (m .symbol .1) (ih .0), ap (λ (p : ℕ). stateAfter (t .one) p v) (sym (m .next-one)) ∙ ih .1, ap (λ (p : ℕ). stateAfter (t .two) p v) (sym (m .next-two)) ∙ ih .2)
 
 -- a difference: the word written is accepted by exactly one, and short
-module _ (t : Two) (total : Total t) (f : ℕ → ℕ) (r : Queue) (made : ℕ) (w : Walking t f r made) (i x : ℕ) (i-in : i < made) (x-in : Symbol t x) (differ : acceptOf (t .one) (successor (t .one) (r .one i) x) ≡ acceptOf (t .two) (successor (t .two) (r .two i) x) → ⊥) where
-  pub differs : (n : ℕ) (o o′ : List ℕ) → Spelled (trail r) i x n o o′ → Apart t (take n o′)
+module _ (t : Two) (total : Total t) (w : Pairs) (l : List ℕ) (p : WalkedPairs t w l) (i x : ℕ) (i-in : i < w .made) (x-in : Symbol t x) (differ : acceptOf (t .one) (successor (t .one) (oneAt w i) x) ≡ acceptOf (t .two) (successor (t .two) (twoAt w i) x) → ⊥) where
+  pub differs : (n : ℕ) (o o′ : List ℕ) → Spelled (trailOf l) i x n o o′ → Apart t (take n o′)
   differs n o o′ s =
-      let l = led w i-in x-in (s .leads) in
+      let d = led p i-in x-in (s .leads) in
       record {
-        word = l .0;
-        short = omega (arith, length-take-le n o′ (s .within), s .is-n, short t total f r made w i x i-in x-in differ);
-        differ = λ e. differ (ap (acceptOf (t .one)) (sym (l .1) ∙ ap (λ (p : ℕ). stateAfter (t .one) p (take n o′)) (w .at-one)) ∙ e ∙ ap (acceptOf (t .two)) (ap (λ (p : ℕ). stateAfter (t .two) p (take n o′)) (sym (w .at-two)) ∙ l .2));
+        word = d .0;
+        short = omega (arith, length-take-le n o′ (s .within), s .is-n, short t total w l p i x i-in x-in differ);
+        differ = λ e. differ (ap (acceptOf (t .one)) (sym (d .1) ∙ ap (λ (p : ℕ). stateAfter (t .one) p (take n o′)) (p .at-one)) ∙ e ∙ ap (acceptOf (t .two)) (ap (λ (p : ℕ). stateAfter (t .two) p (take n o′)) (sym (p .at-two)) ∙ d .2));
       }

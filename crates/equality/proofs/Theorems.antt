@@ -26,13 +26,16 @@ use Rattle.sheets.proofs.Meaning.{read-well}
 use Rattle.determinize.specs.Determinize.{determinize}
 use Rattle.determinize.specs.Reached.{MoreThan}
 use Rattle.determinize.proofs.Theorems.{determinize-given}
+use Rattle.determinizations.specs.Two.{Two, totalSize}
+use Rattle.determinizations.specs.Determinizations.{determinized, Overfull, Limits}
+use Rattle.determinizations.proofs.Theorems.{determinized-both, determinized-parts, determinized-21, determinized-22}
 use Rattle.dsu.specs.Classes.{Classes}
 use Rattle.dsu.proofs.Classes.{classes-unique}
 use Rattle.equality.specs.declared.Verdict.{Verdict}
-use Rattle.equality.specs.Forced.{Two, totalSize, Forced, Smallest}
-use Rattle.equality.specs.Equality.{withSecond, withFirst, determinized, wordSize, equalityAnswer, Judged, Clear, verdictNumber, Overfull, Limits, Exact}
+use Rattle.equality.specs.Forced.{Forced, Smallest}
+use Rattle.equality.specs.Equality.{wordSize, equalityAnswer, Judged, Clear, verdictNumber, Exact}
 use Rattle.equality.proofs.Exact.{smallest-two, decided-exact}
-use Rattle.equality.proofs.Refusals.{judged-number, judged-given, judged-kept, both-given, both-21, both-22, compared-number, compared-20, compared-fault, compared-given}
+use Rattle.equality.proofs.Refusals.{judged-number, judged-given, judged-kept, sheet-bounds, compared-number, compared-20, compared-fault, compared-given}
 
 -- there is one number of classes
 pub classes-number : (t : Two) (j k : ℕ) → Classes (Forced t) (totalSize t) j → Classes (Forced t) (totalSize t) k → j ≡ k
@@ -48,16 +51,15 @@ module _ (lower upper : ℕ) (a b : List ℕ) (first : fault a ≡ 0) (second : 
 
   -- of their determinizations t the equivalence `Forced` is the smallest that joins the starts and, with two states, their successors under each symbol
   pub forced-smallest : (t : Two) → determinized lower upper (read a) (read b) ≡ given t → Smallest t (Forced t)
-  unfolding determinized
   forced-smallest t e =
-      let d = both-given lower upper (determinize lower upper (read a)) (determinize lower upper (read b)) t e in
-      subst (λ (u : Two). Smallest u (Forced u)) (sym (d .4)) (smallest-two lower upper (read a) (read b) well-a well-b (d .0) (d .1) (d .2) (d .3))
+      let d = determinized-parts lower upper (read a) (read b) t e in
+      subst (λ (u : Two). Smallest u (Forced u)) (sym (d .are)) (smallest-two lower upper (read a) (read b) well-a well-b (t .one) (t .two) (d .first) (d .second))
 
   -- a buffer o of 510 words or more, and the buffer o′ after the verdict r, which meets the contract of `equality`
   module _ (o o′ : List ℕ) (r : Verdict) (room : wordSize ≤ length o) (judged : Judged (equalityAnswer lower upper a b o) o o′ r) where
     compared-both : (D E : Automaton) → determinize lower upper (read a) ≡ given D → determinize lower upper (read b) ≡ given E → equalityAnswer lower upper a b o ≡ given (record { one = D; two = E; lower = lower; upper = upper })
-    unfolding equalityAnswer sheetFirst determinized withFirst withSecond
-    compared-both D E d e = rw (le-ltb (length o) 510 room, first, second, d, e)
+    unfolding equalityAnswer sheetFirst
+    compared-both D E d e = rw (le-ltb (length o) 510 room, first, second) (determinized-both lower upper (read a) (read b) D E d e)
 
     -- demand 3 of the verdict, where D and E are the determinizations
     pub equality-exact : (D E : Automaton) → determinize lower upper (read a) ≡ given D → determinize lower upper (read b) ≡ given E
@@ -69,11 +71,10 @@ module _ (lower upper : ℕ) (a b : List ℕ) (first : fault a ≡ 0) (second : 
     -- the same where the determinizations are within the limits
     pub equality-within : Limits lower upper (read a) → Limits lower upper (read b)
         → (t : Two) × (determinized lower upper (read a) (read b) ≡ given t) × Exact lower upper (read a) (read b) t o o′ r
-    unfolding determinized withFirst withSecond
     equality-within la lb =
         let d = determinize-given lower upper (read a) (well-a .states) (la .0) (la .1) in
         let e = determinize-given lower upper (read b) (well-b .states) (lb .0) (lb .1) in
-        (record { one = d .0; two = e .0; lower = lower; upper = upper }, rw (d .1, e .1), equality-exact (d .0) (e .0) (d .1) (e .1))
+        (record { one = d .0; two = e .0; lower = lower; upper = upper }, determinized-both lower upper (read a) (read b) (d .0) (e .0) (d .1) (e .1), equality-exact (d .0) (e .0) (d .1) (e .1))
 
 -- any two lists of words and any buffer o, and the buffer o′ after the verdict r, which meets the contract of `equality`
 module _ (lower upper : ℕ) (a b o o′ : List ℕ) (r : Verdict) (judged : Judged (equalityAnswer lower upper a b o) o o′ r) where
@@ -93,8 +94,8 @@ module _ (lower upper : ℕ) (a b o o′ : List ℕ) (r : Verdict) (judged : Jud
   equality-21 =
       let n = number 21 (λ z. omega arith) in
       let k = compared-number lower upper a b o 21 (omega arith) (λ z. omega arith) in (
-        λ e. let (c, d) = k .0 (n .0 e) in (c, both-21 lower upper a b (c .first) (c .second) .0 d),
-        λ (c, m). n .1 (k .1 (c, both-21 lower upper a b (c .first) (c .second) .1 m)),
+        λ e. let (c, d) = k .0 (n .0 e) in (c, determinized-21 lower upper (read a) (read b) (sheet-bounds a (c .first)) (sheet-bounds b (c .second)) .0 d),
+        λ (c, m). n .1 (k .1 (c, determinized-21 lower upper (read a) (read b) (sheet-bounds a (c .first)) (sheet-bounds b (c .second)) .1 m)),
       )
 
   -- 22: the first determinization has over 2,048 transitions, or it is within the limits and the second has
@@ -102,8 +103,8 @@ module _ (lower upper : ℕ) (a b o o′ : List ℕ) (r : Verdict) (judged : Jud
   equality-22 =
       let n = number 22 (λ z. omega arith) in
       let k = compared-number lower upper a b o 22 (omega arith) (λ z. omega arith) in (
-        λ e. let (c, d) = k .0 (n .0 e) in (c, both-22 lower upper a b (c .first) (c .second) .0 d),
-        λ (c, m). n .1 (k .1 (c, both-22 lower upper a b (c .first) (c .second) .1 m)),
+        λ e. let (c, d) = k .0 (n .0 e) in (c, determinized-22 lower upper (read a) (read b) (sheet-bounds a (c .first)) (sheet-bounds b (c .second)) .0 d),
+        λ (c, m). n .1 (k .1 (c, determinized-22 lower upper (read a) (read b) (sheet-bounds a (c .first)) (sheet-bounds b (c .second)) .1 m)),
       )
 
   -- nothing is refused exactly where none of these holds

@@ -1,44 +1,32 @@
 -- Exact equality of two sheets (document 01, "Equality"): when it is refused, what holds of the verdict, and what demand 3 asks of it.
 use Prim.Native.Nat.{ℕ, _+_, _≤_}
-use mathlib.Core.Bool.{cond}
 use mathlib.Core.List.{List}
-use mathlib.Core.Logic.{_⊎_, _↔_}
+use mathlib.Core.Logic.{_↔_}
 use mathlib.Core.Path.{_≡_}
-use lib.Dec.{ltb}
 use lib.ListN.{length, take, drop}
-use Rattle.automata.specs.Automaton.{Automaton, Accepts, Word}
+use Rattle.automata.specs.Automaton.{Automaton, Word}
+use Rattle.automata.specs.SameWords.{SameWords, ExactlyOne}
 use Rattle.refusal.specs.Answer.{Answer, refused, given}
 use Rattle.refusal.specs.Number.{numberOf}
+use Rattle.refusal.specs.Outcome.{lengthFirst}
 use Rattle.sheets.specs.Checked.{sheetFirst}
 use Rattle.sheets.specs.Fault.{fault}
 use Rattle.sheets.specs.Sheet.{read}
-use Rattle.determinize.specs.Determinize.{determinize}
-use Rattle.determinize.specs.Reached.{MoreThan, MoreTransitions}
 use Rattle.dsu.specs.Classes.{Classes}
+use Rattle.determinizations.specs.Two.{Two, totalSize}
+use Rattle.determinizations.specs.Determinizations.{determinized}
 use Rattle.equality.specs.declared.Verdict.{Verdict}
 use Rattle.equality.specs.declared.Verdict.the-variants.{Same, Different, Refused}
-use Rattle.equality.specs.Forced.{Two, totalSize, Forced}
+use Rattle.equality.specs.Forced.{Forced}
 use Rattle.equality.specs.Verdict.{Decided}
 
 -- the fixed size of the buffer for the difference word
 abbrev pub wordSize : ℕ
 wordSize = 510
 
--- both determinizations, the first's refusals before the second's
-unfoldable pub withSecond : ℕ → ℕ → Automaton → Answer Automaton → Answer Two
-withSecond lower upper D (refused n) = refused n
-withSecond lower upper D (given E) = given (record { one = D; two = E; lower = lower; upper = upper })
-
-unfoldable pub withFirst : ℕ → ℕ → Answer Automaton → Answer Automaton → Answer Two
-withFirst lower upper (refused n) second = refused n
-withFirst lower upper (given D) second = withSecond lower upper D second
-
-unfoldable pub determinized : ℕ → ℕ → Automaton → Automaton → Answer Two
-determinized lower upper A B = withFirst lower upper (determinize lower upper A) (determinize lower upper B)
-
 -- the two automata that are walked, or the refusal: 20 where the buffer o is too short; the first sheet's faults, the second's; 21 and 22
 unfoldable pub equalityAnswer : ℕ → ℕ → List ℕ → List ℕ → List ℕ → Answer Two
-equalityAnswer lower upper a b o = cond (ltb (length o) wordSize) (refused 20) (sheetFirst a (sheetFirst b (determinized lower upper (read a) (read b))))
+equalityAnswer lower upper a b o = lengthFirst wordSize o (sheetFirst a (sheetFirst b (determinized lower upper (read a) (read b))))
 
 -- what holds of a verdict: after a refusal its number and an unchanged buffer, else what the walk decides
 unfoldable pub Judged : Answer Two → List ℕ → List ℕ → Verdict → Type 0
@@ -58,21 +46,6 @@ abbrev pub verdictNumber : Verdict → ℕ
 verdictNumber (Same joins) = 0
 verdictNumber (Different n) = 0
 verdictNumber (Refused r) = numberOf r
-
--- 22 of a determinization: it fits 256 states and has over 2,048 transitions
-abbrev pub Overfull : ℕ → ℕ → Automaton → Type 0
-Overfull lower upper A = (MoreThan 255 lower upper A → ⊥) × MoreTransitions 2048 lower upper A
-
--- a determinization fits 256 states and 2,048 transitions; the states are the nonempty sets that words reach, and the sink
-abbrev pub Limits : ℕ → ℕ → Automaton → Type 0
-Limits lower upper A = (MoreThan 255 lower upper A → ⊥) × (MoreTransitions 2048 lower upper A → ⊥)
-
--- every word of symbols from lower to upper is accepted by both or by neither
-abbrev pub SameWords : ℕ → ℕ → Automaton → Automaton → Type 0
-SameWords lower upper A B = (w : List ℕ) → Word lower upper w → Accepts A w ↔ Accepts B w
-
-abbrev pub ExactlyOne : Automaton → Automaton → List ℕ → Type 0
-ExactlyOne A B w = (Accepts A w × (Accepts B w → ⊥)) ⊎ ((Accepts A w → ⊥) × Accepts B w)
 
 -- n is the length of a word at the front of o′ that exactly one of A and B accepts; it is short, and nothing behind it was written
 pub record Differs (lower upper : ℕ) (A B : Automaton) (most : ℕ) (o o′ : List ℕ) (n : ℕ) : Type 0 where

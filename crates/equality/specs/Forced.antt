@@ -1,25 +1,12 @@
--- Two automata side by side, and the equivalence whose classes document 01 counts ("Equality"): the smallest that joins the
+-- The states of two automata side by side, and the equivalence whose classes document 01 counts ("Equality"): the smallest that joins the
 -- starts and, with two states, their successors under each symbol.
-use Prim.Native.Nat.{ℕ, _+_, _-_, _≤_, _<_}
+use Prim.Native.Nat.{ℕ, _+_, _-_, _<_}
 use mathlib.Core.Bool.{cond}
 use lib.Dec.{ltb}
-use Rattle.automata.specs.Automaton.{Automaton}
 use Rattle.automata.specs.Successors.{successor}
+use Rattle.determinizations.specs.Two.{Two, Symbol, totalSize}
 
--- two automata, and the least and the greatest symbol
-pub record Two : Type 0 where
-  pub one : Automaton
-  pub two : Automaton
-  pub lower : ℕ
-  pub upper : ℕ
-
-abbrev pub Symbol : Two → ℕ → Type 0
-Symbol t x = (t .lower ≤ x) × (x ≤ t .upper)
-
--- the states of both are counted as different states: those of the second after those of the first
-abbrev pub totalSize : Two → ℕ
-totalSize t = t .one .size + t .two .size
-
+-- the states of the second are numbered after those of the first
 abbrev pub left : Two → ℕ → ℕ
 left t p = p
 

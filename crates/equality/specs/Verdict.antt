@@ -5,10 +5,11 @@ use mathlib.Core.Path.{_≡_}
 use lib.ListN.{length, take, drop}
 use Rattle.automata.specs.Automaton.{Word}
 use Rattle.dsu.specs.Classes.{Classes}
+use Rattle.determinizations.specs.Two.{Two, totalSize}
 use Rattle.equality.specs.declared.Verdict.{Verdict}
 use Rattle.equality.specs.declared.Verdict.the-variants.{Same, Different, Refused}
 use Rattle.automata.specs.Successors.{acceptAfter}
-use Rattle.equality.specs.Forced.{Two, totalSize, Forced}
+use Rattle.equality.specs.Forced.{Forced}
 
 -- same: no word tells the two apart, and the joins are the states of both less the classes
 pub record Equal (t : Two) (joins : ℕ) : Type 0 where

@@ -4,15 +4,14 @@ ghost use lib.ListN.{length};
 ghost use Rattle.sheets.specs.inner.Accepted.{Accepted};
 ghost use Rattle.sheets.specs.Sheet.{read};
 ghost use Rattle.automata.specs.WellFormed.{lastSymbol};
-ghost use Rattle.automata.specs.Deterministic.{Deterministic};
-ghost use Rattle.determinize.specs.Determinize.{determinize};
-ghost use Rattle.equality.specs.Equality.{withSecond, determinized, equalityAnswer, Judged};
-use determinize::Determinized;
+ghost use Rattle.determinizations.specs.Determinizations.{determinized};
+ghost use Rattle.equality.specs.Equality.{equalityAnswer, Judged, wordSize};
+use determinizations::Both;
 use refusal::Refusal;
 use refusal::StateRefusal;
 use sheets::Checked;
 
-mod pairs;
+mod walk;
 
 // The verdict of exact equality: same with the joins made, different with the length of the word written, or refused.
 pub enum Verdict {
@@ -21,27 +20,16 @@ pub enum Verdict {
     Refused(Refusal),
 }
 
-// The sheet d of a determinization against the determinization of b.
-fn compare_second(d: &[u32], b: &[u32], lower: u32, upper: u32, word: &mut [u32]) -> Verdict
-    requires { ⌜ Accepted (now d) × Deterministic lower upper (read (now d)) × Accepted (now b) × (510 ≤ length (now word)) ⌝ }
-    ensures { λ r. ⌜ Judged (withSecond lower upper (read (now (d .entry))) (determinize lower upper (read (now (b .entry))))) (now (word .entry)) (now (word .exit)) r ⌝ }
-{
-    let mut out = [0u32; 10500];
-    match determinize::determinize_accepted(b, lower, upper, &mut out) {
-        Determinized::Sheet(n, _) => pairs::walk(d, &out[..n], lower, upper, word),
-        Determinized::Refused(r) => Verdict::Refused(Refusal::State(r)),
-    }
-}
-
-// The determinizations of two accepted sheets over the symbols from lower to upper.
+// The walk over the determinizations of two accepted sheets over the symbols from lower to upper.
 fn compare(a: &[u32], b: &[u32], lower: u32, upper: u32, word: &mut [u32]) -> Verdict
-    requires { ⌜ Accepted (now a) × Accepted (now b) × (510 ≤ length (now word)) ⌝ }
+    requires { ⌜ Accepted (now a) × Accepted (now b) × (wordSize ≤ length (now word)) ⌝ }
     ensures { λ r. ⌜ Judged (determinized lower upper (read (now (a .entry))) (read (now (b .entry)))) (now (word .entry)) (now (word .exit)) r ⌝ }
 {
-    let mut out = [0u32; 10500];
-    match determinize::determinize_accepted(a, lower, upper, &mut out) {
-        Determinized::Sheet(n, _) => compare_second(&out[..n], b, lower, upper, word),
-        Determinized::Refused(r) => Verdict::Refused(Refusal::State(r)),
+    let mut out_a = [0u32; 10500];
+    let mut out_b = [0u32; 10500];
+    match determinizations::determinize_both(a, b, lower, upper, &mut out_a, &mut out_b) {
+        Both::Lengths(m, n) => walk::walk(&out_a[..m], &out_b[..n], lower, upper, word),
+        Both::Refused(r) => Verdict::Refused(Refusal::State(r)),
     }
 }
 

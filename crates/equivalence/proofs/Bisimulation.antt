@@ -11,9 +11,9 @@ use lib.ListN.{getD}
 use Rattle.lists.proofs.Members.{map-in, map-out}
 use Rattle.automata.specs.Automaton.{Transition, Automaton, InBounds, leaving}
 use Rattle.dsu.proofs.Generated.{generated-into}
+use Rattle.pairs.specs.inner.Pairs.{Pairs, classes, oneAt, twoAt, ValidPairs}
 use Rattle.equivalence.specs.Triggers.{SameTrigger, First, TriggersWithin}
 use Rattle.equivalence.specs.Equivalent.{ReachedByTriggers, start, step, Alike}
-use Rattle.equivalence.specs.inner.Walking.{Pairs, classes, oneAt, twoAt, Good}
 use Rattle.equivalence.proofs.Triggers.{trigger-turn, trigger-chain, first-target, first-exists, within-self, within-chain}
 use Rattle.equivalence.proofs.Exact.{reached-in}
 
@@ -133,13 +133,13 @@ module _ (A B : Automaton) where
       b .joined d (shifted e) (subst (λ (l : List Transition). First l d) (sym (out-left p h)) x) (subst (λ (l : List Transition). First l (shifted e)) (sym (out-right q)) (first-shifted y)) (record { kind = s .kind; first = s .first; last = s .last })
 
   -- a finished walk
-  module _ (in-a : InBounds A) (in-b : InBounds B) (w : Pairs) (g : Good (A .size) w) (is-n : w .sets .n ≡ A .size + B .size) (started : classes w (A .start) ≡ classes w (A .size + B .start))
+  module _ (in-a : InBounds A) (in-b : InBounds B) (w : Pairs) (v : ValidPairs (A .size) w) (is-n : w .sets .n ≡ A .size + B .size) (started : classes w (A .start) ≡ classes w (A .size + B .start))
       (reached : (i : ℕ) → i < w .made → ReachedByTriggers A B (oneAt w i) (twoAt w i))
       (alike : (i : ℕ) → i < w .made → Alike A B (oneAt w i) (twoAt w i))
       (follows : (i : ℕ) → i < w .made → (d e : Transition) → First (leaving A (oneAt w i)) d → First (leaving B (twoAt w i)) e → SameTrigger d e → classes w (d .to) ≡ classes w (A .size + e .to)) where
     joined-agree : (p q : ℕ) → p < A .size → q < B .size → classes w p ≡ classes w (A .size + q) → Bisimilar acceptIn outOf (classes w) p (A .size + q)
     joined-agree p q h k e = generated-into (Bisimilar acceptIn outOf (classes w)) (λ x l. bisimilar-self acceptIn outOf (classes w) x) (λ x y b. bisimilar-turn acceptIn outOf (classes w) b) (λ x y z b c. bisimilar-chain acceptIn outOf (classes w) b c)
-        (λ i l. agree (classes w) (oneAt w i) (twoAt w i) (reached-in A B in-a in-b (reached i l) .0) (alike i l) (follows i l)) (g .spanned .only p (A .size + q) (omega (arith, is-n)) (omega (arith, is-n)) e)
+        (λ i l. agree (classes w) (oneAt w i) (twoAt w i) (reached-in A B in-a in-b (reached i l) .0) (alike i l) (follows i l)) (v .spanned .only p (A .size + q) (omega (arith, is-n)) (omega (arith, is-n)) e)
 
     reached-joined : {p q : ℕ} → ReachedByTriggers A B p q → classes w p ≡ classes w (A .size + q)
     reached-joined start = started

@@ -4,11 +4,10 @@ pub mod Exact
 pub mod Words
 pub mod Theorems
 pub mod Samples
-pub mod Joining
 pub mod Rows
 pub mod Reading
-pub mod Turning
-pub mod Comparing
+pub mod Zipped
+pub mod RunLaws
 pub mod Bisimulation
-pub mod Going
+pub mod WalkLaws
 pub mod Answers

@@ -1,5 +1,5 @@
 -- Laws of numbers in a text: how the loop over the digits goes on and ends.
-use Prim.Native.Nat.{ℕ, suc, _+_, _-_, _*_, _^_, _≤_, _<_}
+use Prim.Native.Nat.{ℕ, suc, _+_, _^_, _≤_, _<_}
 use mathlib.Core.Bool.{Bool, true, false, not, cond, _&&_}
 use mathlib.Core.List.{List, [], _∷_}
 use mathlib.Core.Logic.{⊎-elim}
@@ -9,10 +9,9 @@ use borrow.Author.Needs.{needs}
 use borrow.Author.Tests.{not-true, not-false, eqb-true, eqb-false, le-ltb, lt-ltb, lt-leb, le-leb}
 use lib.Dec.{ltb, eqb}
 use lib.ListN.{length, getD, take, drop}
-use Rattle.decimal.specs.Decimal.{valueAfter, value}
+use Rattle.decimal.specs.Decimal.{isDigit, withDigit, valueAfter, value}
 use Rattle.lists.proofs.Parts.{drop-at}
 use Rattle.lists.proofs.Tests.{test}
-use Rattle.grammar.specs.Bytes.{isDigit}
 use Rattle.grammar.specs.Grammar.{ReadResult, nothing, found, run, number}
 use Rattle.grammar.proofs.Runs.{run-end, run-more, run-stop}
 
@@ -23,14 +22,14 @@ written t at v = valueAfter v (take (run isDigit (drop at t)) (drop at t))
 value-grows : (v : ℕ) (l : List ℕ) → v ≤ valueAfter v l
 unfolding valueAfter
 value-grows v [] = omega arith
-value-grows v (b ∷ l) = let h = value-grows (10 * v + (b - 48)) l in omega arith
+value-grows v (b ∷ l) = let h = value-grows (withDigit v b) l in omega arith
 
 module _ (t : List ℕ) (at v : ℕ) where
   written-stop : run isDigit (drop at t) ≡ 0 → written t at v ≡ v
   unfolding written valueAfter
   written-stop h = rw h
 
-  written-more : at < length t → isDigit (getD t at 0) ≡ true → written t at v ≡ written t (at + 1) (10 * v + (getD t at 0 - 48))
+  written-more : at < length t → isDigit (getD t at 0) ≡ true → written t at v ≡ written t (at + 1) (withDigit v (getD t at 0))
   unfolding written valueAfter
   written-more h e = rw (run-more isDigit t at h e) (ap (λ (l : List ℕ). valueAfter v (take (suc (run isDigit (drop (at + 1) t))) l)) (drop-at t at h))
 
@@ -63,7 +62,7 @@ module _ (t : List ℕ) (start at v : ℕ) (g : start ≤ at) (m : v < 2 ^ 32) (
     pub number-digit : isDigit (getD t at 0) ≡ true
     number-digit = sym f ∙ not-false r k
 
-    module _ (w : ℕ) (q : w ≡ 10 * v + (getD t at 0 - 48)) where
+    module _ (w : ℕ) (q : w ≡ withDigit v (getD t at 0)) where
       pub number-next : written t start 0 ≡ written t (at + 1) w
       number-next = e ∙ written-more t at v h number-digit ∙ ap (written t (at + 1)) (sym q)
 

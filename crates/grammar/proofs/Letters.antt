@@ -5,18 +5,13 @@ use mathlib.Core.List.{List}
 use mathlib.Core.Path.{_≡_, refl, sym, _∙_, ap}
 use native.Mathlib.Omega.{arith}
 use borrow.Author.Needs.{needs}
-use borrow.Author.Tests.{leb-true, lt-leb, ne-eqb}
+use borrow.Author.Tests.{lt-leb, ne-eqb}
 use lib.Dec.{leb, eqb}
 use lib.ListN.{getD}
 use Rattle.lists.specs.Lists.{tabulate}
 use Rattle.lists.proofs.Lists.{tabulate-at}
-use Rattle.lists.proofs.Tests.{and-parts}
-use Rattle.grammar.specs.Bytes.{isLetter, isDigit, isNameByte}
-
--- a digit is not below 48
-pub digit-low : (b : ℕ) → isDigit b ≡ true → 48 ≤ b
-unfolding isDigit
-digit-low b h = leb-true 48 b (and-parts (leb 48 b) (leb b 57) h .0)
+use Rattle.decimal.specs.Decimal.{isDigit}
+use Rattle.grammar.specs.Bytes.{isLetter, isNameByte}
 
 -- a letter is a byte of a name
 pub letter-named : (b : ℕ) → isLetter b ≡ true → isNameByte b ≡ true

@@ -7,9 +7,9 @@ use native.Mathlib.Omega.{arith}
 use borrow.Author.Tests.{leb-true, ltb-true}
 use lib.Dec.{leb, ltb, eqb}
 use lib.ListN.{length, getD, take, drop, length-drop, List·getD-eq-default}
-use Rattle.decimal.specs.Decimal.{value}
+use Rattle.decimal.specs.Decimal.{isDigit, value}
 use Rattle.lists.proofs.Tests.{and-parts}
-use Rattle.grammar.specs.Bytes.{isLetter, isDigit, isNameByte}
+use Rattle.grammar.specs.Bytes.{isLetter, isNameByte}
 use Rattle.grammar.specs.Grammar.{ReadResult, nothing, found, follow, mark, run, space, neededSpace, begins, token, name, number, ends, range, target, transition, initial, nextName, transitions, nextNames, accepting, heading, ending, wholeText}
 use Rattle.grammar.specs.inner.Places.{Spelt, Drawn}
 use Rattle.grammar.specs.declared.tokens.Span.{Span}

@@ -5,8 +5,8 @@ use mathlib.Core.Bool.{Bool, true, false, cond, _&&_}
 use mathlib.Core.List.{List, [], _∷_}
 use lib.Dec.{leb, ltb, eqb}
 use lib.ListN.{length, getD, take, drop}
-use Rattle.decimal.specs.Decimal.{value}
-use Rattle.grammar.specs.Bytes.{isSpace, isLetter, isDigit, isNameByte}
+use Rattle.decimal.specs.Decimal.{isDigit, value}
+use Rattle.grammar.specs.Bytes.{isSpace, isLetter, isNameByte}
 use Rattle.grammar.specs.Words.{automatonWord, initWord, acceptingWord, arrowSign, leftBrace, rightBrace, leftBracket, rightBracket, comma, semicolon}
 use Rattle.grammar.specs.declared.tokens.Span.{Span}
 use Rattle.grammar.specs.declared.pieces.Arrow.{Arrow}

@@ -1,8 +1,8 @@
-// The bytes of the grammar: space, letters, digits, and what a name is made of.
+// The bytes of the grammar: space, letters, and what a name is made of.
 ghost use mathlib.Core.Bool.{cond};
 ghost use mathlib.Core.Path.{_≡_};
 ghost use lib.Dec.{leb};
-ghost use Rattle.grammar.specs.Bytes.{isSpace, isLetter, isDigit, isNameByte};
+ghost use Rattle.grammar.specs.Bytes.{isSpace, isLetter, isNameByte};
 
 // Blank, tab, CR or LF.
 pub fn is_space(b: u8) -> bool
@@ -34,15 +34,6 @@ pub fn is_letter(b: u8) -> bool
         return false;
     }
     b <= b'z'
-}
-
-pub fn is_digit(b: u8) -> bool
-    ensures { λ r. ⌜ r ≡ isDigit b ⌝ }
-{
-    if b < b'0' {
-        return false;
-    }
-    b <= b'9'
 }
 
 // The 64 bytes among which b is, the first or the second of ASCII, as bits: those of letters, digits and `_` are 1.

@@ -1,9 +1,8 @@
 // Numbers and ranges of symbols.
 ghost use mathlib.Core.Path.{_≡_};
-ghost use mathlib.Core.Bool.{true, cond};
-ghost use Prim.Native.Nat.{_+_, _-_, _*_, _^_, _<_};
+ghost use mathlib.Core.Bool.{cond};
+ghost use Prim.Native.Nat.{_^_, _<_};
 ghost use lib.Dec.{eqb};
-ghost use Rattle.grammar.specs.Bytes.{isDigit};
 ghost use Rattle.grammar.specs.Grammar.{nothing, found, space, number, ends, range};
 ghost use Rattle.grammar.specs.inner.Pieces.{numberOf, rangeOf};
 use crate::tokens::Cursor;
@@ -17,14 +16,6 @@ pub enum NumberPiece {
 pub enum RangePiece {
     Read(u32, u32, Cursor),
     Nothing,
-}
-
-// A digit behind a number.
-fn with_digit(v: u64, b: u8) -> u64
-    requires { ⌜ (v < 2 ^ 32) × (isDigit b ≡ true) ⌝ }
-    ensures { λ r. ⌜ r ≡ 10 * v + (b - 48) ⌝ }
-{
-    v * 10 + (b - b'0') as u64
 }
 
 // The number v of the digits from start to at, of which there has to be one.
@@ -47,10 +38,10 @@ fn number(text: &[u8], c: Cursor) -> NumberPiece
     let mut v: u64 = 0;
     while at < text.len() {
         let b = text[at];
-        if !crate::bytes::is_digit(b) {
+        if !decimal::is_digit(b) {
             return digits_read(start, at, v);
         }
-        v = with_digit(v, b);
+        v = decimal::with_digit(v, b);
         if 4294967295 < v {
             return NumberPiece::Nothing;
         }

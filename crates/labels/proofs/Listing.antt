@@ -6,9 +6,9 @@ use native.Mathlib.Omega.{arith}
 use lib.ListN.{length, length-append}
 use Rattle.lists.specs.Lists.{tabulate}
 use Rattle.decimal.specs.Decimal.{digits}
-use Rattle.lists.specs.Written.{Written}
+use Rattle.stores.specs.Written.{Written}
 use Rattle.decimal.proofs.Decimal.{length-word}
-use Rattle.lists.proofs.Written.{written-none, written-append, written-length}
+use Rattle.stores.proofs.Written.{written-none, written-append, written-length}
 use Rattle.labels.specs.Labels.{entry, writeEntries, countBytes, writeLabels, Label, AllLabels, none, more}
 use Rattle.labels.specs.Forms.{numberedLabel, pairLabel}
 use Rattle.labels.proofs.Labels.{size-entries}

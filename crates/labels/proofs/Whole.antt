@@ -10,8 +10,8 @@ use borrow.Author.Needs.{needs}
 use Rattle.lists.specs.Lists.{tabulate}
 use Rattle.lists.proofs.Lists.{length-tabulate, tabulate-end}
 use Rattle.lists.proofs.Parts.{part-all}
-use Rattle.lists.specs.Written.{Written}
-use Rattle.lists.proofs.Written.{written-length}
+use Rattle.stores.specs.Written.{Written}
+use Rattle.stores.proofs.Written.{written-length}
 use Rattle.labels.specs.Labels.{entry, writeEntries, countBytes, writeLabels, readLabels, labelCount, labelsFault, AllLabels}
 use Rattle.labels.specs.inner.Places.{LabelList}
 use Rattle.labels.specs.Forms.{numberedLabel, sinkLabel, numbered}

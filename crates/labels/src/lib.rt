@@ -8,10 +8,8 @@ ghost use Rattle.labels.specs.Checked.{checkedNumber};
 
 mod writing;
 
-pub use writing::copy;
 pub use writing::copy_all;
 pub use writing::copy_with_sink;
-pub use writing::put_byte;
 pub use writing::put_copy;
 pub use writing::put_count;
 pub use writing::put_numbered;

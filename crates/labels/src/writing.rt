@@ -4,43 +4,19 @@ ghost use Prim.Native.Nat.{_+_, _-_, _≤_, _<_};
 ghost use mathlib.Core.List.{[], _∷_, _++_};
 ghost use lib.ListN.{length, set};
 ghost use Rattle.decimal.specs.Decimal.{digits};
-ghost use Rattle.lists.specs.Written.{Written};
+ghost use Rattle.stores.specs.Written.{Written};
 ghost use Rattle.labels.specs.Labels.{labelsFault, labelCount, readLabels, writeLabels, entry, countBytes};
 ghost use Rattle.labels.specs.inner.Places.{LabelList};
 ghost use Rattle.labels.specs.Forms.{numberedLabel, pairLabel, sinkLabel, numbered};
 
-// Writes the byte x at at. Like the functions below it answers the place behind what it wrote.
-pub fn put_byte(out: &mut [u8], at: usize, x: u8) -> usize
-    requires { ⌜ at < length (now out) ⌝ }
-    ensures { λ r. ⌜ Written (now (out .entry)) at (x ∷ []) (now (out .exit)) r ⌝ }
-{
-    out[at] = x;
-    at + 1
-}
-
-// Copies the bytes b to at.
-pub fn copy(out: &mut [u8], at: usize, b: &[u8]) -> usize
-    requires { ⌜ at + length (now b) ≤ length (now out) ⌝ }
-    ensures { λ r. ⌜ Written (now (out .entry)) at (now (b .entry)) (now (out .exit)) r ⌝ }
-{
-    let mut end = at;
-    let mut i = 0;
-    while i < b.len() {
-        out[end] = b[i];
-        end += 1;
-        i += 1;
-    }
-    end
-}
-
-// Writes the count of a label list at its front.
+// Writes the count of a label list at its front. Like the functions below it answers the place behind what it wrote.
 pub fn put_count(out: &mut [u8], n: usize) -> usize
     requires { ⌜ 2 ≤ length (now out) ⌝ }
     requires { ⌜ n < 65536 ⌝ }
     ensures { λ r. ⌜ Written (now (out .entry)) 0 (countBytes n) (now (out .exit)) r ⌝ }
 {
-    let high = put_byte(out, 0, (n % 256) as u8);
-    put_byte(out, high, (n / 256) as u8)
+    let high = stores::put_byte(out, 0, (n % 256) as u8);
+    stores::put_byte(out, high, (n / 256) as u8)
 }
 
 // Writes a given label after its length.
@@ -49,8 +25,8 @@ pub fn put_copy(out: &mut [u8], at: usize, label: &[u8]) -> usize
     requires { ⌜ at + 1 + length (now label) ≤ length (now out) ⌝ }
     ensures { λ r. ⌜ Written (now (out .entry)) at (entry (now (label .entry))) (now (out .exit)) r ⌝ }
 {
-    let first = put_byte(out, at, label.len() as u8);
-    copy(out, first, label)
+    let first = stores::put_byte(out, at, label.len() as u8);
+    stores::put_bytes(out, first, label)
 }
 
 // Writes the label `sink` after its length.
@@ -67,7 +43,7 @@ fn put_number(out: &mut [u8], at: usize, lead: u8, x: u32) -> usize
     ensures { λ r. ⌜ Written (now (out .entry)) at (lead ∷ digits x) (now (out .exit)) r ⌝ }
     ensures { λ r. ⌜ r ≤ at + 11 ⌝ }
 {
-    let first = put_byte(out, at, lead);
+    let first = stores::put_byte(out, at, lead);
     decimal::put_decimal(out, first, x)
 }
 
@@ -96,9 +72,9 @@ pub fn put_pair(out: &mut [u8], at: usize, p: u32, q: u32) -> usize
     ensures { λ r. ⌜ Written (now (out .entry)) at (entry (pairLabel p q)) (now (out .exit)) r ⌝ }
 {
     let first = put_number(out, at + 1, b'(', p);
-    let comma = put_byte(out, first, b',');
+    let comma = stores::put_byte(out, first, b',');
     let second = put_number(out, comma, b' ', q);
-    let end = put_byte(out, second, b')');
+    let end = stores::put_byte(out, second, b')');
     put_length(out, at, end)
 }
 
@@ -125,7 +101,7 @@ pub fn copy_with_sink(out: &mut [u8], b: &[u8], n: usize) -> usize
     ensures { λ r. ⌜ Written (now (out .entry)) 0 (writeLabels (readLabels (now (b .entry)) ++ sinkLabel ∷ [])) (now (out .exit)) r ⌝ }
 {
     let first = put_count(out, n + 1);
-    let behind = copy(out, first, &b[2..]);
+    let behind = stores::put_bytes(out, first, &b[2..]);
     put_sink(out, behind)
 }
 
@@ -136,5 +112,5 @@ pub fn copy_all(out: &mut [u8], b: &[u8]) -> usize
     requires { ⌜ labelCount (now b) ≤ 256 ⌝ }
     ensures { λ r. ⌜ Written (now (out .entry)) 0 (writeLabels (readLabels (now (b .entry)))) (now (out .exit)) r ⌝ }
 {
-    copy(out, 0, b)
+    stores::put_bytes(out, 0, b)
 }

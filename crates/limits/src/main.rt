@@ -15,7 +15,7 @@ fn put_records(sheet: &mut [u32], at: usize, m: u32) -> usize
     ensures stored { λ r. ⌜ now (sheet .exit) ≡ sets (now (sheet .entry)) at (m ∷ loops 0 m) ⌝ }
     ensures behind { λ r. ⌜ r ≡ at + 1 + 5 * m ⌝ }
 {
-    let mut end = output::put_word(sheet, at, m);
+    let mut end = stores::put_word(sheet, at, m);
     let mut i: u32 = 0;
     while i < m {
         end = output::put_record(sheet, end, 0, 1, i, i, 0);

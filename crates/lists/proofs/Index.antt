@@ -11,7 +11,7 @@ use lib.ListN.{getD, length}
 use Rattle.lists.specs.Lists.{_∈_, Distinct}
 use Rattle.lists.specs.Index.{index, same}
 use Rattle.lists.proofs.Members.{at-in}
-use Rattle.lists.proofs.Tests.{test, and-both, and-parts}
+use Rattle.lists.proofs.Tests.{test, and-both, and-parts, true-same}
 
 -- the test is equality
 pub record Decides {X : Type 0} (same : X → X → Bool) : Type 0 where
@@ -103,6 +103,14 @@ module _ {X : Type 0} (same : X → X → Bool) (ok : Decides same) where
   index-place d {T = y ∷ T} (Distinct.more f g) (suc i) h =
       let l : i < length T = omega arith in
       rw (same-no (getD T i d) y (λ q. f (Memᴰ·cast (sym q) (at-in T i d l)))) (ap suc (index-place d g i l))
+
+  -- of different entries just one is x, that at its place
+  pub index-same : (d : X) {T : List X} (x : X) (j : ℕ) → Distinct T → j < length T → same (getD T j d) x ≡ eqb (index same x T) j
+  index-same d {T} x j f h =
+      true-same _ _
+      (λ t. eq-eqb _ j (ap (λ (y : X). index same y T) (sym (ok .same-eq _ x t)) ∙ index-place d f j h))
+      (λ t. let e : index same x T ≡ j = eqb-true _ j t in
+      same-yes _ x (ap (λ (i : ℕ). getD T i d) (sym e) ∙ index-at d x T (index-in x T (omega arith))))
 
 -- lists of numbers that pass the test are equal
 pub same-equal : (S T : List ℕ) → same S T ≡ true → S ≡ T

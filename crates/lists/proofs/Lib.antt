@@ -2,8 +2,6 @@
 pub mod Tests
 pub mod Lists
 pub mod Parts
-pub mod Written
-pub mod Left
 pub mod Members
 pub mod Index
 pub mod Every

@@ -5,7 +5,7 @@ use mathlib.Core.List.{List, [], _∷_, _++_, map, List·Memᴰ·head, List·Mem
 use mathlib.Core.Logic.{⊎-elim}
 use mathlib.Core.Path.{_≡_, refl, sym, _∙_, ap, ap₂}
 use native.Mathlib.Omega.{arith}
-use lib.ListN.{getD, length, drop}
+use lib.ListN.{getD, length, drop, replicate}
 use Rattle.lists.specs.Lists.{_∈_, any, filter, tabulate}
 use Rattle.lists.proofs.Tests.{or-cases, or-left, or-right}
 
@@ -159,3 +159,9 @@ pub drop-mem : {A : Type 0} (k : ℕ) (l : List A) (x : A) (r : List A) → drop
 drop-mem zero l x r e = rw e (List·Memᴰ·head refl)
 drop-mem (suc k) [] x r e = absurd (nil≢cons e)
 drop-mem (suc k) (y ∷ l) x r e = List·Memᴰ·tail (drop-mem k l x r e)
+
+-- what stands in a blank array
+pub blank-at : (n j : ℕ) → _≡_ {A = ℕ} (getD (replicate n 0) j 0) 0
+blank-at zero j = refl
+blank-at (suc n) zero = refl
+blank-at (suc n) (suc j) = blank-at n j

@@ -1,7 +1,7 @@
 -- Laws on members: of a list of images, at a place, and of lists that ascend or have no element twice.
 use Prim.Native.Nat.{ℕ, zero, suc, _≤_, _<_}
 use mathlib.Core.Bool.{Bool, true, false, cond, _||_}
-use mathlib.Core.List.{List, [], _∷_, _++_, map, List·Memᴰ·head, List·Memᴰ·tail, List·Memᴰ·not-nil, List·Memᴰ·cases-cons, List·Memᴰ·append-cases, List·Memᴰ·eq-of-singleton, Memᴰ·cast, nil≢cons}
+use mathlib.Core.List.{List, [], _∷_, _++_, map, List·Memᴰ·head, List·Memᴰ·tail, List·Memᴰ·not-nil, List·Memᴰ·cases-cons, List·Memᴰ·append-cases, List·Memᴰ·eq-of-singleton, Memᴰ·append-left, Memᴰ·append-right, Memᴰ·cast, nil≢cons}
 use mathlib.Core.Logic.{⊎-elim}
 use mathlib.Core.Path.{_≡_, refl, sym, _∙_, ap, subst}
 use native.Mathlib.Omega.{arith}
@@ -106,6 +106,20 @@ module _ {X : Type 0} {R : X → X → Type 0} where
   ascending-append {l = x ∷ l} (Ascending.more g a) b h =
       Ascending.more (λ y k. ⊎-elim (λ k. g y k) (λ k. h x y (List·Memᴰ·head refl) k) (List·Memᴰ·append-cases l k))
       (ascending-append a b (λ x y k. h x y (List·Memᴰ·tail k)))
+
+  -- the parts of what ascends
+  pub ascending-left : (l m : List X) → Ascending R (l ++ m) → Ascending R l
+  ascending-left [] m a = Ascending.none
+  ascending-left (x ∷ l) m (Ascending.more f a) = Ascending.more (λ y k. f y (Memᴰ·append-left m k)) (ascending-left l m a)
+
+  pub ascending-right : (l m : List X) → Ascending R (l ++ m) → Ascending R m
+  ascending-right [] m a = a
+  ascending-right (x ∷ l) m (Ascending.more f a) = ascending-right l m a
+
+  pub ascending-across : (l m : List X) → Ascending R (l ++ m) → (x y : X) → x ∈ l → y ∈ m → R x y
+  ascending-across [] m a x y h k = absurd (List·Memᴰ·not-nil h)
+  ascending-across (z ∷ l) m (Ascending.more f a) x y h k =
+      ⊎-elim (λ (e : x ≡ z). subst (λ (w : X). R w y) (sym e) (f y (Memᴰ·append-right l k))) (λ n. ascending-across l m a x y n k) (List·Memᴰ·cases-cons h)
 
   -- two tests, where no element that passes g stands before one that passes f
   pub filter-either : (f g : X → Bool) → ((x : X) → f x ≡ true → g x ≡ false) → ((x y : X) → R x y → g x ≡ true → f y ≡ false)

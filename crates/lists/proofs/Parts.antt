@@ -1,12 +1,12 @@
 -- Parts of lists and runs of stores, in the terms that code has: `now` of `&s[a..]` is `take (length s - a) (drop a s)`.
 use Prim.Native.Nat.{ℕ, suc, _+_, _-_, _<_}
 use mathlib.Core.List.{List, [], _∷_, _++_}
-use mathlib.Core.Path.{_≡_, _∙_, ap}
+use mathlib.Core.Path.{_≡_, refl, _∙_, ap}
 use native.Mathlib.Nat.{le-refl}
 use native.Mathlib.Numerals.{add-one}
 use native.Mathlib.Omega.{arith}
 use lib.ListN.{length, getD, take, drop, set, length-drop}
-use lib.Seq.{drop-cons, take-all, take-suc, sets}
+use lib.Seq.{drop-cons, take-all, take-suc, sets, set-comm}
 
 -- what is left of a list from an index within it on
 pub drop-at : (s : List ℕ) (i : ℕ) → i < length s → drop i s ≡ getD s i 0 ∷ drop (i + 1) s
@@ -33,3 +33,8 @@ sets-append l (a ∷ v) w i = ap (λ k. sets (sets (set l i a) (suc i) v) k w) (
 -- one store behind a run
 pub sets-one : (l v : List ℕ) (i x : ℕ) → set (sets l i v) (i + length v) x ≡ sets l i (v ++ x ∷ [])
 sets-one l v i x = sets-append l v (x ∷ []) i
+
+-- a store before a run
+pub set-before : (l v : List ℕ) (i j x : ℕ) → j < i → set (sets l i v) j x ≡ sets (set l j x) i v
+set-before l [] i j x h = refl
+set-before l (a ∷ v) i j x h = set-before (set l i a) v (suc i) j x (omega arith) ∙ ap (λ t. sets t (suc i) v) (set-comm l i j a x (omega arith))

@@ -1,4 +1,3 @@
 -- The definitions on lists that the other crates share.
 pub mod Lists
 pub mod Index
-pub mod Written

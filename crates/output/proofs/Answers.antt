@@ -8,7 +8,7 @@ use native.Mathlib.Omega.{arith}
 use borrow.Author.Tests.{ltb-false, eq-eqb, ne-eqb}
 use lib.Dec.{ltb}
 use lib.ListN.{length}
-use Rattle.lists.specs.Written.{Written}
+use Rattle.stores.specs.Written.{Written}
 use Rattle.lists.proofs.Tests.{test, or-cases, or-false}
 use Rattle.labels.specs.Checked.{checkedNumber}
 use Rattle.labels.specs.Labels.{writeLabels, labelsFault}

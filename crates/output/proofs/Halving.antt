@@ -9,7 +9,8 @@ use borrow.Author.Needs.{needs}
 use borrow.Author.Tests.{eq-eqb, eqb-true}
 use lib.Dec.{eqb}
 use lib.ListN.{length, take, drop}
-use Rattle.lists.specs.Lists.{_∈_, Ascending, none, more}
+use Rattle.lists.specs.Lists.{_∈_, Ascending}
+use Rattle.lists.proofs.Members.{ascending-left, ascending-right, ascending-across}
 use Rattle.lists.proofs.Tests.{test, and-parts}
 use Rattle.automata.specs.Automaton.{Transition}
 use Rattle.automata.specs.Ordered.{less}
@@ -21,22 +22,6 @@ use Rattle.output.specs.inner.Finding.{sameRecord, Placed, Tells}
 use Rattle.output.specs.inner.Ordered.{Listed, recordsIn}
 use Rattle.output.proofs.Heads.{listed-read, listed-first, listed-before}
 use Rattle.output.proofs.Halves.{records-halves}
-use Rattle.output.proofs.Joining.{last-record}
-
--- the parts of what ascends (belongs to crate lists)
-module _ {X : Type 0} {R : X → X → Type 0} where
-  ascending-left : (l m : List X) → Ascending R (l ++ m) → Ascending R l
-  ascending-left [] m a = none
-  ascending-left (x ∷ l) m (more f a) = more (λ y k. f y (Memᴰ·append-left m k)) (ascending-left l m a)
-
-  ascending-right : (l m : List X) → Ascending R (l ++ m) → Ascending R m
-  ascending-right [] m a = a
-  ascending-right (x ∷ l) m (more f a) = ascending-right l m a
-
-  ascending-across : (l m : List X) → Ascending R (l ++ m) → (x y : X) → x ∈ l → y ∈ m → R x y
-  ascending-across [] m a x y h k = absurd (List·Memᴰ·not-nil h)
-  ascending-across (z ∷ l) m (more f a) x y h k =
-      ⊎-elim (λ (e : x ≡ z). subst (λ (w : X). R w y) (sym e) (f y (Memᴰ·append-right l k))) (λ n. ascending-across l m a x y n k) (List·Memᴰ·cases-cons h)
 
 -- a record before the first of those in order is none of them
 none-ahead : (buf : List ℕ) (at end : ℕ) → Listed buf at end (recordsIn buf at end) → at < end → (x : Transition) → less (wordsOf x) (wordsOf (recordAt buf at)) ≡ true → x ∈ recordsIn buf at end → ⊥
@@ -152,21 +137,6 @@ pub known-none : (buf : List ℕ) (end : ℕ) (x : Transition) → end ≡ 0 →
 unfolding recordsIn readRecords
 known-none buf end x h = let z : end - 0 ≡ 0 = omega arith in tells-no x _ (λ m. List·Memᴰ·not-nil (subst (λ (k : ℕ). x ∈ readRecords (take k buf)) z m))
 
-module _ (buf : List ℕ) (end : ℕ) (x : Transition) (l : Listed buf 0 end (recordsIn buf 0 end)) where
-  pub known-behind : (end ≡ 0 → ⊥) → (t : Bool) → t ≡ less (wordsOf (recordAt buf (end - 5))) (wordsOf x) → t ≡ true → Tells false x (recordsIn buf 0 end)
-  known-behind h t e k =
-      let b : Before (recordAt buf (end - 5)) x = less-lex _ _ refl (sym e ∙ k) in
-      let f : recordsIn buf 0 end ≡ recordsIn buf 0 (end - 5) ++ recordAt buf (end - 5) ∷ [] = last-record buf 0 end l (omega arith) in
-      let a : Ascending Before (recordsIn buf 0 (end - 5) ++ recordAt buf (end - 5) ∷ []) = subst (Ascending Before) f (l .ascends) in
-      tells-no x _
-      (λ m. ⊎-elim
-      (λ n. lex-irreflexive (lex-trans b (ascending-across (recordsIn buf 0 (end - 5)) (recordAt buf (end - 5) ∷ []) a x (recordAt buf (end - 5)) n (List·Memᴰ·head refl))))
-      (λ n. ⊎-elim (λ (q : x ≡ recordAt buf (end - 5)). lex-irreflexive (subst (λ (y : Transition). Before y x) (sym q) b)) (λ o. List·Memᴰ·not-nil o) (List·Memᴰ·cases-cons n))
-      (List·Memᴰ·append-cases (recordsIn buf 0 (end - 5)) (subst (λ (ds : List Transition). x ∈ ds) f m)))
-
-  pub known-ahead : (end ≡ 0 → ⊥) → (t : Bool) → t ≡ less (wordsOf x) (wordsOf (recordAt buf 0)) → t ≡ true → Tells false x (recordsIn buf 0 end)
-  known-ahead h t e k = tells-no x _ (none-ahead buf 0 end l (omega arith) x (sym e ∙ k))
-
 -- a transition is known by its words
 same-record : (d e : Transition) → sameRecord d e ≡ true → e ≡ d
 same-record d e h =
@@ -191,4 +161,4 @@ known-found buf end x at p t e =
       no = λ h m. true≢false (sym (self-record (recordAt buf at)) ∙ ap (sameRecord (recordAt buf at)) (sym (p .only m)) ∙ sym e ∙ h);
     }
 
-pub ruleset knownLaws = (known-none, known-behind, known-ahead, known-found, needs)
+pub ruleset knownLaws = (known-none, known-found, needs)

@@ -28,7 +28,7 @@ use Rattle.output.specs.declared.Made.the-variants.{Lengths, Refused}
 use Rattle.output.specs.Left.{madeNumber, Room, Leaves, Unchanged}
 use Rattle.output.specs.Made.{outputOf}
 use Rattle.output.specs.Output
-use Rattle.output.specs.Output.{Pattern, Output, outputs, roomFirst, labelsFirst}
+use Rattle.output.specs.Output.{Pattern, outputs, roomFirst, labelsFirst}
 
 -- a run written at the front: it is the front afterwards, and nothing behind it changed
 module _ (o vs : List ℕ) (h : length vs ≤ length o) where
@@ -144,21 +144,21 @@ module _ (o l o′ l′ : List ℕ) (r : Made) (a : Answer Pattern) (call : outp
 
   refusal : (r : Made) (n : ℕ) → outputOf r o′ l′ ≡ outputs o l (refused n) → (madeNumber r ≡ n) × (n ≡ 0 → ⊥) × Unchanged o l o′ l′
   unfolding outputs
-  refusal (Lengths w b) n e = let q = ap (λ (z : Output). z .answer) e in let z : _≡_ {A = ℕ} 0 1 = cc in absurd (omega arith)
+  refusal (Lengths w b) n e = let q = ap (λ z. z .answer) e in let z : _≡_ {A = ℕ} 0 1 = cc in absurd (omega arith)
   refusal (Refused x) n e =
-      let q : _≡_ {A = Answer Output.Lengths} (refused (numberOf x)) (refused n) = ap (λ (z : Output). z .answer) e in
+      let q : _≡_ {A = Answer Output.Lengths} (refused (numberOf x)) (refused n) = ap (λ z. z .answer) e in
       let i : numberOf x ≡ n = cc in
-      (i, λ z. number-some x (i ∙ z), record { words = ap (λ (z : Output). z .sheet) e; bytes = ap (λ (z : Output). z .labels) e })
+      (i, λ z. number-some x (i ∙ z), record { words = ap (λ z. z .memory .sheet) e; bytes = ap (λ z. z .memory .labels) e })
 
   pattern : (r : Made) (P : Pattern) → outputOf r o′ l′ ≡ outputs o l (given P) → (r ≡ Lengths (length (write (P .automaton))) (length (writeLabels (P .labels)))) × (o′ ≡ sets o 0 (write (P .automaton))) × (l′ ≡ sets l 0 (writeLabels (P .labels)))
   unfolding outputs
   pattern (Lengths w b) P e =
-      let q = ap (λ (z : Output). z .answer) e in
+      let q = ap (λ z. z .answer) e in
       let k : _≡_ {A = Output.Lengths} (record { words = w; bytes = b }) (record { words = length (write (P .automaton)); bytes = length (writeLabels (P .labels)) }) = cc in
       let i : w ≡ length (write (P .automaton)) = ap (λ (z : Output.Lengths). z .words) k in
       let j : b ≡ length (writeLabels (P .labels)) = ap (λ (z : Output.Lengths). z .bytes) k in
-      (rw (i, j), ap (λ (z : Output). z .sheet) e, ap (λ (z : Output). z .labels) e)
-  pattern (Refused x) P e = let q = ap (λ (z : Output). z .answer) e in let z : _≡_ {A = ℕ} 0 1 = cc in absurd (omega arith)
+      (rw (i, j), ap (λ z. z .memory .sheet) e, ap (λ z. z .memory .labels) e)
+  pattern (Refused x) P e = let q = ap (λ z. z .answer) e in let z : _≡_ {A = ℕ} 0 1 = cc in absurd (omega arith)
 
   case : Case
   case = by-room (has-room o l)

@@ -1,5 +1,4 @@
 -- The laws of outputs.
-pub mod Writing
 pub mod Answers
 pub mod Left
 pub mod Exact

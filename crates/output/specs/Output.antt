@@ -9,7 +9,8 @@ use lib.Seq.{sets}
 use Rattle.automata.specs.Automaton.{Automaton}
 use Rattle.automata.specs.WellFormed.{mostStates, mostTransitions}
 use Rattle.labels.specs.Labels.{writeLabels, labelsFault}
-use Rattle.refusal.specs.Answer.{Answer, refused, given}
+use Rattle.refusal.specs.Answer.{Answer, refused}
+use Rattle.refusal.specs.Outcome.{Outcome, outcome, lengthFirst}
 use Rattle.sheets.specs.Sheet.{write}
 
 -- an automaton and a label for each of its states
@@ -22,21 +23,22 @@ pub record Lengths : Type 0 where
   pub words : ℕ
   pub bytes : ℕ
 
--- the answer with the contents of the two outputs
-pub record Output : Type 0 where
-  pub answer : Answer Lengths
+-- what an operation answers of a pattern
+abbrev pub lengthsOf : Pattern → Lengths
+lengthsOf P = record { words = length (write (P .automaton)); bytes = length (writeLabels (P .labels)) }
+
+-- what is lent for the outputs
+pub record Outputs : Type 0 where
   pub sheet : List ℕ
   pub labels : List ℕ
 
--- the outputs o and l after an answer
-unfoldable pub outputs : List ℕ → List ℕ → Answer Pattern → Output
-outputs o l (refused n) = record { answer = refused n; sheet = o; labels = l }
-outputs o l (given P) =
-    record {
-      answer = given (record { words = length (write (P .automaton)); bytes = length (writeLabels (P .labels)) });
-      sheet = sets o 0 (write (P .automaton));
-      labels = sets l 0 (writeLabels (P .labels));
-    }
+-- a pattern stored at the fronts of the outputs
+abbrev pub stored : Outputs → Pattern → Outputs
+stored m P = record { sheet = sets (m .sheet) 0 (write (P .automaton)); labels = sets (m .labels) 0 (writeLabels (P .labels)) }
+
+-- the outcome of an answer, where o and l are lent for the outputs
+unfoldable pub outputs : List ℕ → List ℕ → Answer Pattern → Outcome Lengths Outputs
+outputs o l a = outcome lengthsOf stored (record { sheet = o; labels = l }) a
 
 -- the fixed sizes of the outputs
 abbrev pub sheetSize : ℕ
@@ -47,7 +49,7 @@ labelsSize = 16642
 
 -- 20 where an output is too short, or else the answer a
 unfoldable pub roomFirst : {X : Type 0} → List ℕ → List ℕ → Answer X → Answer X
-roomFirst o l a = cond (ltb (length o) sheetSize) (refused 20) (cond (ltb (length l) labelsSize) (refused 20) a)
+roomFirst o l a = lengthFirst sheetSize o (lengthFirst labelsSize l a)
 
 -- 21 where A has over 256 states, or else the answer a
 unfoldable pub statesFirst : {X : Type 0} → Automaton → Answer X → Answer X

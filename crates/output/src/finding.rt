@@ -30,25 +30,6 @@ fn is_ahead(buf: &[u32], i: usize, from: u32, kind: u32, first: u32, last: u32, 
     )
 }
 
-// Whether the one at i comes before the record.
-fn is_behind(buf: &[u32], i: usize, from: u32, kind: u32, first: u32, last: u32, to: u32) -> bool
-    requires { ⌜ i + 5 ≤ length (now buf) ⌝ }
-    ensures { λ r. ⌜ r ≡ less (wordsOf (recordAt (now (buf .entry)) i)) (from ∷ kind ∷ first ∷ last ∷ to ∷ []) ⌝ }
-{
-    crate::sorting::is_before(
-        buf[i],
-        buf[i + 1],
-        buf[i + 2],
-        buf[i + 3],
-        buf[i + 4],
-        from,
-        kind,
-        first,
-        last,
-        to,
-    )
-}
-
 // Whether the record is the one at i.
 fn is_same(buf: &[u32], i: usize, from: u32, kind: u32, first: u32, last: u32, to: u32) -> bool
     requires { ⌜ i + 5 ≤ length (now buf) ⌝ }
@@ -119,12 +100,6 @@ pub fn is_known(
     ensures { λ r. ⌜ Tells r (record { from = from; kind = kind; first = first; last = last; to = to }) (recordsIn (now (buf .entry)) 0 end) ⌝ }
 {
     if end == 0 {
-        return false;
-    }
-    if is_behind(buf, end - 5, from, kind, first, last, to) {
-        return false;
-    }
-    if is_ahead(buf, 0, from, kind, first, last, to) {
         return false;
     }
     let at = find_place(buf, end, from, kind, first, last, to);

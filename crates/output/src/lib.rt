@@ -5,7 +5,8 @@ ghost use mathlib.Core.Path.{_≡_};
 ghost use Prim.Native.Nat.{_+_, _≤_};
 ghost use lib.Dec.{ltb};
 ghost use lib.ListN.{length};
-ghost use Rattle.lists.specs.Written.{Written};
+ghost use Rattle.stores.specs.Written.{Written};
+ghost use Rattle.output.specs.Output.{labelsSize, sheetSize};
 use refusal::Refusal;
 
 mod finding;
@@ -25,21 +26,12 @@ pub enum Made {
 
 // Whether one of the outputs is shorter than its fixed size (20).
 pub fn lacks_room(out: &[u32], labels: &[u8]) -> bool
-    ensures { λ r. ⌜ r ≡ (ltb (length (now (out .entry))) 10500 || ltb (length (now (labels .entry))) 16642) ⌝ }
+    ensures { λ r. ⌜ r ≡ (ltb (length (now (out .entry))) sheetSize || ltb (length (now (labels .entry))) labelsSize) ⌝ }
 {
     if out.len() < 10500 {
         return true;
     }
     labels.len() < 16642
-}
-
-// One word at a place; the place behind it.
-pub fn put_word(out: &mut [u32], at: usize, x: u32) -> usize
-    requires { ⌜ at + 1 ≤ length (now out) ⌝ }
-    ensures { λ r. ⌜ Written (now (out .entry)) at (x ∷ []) (now (out .exit)) r ⌝ }
-{
-    out[at] = x;
-    at + 1
 }
 
 // The front of a sheet: one start, its index, and the number of states.
@@ -72,19 +64,4 @@ pub fn put_record(
     out[at + 3] = last;
     out[at + 4] = to;
     at + 5
-}
-
-// Words at a place; the place behind them.
-pub fn put_words(out: &mut [u32], at: usize, words: &[u32]) -> usize
-    requires { ⌜ at + length (now words) ≤ length (now out) ⌝ }
-    ensures { λ r. ⌜ Written (now (out .entry)) at (now (words .entry)) (now (out .exit)) r ⌝ }
-{
-    let mut end = at;
-    let mut i = 0;
-    while i < words.len() {
-        out[end] = words[i];
-        end += 1;
-        i += 1;
-    }
-    end
 }

@@ -8,12 +8,12 @@ use lib.Dec.{ltb}
 use lib.ListN.{length}
 use Rattle.output.specs.Left.{madeNumber}
 use Rattle.output.specs.Made.{outputOf}
-use Rattle.output.specs.Output as output
-use Rattle.output.specs.Output.{Pattern, outputs, roomFirst}
+use Rattle.output.specs.Output.{Pattern, Lengths, Outputs, outputs, roomFirst}
 use Rattle.output.specs.declared.Made.{Made}
 use Rattle.output.specs.declared.Made.the-variants as made
 use Rattle.refusal.specs.Answer.{Answer, refused, given}
-use Rattle.parser.specs.Parsed.{Lengths, Output, parsed, parsedOf, parsedNumber}
+use Rattle.refusal.specs.Outcome.{Outcome}
+use Rattle.parser.specs.Parsed.{ReadLengths, parsed, parsedOf, parsedNumber}
 use Rattle.parser.specs.Pattern.{Reading}
 use Rattle.parser.specs.declared.Parsed.{Parsed}
 use Rattle.parser.specs.declared.Parsed.the-variants.{Read, Refused}
@@ -26,12 +26,12 @@ abbrev pub patternsOf : Answer Reading → Answer Pattern
 patternsOf (refused n) = refused n
 patternsOf (given R) = given (R .pattern)
 
-abbrev lengthsOf : Answer Lengths → Answer output.Lengths
-lengthsOf (refused n) = refused n
-lengthsOf (given k) = given (record { words = k .words; bytes = k .bytes })
+abbrev outputLengths : Answer ReadLengths → Answer Lengths
+outputLengths (refused n) = refused n
+outputLengths (given k) = given (k .outputs)
 
-abbrev outputsOf : Output → output.Output
-outputsOf x = record { answer = lengthsOf (x .answer); sheet = x .sheet; labels = x .labels }
+abbrev outputsOf : Outcome ReadLengths Outputs → Outcome Lengths Outputs
+outputsOf x = record { answer = outputLengths (x .answer); memory = x .memory }
 
 pub made-number : (r : Parsed) → madeNumber (madeOf r) ≡ parsedNumber r
 made-number (Read n w b) = refl
@@ -72,8 +72,8 @@ some-reading (given R) P e = (R, refl)
 -- the count of bytes in an answer
 pub bytes-read : (o l o′ l′ : List ℕ) (n w b : ℕ) (R : Reading) → parsedOf (Read n w b) o′ l′ ≡ parsed o l (given R) → n ≡ R .read
 unfolding parsed
-bytes-read o l o′ l′ n w b R e = ap (λ (x : Output). count (x .answer)) e
+bytes-read o l o′ l′ n w b R e = ap (λ x. count (x .answer)) e
   where
-    count : Answer Lengths → ℕ
+    count : Answer ReadLengths → ℕ
     count (refused k) = 0
     count (given k) = k .read

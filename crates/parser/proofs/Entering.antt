@@ -20,6 +20,7 @@ use Rattle.search.specs.Search.{index, add, meet}
 use Rattle.search.proofs.Tables.{extends-length, meet-extends, meet-in, add-known, add-new}
 use Rattle.syntax.specs.Syntax.{Move}
 use Rattle.syntax.specs.Spelled.{spellMove}
+use Rattle.name_table.proofs.Finding.{names-count}
 use Rattle.parser.specs.Pattern.{bothNames, transitionOf}
 use Rattle.parser.specs.inner.Arrows.{Entered, Entering, Noting, ArrowNoted}
 use Rattle.parser.specs.inner.Names.{Table, namesIn, Addition}
@@ -27,7 +28,6 @@ use Rattle.parser.specs.declared.arrows.Entry.{Entry}
 use Rattle.parser.specs.declared.arrows.Entry.the-variants.{At as EntryAt, Full as NoEntry}
 use Rattle.parser.specs.declared.names.Added.{Added}
 use Rattle.parser.specs.declared.names.Added.the-variants.{Kept, Full}
-use Rattle.parser.proofs.Finding.{names-count}
 use Rattle.parser.proofs.Tables.{added-table, added-names, added-full}
 
 -- the number of a name among names to which others are added

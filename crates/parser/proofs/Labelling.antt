@@ -12,10 +12,10 @@ use Rattle.grammar.specs.inner.Places.{Spelt}
 use Rattle.labels.specs.Labels.{entry, writeEntries, countBytes, writeLabels, AllLabels}
 use Rattle.labels.proofs.Listing.{list-none, list-next, list-length, list-room, list-done, labels-tabulate}
 use Rattle.lists.specs.Lists.{tabulate}
-use Rattle.lists.specs.Written.{Written}
+use Rattle.stores.specs.Written.{Written}
 use Rattle.lists.proofs.Lists.{tabulate-end}
+use Rattle.name_table.proofs.Finding.{names-count}
 use Rattle.parser.specs.inner.Names.{spanAt, namesIn, Table}
-use Rattle.parser.proofs.Finding.{names-count}
 use Rattle.parser.proofs.Tables.{spelt-label}
 
 -- no name is written

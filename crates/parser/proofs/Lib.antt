@@ -1,6 +1,5 @@
 -- The laws of what a text means.
 pub mod Memory
-pub mod Finding
 pub mod Tables
 pub mod Labelling
 pub mod Entering

@@ -19,14 +19,15 @@ use Rattle.grammar.specs.declared.tokens.NamePiece.the-variants.{Read as NameRe
 use Rattle.grammar.proofs.Many.{names-ended, names-more, names-less, name-spelt}
 use Rattle.lists.specs.Lists.{any, Distinct}
 use Rattle.lists.proofs.Tests.{test}
+use Rattle.lists.proofs.Index.{index-same, same-decides}
 use Rattle.lists.proofs.Lists.{map-at}
 use Rattle.labels.specs.Labels.{sameLabel}
 use Rattle.search.specs.Search.{index}
+use Rattle.name_table.proofs.Finding.{names-count}
 use Rattle.parser.specs.inner.Accepts.{markOne, markAll}
 use Rattle.parser.specs.inner.Memory.{Zeros}
 use Rattle.parser.specs.inner.Names.{Table, namesIn}
 use Rattle.parser.specs.Pattern.{acceptWord}
-use Rattle.parser.proofs.Finding.{names-count, index-same}
 
 -- the state's word is marked, or there is none
 module _ (t b : List ℕ) (n : ℕ) (k : Table t b n) (x : Span) (ws : List ℕ) (i : ℕ) (e : i ≡ index sameLabel (spelled t x) (namesIn t b n)) where
@@ -64,7 +65,7 @@ module _ (t : List ℕ) (ls : List (List ℕ)) (d : Distinct ls) where
   -- one name marks the word of its state and no other
   one-mark : (ws : List ℕ) (x : Span) (j : ℕ) → length ls ≤ length ws → j < length ls → getD (markOne t ls ws x) j 0 ≡ cond (sameLabel (getD ls j []) (spelled t x)) 1 (getD ws j 0)
   unfolding markOne
-  one-mark ws x j g h = rw (index-same (spelled t x) j d h) (go (index sameLabel (spelled t x) ls))
+  one-mark ws x j g h = rw (index-same sameLabel same-decides [] (spelled t x) j d h) (go (index sameLabel (spelled t x) ls))
     where
       go : (i : ℕ) → getD (cond (ltb i (length ls)) (set ws i 1) ws) j 0 ≡ cond (eqb i j) 1 (getD ws j 0)
       go i =

@@ -1,4 +1,4 @@
--- What `parseAnswer` answers, by cases, and the exact condition of each answer.
+-- What `readingAnswer` answers, by cases, and the exact condition of each answer.
 use Prim.Native.Nat.{ℕ, _≤_, _<_}
 use mathlib.Core.List.{List}
 use mathlib.Core.Logic.{_↔_}
@@ -11,24 +11,24 @@ use Rattle.refusal.specs.Answer.{refused, given}
 use Rattle.syntax.specs.Syntax.{Said, Text, BeginsWith}
 use Rattle.syntax.specs.Spelled.{spell}
 use Rattle.syntax.proofs.Theorems.{sound, untaken, unambiguous, front}
-use Rattle.parser.specs.Pattern.{statesOf, automatonOf, patternOf, Reading, meant, meaning, parseAnswer}
+use Rattle.parser.specs.Pattern.{statesOf, automatonOf, patternOf, Reading, meant, meaning, readingAnswer}
 use Rattle.parser.proofs.Said.{text-sayable, said-writable, Limits, many-states, many-transitions, few, limits}
 
 module _ (t : List ℕ) where
   -- no text stands at the front; or the first n bytes are one that says s, and it is too large or read
   pub data Outcome : Type 0 where
-    no-text : ((u : List ℕ) (s : Said) → BeginsWith t u s → ⊥) → parseAnswer t ≡ refused 8 → Outcome
-    over-states : (n : ℕ) (s : Said) → Text (take n t) s → 256 < length (statesOf s) → parseAnswer t ≡ refused 21 → Outcome
+    no-text : ((u : List ℕ) (s : Said) → BeginsWith t u s → ⊥) → readingAnswer t ≡ refused 8 → Outcome
+    over-states : (n : ℕ) (s : Said) → Text (take n t) s → 256 < length (statesOf s) → readingAnswer t ≡ refused 21 → Outcome
     over-transitions : (n : ℕ) (s : Said) → Text (take n t) s → length (statesOf s) ≤ 256 → 2048 < length (automatonOf s (statesOf s) .transitions)
-        → parseAnswer t ≡ refused 22 → Outcome
+        → readingAnswer t ≡ refused 22 → Outcome
     reads : (n : ℕ) (s : Said) → n ≤ length t → Text (take n t) s → length (statesOf s) ≤ 256 → length (automatonOf s (statesOf s) .transitions) ≤ 2048
-        → parseAnswer t ≡ given (record { pattern = patternOf s; read = n }) → Outcome
+        → readingAnswer t ≡ given (record { pattern = patternOf s; read = n }) → Outcome
 
   pub outcome : Outcome
-  unfolding parseAnswer
+  unfolding readingAnswer
   outcome = by-text (wholeText t) refl
     where
-      by-size : (n : ℕ) (s : Said) → n ≤ length t → Text (take n t) s → parseAnswer t ≡ meant s n → Limits s n → Outcome
+      by-size : (n : ℕ) (s : Said) → n ≤ length t → Text (take n t) s → readingAnswer t ≡ meant s n → Limits s n → Outcome
       by-size n s i x e (many-states a q) = over-states n s x a (e ∙ q)
       by-size n s i x e (many-transitions a b q) = over-transitions n s x a b (e ∙ q)
       by-size n s i x e (few a b q) = reads n s i x a b (e ∙ q)
@@ -41,53 +41,53 @@ module _ (t : List ℕ) where
   same-said : {u : List ℕ} {s : Said} (n : ℕ) (r : Said) → BeginsWith t u s → Text (take n t) r → s ≡ r
   same-said n r b x = unambiguous b (front t n x) .1
 
-  pub answers-8 : (parseAnswer t ≡ refused 8) ↔ ((u : List ℕ) (s : Said) → BeginsWith t u s → ⊥)
+  pub answers-8 : (readingAnswer t ≡ refused 8) ↔ ((u : List ℕ) (s : Said) → BeginsWith t u s → ⊥)
   answers-8 = (out outcome, into outcome)
     where
-      out : Outcome → parseAnswer t ≡ refused 8 → (u : List ℕ) (s : Said) → BeginsWith t u s → ⊥
+      out : Outcome → readingAnswer t ≡ refused 8 → (u : List ℕ) (s : Said) → BeginsWith t u s → ⊥
       out (no-text n e) z = n
       out (over-states n s x a e) z = let y : _≡_ {A = ℕ} 8 21 = cc in absurd (omega arith)
       out (over-transitions n s x a b e) z = let y : _≡_ {A = ℕ} 8 22 = cc in absurd (omega arith)
       out (reads n s i x a b e) z = let y : _≡_ {A = ℕ} 0 1 = cc in absurd (omega arith)
 
-      into : Outcome → ((u : List ℕ) (s : Said) → BeginsWith t u s → ⊥) → parseAnswer t ≡ refused 8
+      into : Outcome → ((u : List ℕ) (s : Said) → BeginsWith t u s → ⊥) → readingAnswer t ≡ refused 8
       into (no-text n e) z = e
       into (over-states n s x a e) z = absurd (z _ s (front t n x))
       into (over-transitions n s x a b e) z = absurd (z _ s (front t n x))
       into (reads n s i x a b e) z = absurd (z _ s (front t n x))
 
-  pub answers-21 : (parseAnswer t ≡ refused 21) ↔ ((u : List ℕ) × (s : Said) × BeginsWith t u s × (256 < length (statesOf s)))
+  pub answers-21 : (readingAnswer t ≡ refused 21) ↔ ((u : List ℕ) × (s : Said) × BeginsWith t u s × (256 < length (statesOf s)))
   answers-21 = (out outcome, into outcome)
     where
-      out : Outcome → parseAnswer t ≡ refused 21 → (u : List ℕ) × (s : Said) × BeginsWith t u s × (256 < length (statesOf s))
+      out : Outcome → readingAnswer t ≡ refused 21 → (u : List ℕ) × (s : Said) × BeginsWith t u s × (256 < length (statesOf s))
       out (no-text n e) z = let y : _≡_ {A = ℕ} 8 21 = cc in absurd (omega arith)
       out (over-states n s x a e) z = (take n t, s, front t n x, a)
       out (over-transitions n s x a b e) z = let y : _≡_ {A = ℕ} 21 22 = cc in absurd (omega arith)
       out (reads n s i x a b e) z = let y : _≡_ {A = ℕ} 0 1 = cc in absurd (omega arith)
 
-      into : Outcome → ((u : List ℕ) × (s : Said) × BeginsWith t u s × (256 < length (statesOf s))) → parseAnswer t ≡ refused 21
+      into : Outcome → ((u : List ℕ) × (s : Said) × BeginsWith t u s × (256 < length (statesOf s))) → readingAnswer t ≡ refused 21
       into (no-text n e) (u, r, b, m) = absurd (n u r b)
       into (over-states n s x a e) (u, r, b, m) = e
       into (over-transitions n s x a c e) (u, r, b, m) = absurd (omega (arith, ap (λ (k : Said). length (statesOf k)) (same-said n s b x)))
       into (reads n s i x a c e) (u, r, b, m) = absurd (omega (arith, ap (λ (k : Said). length (statesOf k)) (same-said n s b x)))
 
-  pub answers-22 : (parseAnswer t ≡ refused 22) ↔ ((u : List ℕ) × (s : Said) × BeginsWith t u s × (length (statesOf s) ≤ 256) × (2048 < length (automatonOf s (statesOf s) .transitions)))
+  pub answers-22 : (readingAnswer t ≡ refused 22) ↔ ((u : List ℕ) × (s : Said) × BeginsWith t u s × (length (statesOf s) ≤ 256) × (2048 < length (automatonOf s (statesOf s) .transitions)))
   answers-22 = (out outcome, into outcome)
     where
-      out : Outcome → parseAnswer t ≡ refused 22 → (u : List ℕ) × (s : Said) × BeginsWith t u s × (length (statesOf s) ≤ 256) × (2048 < length (automatonOf s (statesOf s) .transitions))
+      out : Outcome → readingAnswer t ≡ refused 22 → (u : List ℕ) × (s : Said) × BeginsWith t u s × (length (statesOf s) ≤ 256) × (2048 < length (automatonOf s (statesOf s) .transitions))
       out (no-text n e) z = let y : _≡_ {A = ℕ} 8 22 = cc in absurd (omega arith)
       out (over-states n s x a e) z = let y : _≡_ {A = ℕ} 21 22 = cc in absurd (omega arith)
       out (over-transitions n s x a b e) z = (take n t, s, front t n x, a, b)
       out (reads n s i x a b e) z = let y : _≡_ {A = ℕ} 0 1 = cc in absurd (omega arith)
 
-      into : Outcome → ((u : List ℕ) × (s : Said) × BeginsWith t u s × (length (statesOf s) ≤ 256) × (2048 < length (automatonOf s (statesOf s) .transitions))) → parseAnswer t ≡ refused 22
+      into : Outcome → ((u : List ℕ) × (s : Said) × BeginsWith t u s × (length (statesOf s) ≤ 256) × (2048 < length (automatonOf s (statesOf s) .transitions))) → readingAnswer t ≡ refused 22
       into (no-text n e) (u, r, b, m, k) = absurd (n u r b)
       into (over-states n s x a e) (u, r, b, m, k) = absurd (omega (arith, ap (λ (k : Said). length (statesOf k)) (same-said n s b x)))
       into (over-transitions n s x a c e) (u, r, b, m, k) = e
       into (reads n s i x a c e) (u, r, b, m, k) = absurd (omega (arith, ap (λ (k : Said). length (automatonOf k (statesOf k) .transitions)) (same-said n s b x)))
 
   -- 20 is none of the answers
-  pub answers-20 : parseAnswer t ≡ refused 20 → ⊥
+  pub answers-20 : readingAnswer t ≡ refused 20 → ⊥
   answers-20 z = go outcome
     where
       go : Outcome → ⊥
@@ -106,7 +106,7 @@ module _ (t : List ℕ) where
     pub is : R .pattern ≡ patternOf said
     pub writable : Writable (R .pattern)
 
-  pub answers-given : (R : Reading) → parseAnswer t ≡ given R → Given R
+  pub answers-given : (R : Reading) → readingAnswer t ≡ given R → Given R
   answers-given R z = go outcome
     where
       go : Outcome → Given R
@@ -120,10 +120,10 @@ module _ (t : List ℕ) where
 
   -- and something is given where a text at the front is within the limits
   pub answers-some : {u : List ℕ} {s : Said} → BeginsWith t u s → length (statesOf s) ≤ 256 → length (automatonOf s (statesOf s) .transitions) ≤ 2048
-      → (R : Reading) × (parseAnswer t ≡ given R)
+      → (R : Reading) × (readingAnswer t ≡ given R)
   answers-some {u} {s = r} b m k = go outcome
     where
-      go : Outcome → (R : Reading) × (parseAnswer t ≡ given R)
+      go : Outcome → (R : Reading) × (readingAnswer t ≡ given R)
       go (no-text n e) = absurd (n u r b)
       go (over-states n s x a e) = absurd (omega (arith, ap (λ (k : Said). length (statesOf k)) (same-said n s b x)))
       go (over-transitions n s x a c e) = absurd (omega (arith, ap (λ (k : Said). length (automatonOf k (statesOf k) .transitions)) (same-said n s b x)))

@@ -11,7 +11,6 @@ use lib.ListN.{length, take, drop, replicate, length-append, length-replicate}
 use lib.Seq.{sets-eq, take-at, length-take-le}
 use Rattle.automata.specs.Automaton.{Transition}
 use Rattle.automata.specs.Records.{readRecords}
-use Rattle.automata.proofs.Records.{length-read}
 use Rattle.grammar.specs.Grammar.{space, transition, transitions, Items}
 use Rattle.grammar.specs.Places.{spelled}
 use Rattle.grammar.specs.inner.Pieces.{arrowOf}
@@ -25,13 +24,13 @@ use Rattle.labels.specs.Labels.{sameLabel}
 use Rattle.lists.specs.Lists.{_∈_, tabulate}
 use Rattle.lists.proofs.Index.{same-decides}
 use Rattle.lists.proofs.Tests.{test}
-use Rattle.lists.specs.Written.{Written}
-use Rattle.lists.proofs.Written.{written-length}
+use Rattle.stores.specs.Written.{Written}
+use Rattle.stores.proofs.Written.{written-length}
 use Rattle.output.proofs.Halves.{inOrder-length}
 use Rattle.output.specs.declared.gathering.Filled.{Filled}
 use Rattle.output.specs.inner.Gathering.{Memory, Open, Held, Gathered, Rest}
 use Rattle.output.specs.inner.Ordered.{recordsIn}
-use Rattle.output.proofs.Collecting.{large-memory, rest-none, rest-end, rest-next, rest-over}
+use Rattle.output.proofs.Collecting.{records-count, large-memory, rest-none, rest-end, rest-next, rest-over}
 use Rattle.search.specs.Search.{index, add, meet}
 use Rattle.search.proofs.Tables.{extends-length, meet-append, meet-extends, meet-in}
 use Rattle.syntax.specs.Syntax.{Move}
@@ -53,12 +52,6 @@ use Rattle.parser.proofs.Tables.{table-none, added-table, added-names, 
 
 pub below-or : (a b : ℕ) → (a < b) ⊎ (b ≤ a)
 below-or a b = ⊎-elim (λ t. inl (ltb-true a b t)) (λ t. inr (ltb-false a b t)) (test (ltb a b))
-
--- belongs to crate output: the records before end
-pub records-count : (buf : List ℕ) (sorted end : ℕ) → Open buf sorted end → length (recordsIn buf 0 end) ≡ end / 5
-unfolding recordsIn
-records-count buf sorted end o =
-    length-read (end / 5) (take (end - 0) (drop 0 buf)) (let n = length-take-le (end - 0) (drop 0 buf) (omega (arith, o .packed .inside)) in omega (arith, o .packed .whole))
 
 -- a record more in a memory that is not filled to the end of its eighth ninth
 note-few : (old new : List ℕ) (f g : Filled) (e : Transition) → Held old (f .sorted) (f .end) → f .end < length old / 9 * 8 → Noting old f e new g → g .end < length new

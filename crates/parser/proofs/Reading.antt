@@ -23,38 +23,40 @@ use Rattle.grammar.specs.declared.pieces.AcceptingPiece.{AcceptingPiece}
 use Rattle.grammar.specs.declared.pieces.AcceptingPiece.the-variants.{Read as AcceptingRead, Nothing as NoAccepting}
 use Rattle.grammar.specs.declared.text.Layout.{Layout}
 use Rattle.grammar.proofs.Parts.{opens-nothing, opens-found, start-spelt, closes-nothing, closes-found, first-spelt}
-use Rattle.lists.specs.Written.{Written}
-use Rattle.lists.proofs.Written.{written-append}
+use Rattle.stores.specs.Written.{Written}
+use Rattle.stores.proofs.Written.{written-append}
 use Rattle.automata.specs.Automaton.{Transition}
 use Rattle.automata.specs.Records.{writeRecords}
 use Rattle.automata.proofs.Records.{length-write}
 use Rattle.labels.specs.Labels.{writeLabels, sameLabel}
 use Rattle.output.proofs.Answers.{room-lacking, room-enough, room-words, room-bytes}
+use Rattle.output.proofs.Collecting.{records-count}
 use Rattle.output.proofs.Halves.{inOrder-length}
 use Rattle.output.specs.declared.gathering.Filled.{Filled}
 use Rattle.output.specs.inner.Ordered.{recordsIn}
 use Rattle.output.specs.inner.Gathering.{Held, Gathered, Collected, Settled}
-use Rattle.output.specs.Output.{Pattern, roomFirst, statesFirst, transitionsFirst}
+use Rattle.output.specs.Output.{Pattern, Outputs, statesFirst, transitionsFirst}
 use Rattle.refusal.specs.Answer.{given}
+use Rattle.refusal.specs.Outcome.{Outcome}
 use Rattle.refusal.specs.declared.InputRefusal.the-variants.{Grammar}
 use Rattle.refusal.specs.declared.StateRefusal.the-variants.{OutputLength, States, Transitions}
 use Rattle.refusal.specs.declared.Refusal.the-variants.{Input, State}
 use Rattle.search.specs.Search.{meet}
 use Rattle.sheets.specs.Sheet.{write}
 use Rattle.syntax.specs.Spelled.{spell}
+use Rattle.name_table.proofs.Finding.{names-count}
 use Rattle.parser.specs.inner.Accepts.{markAll}
 use Rattle.parser.specs.inner.Arrows.{Fitting, ArrowsRead}
 use Rattle.parser.specs.inner.Memory.{Zeros}
 use Rattle.parser.specs.inner.Names.{Table, namesIn}
-use Rattle.parser.specs.Parsed.{Output, parsed, parsedOf}
+use Rattle.parser.specs.Parsed.{ReadLengths, parsed, parsedOf}
 use Rattle.parser.specs.inner.Records.{Recorded}
-use Rattle.parser.specs.Pattern.{namesOf, statesOf, transitionOf, acceptWord, automatonOf, patternOf, fewTransitions, meant, meaning, parseAnswer}
+use Rattle.parser.specs.Pattern.{namesOf, statesOf, transitionOf, acceptWord, automatonOf, patternOf, fewTransitions, meant, meaning, readingAnswer, parseAnswer}
 use Rattle.parser.specs.inner.Places.{saidAt, movesAt, transitionsAt, patternAt}
 use Rattle.parser.specs.declared.Parsed.the-variants.{Read, Refused}
 use Rattle.parser.specs.declared.arrows.Arrows.{Arrows}
 use Rattle.parser.specs.declared.names.Added.the-variants.{Kept, Full}
-use Rattle.parser.proofs.Finding.{names-count}
-use Rattle.parser.proofs.ReadInvariant.{below-or, records-count}
+use Rattle.parser.proofs.ReadInvariant.{below-or}
 use Rattle.parser.proofs.Marking.{marks-words}
 use Rattle.parser.proofs.Tables.{added-table, added-names, added-full}
 
@@ -124,7 +126,7 @@ module _ (t : List ℕ) (l : Layout) (ls : List (List ℕ)) (old : List ℕ) (f 
     pub few-22 : Recorded (take (end - 0) (drop 0 buf)) (transitionsAt t l ls)
     few-22 = record { words = a .listed h .words; few = simp (length-take, length-drop) (omega (arith, a .memory .most)) }
 
-    pub within-22 : (o n : List ℕ) (c : ℕ) (x : Output) → x ≡ parsed o n (given (record { pattern = patternAt t l ls; read = c })) → x ≡ parsed o n (fewTransitions (patternAt t l ls) c)
+    pub within-22 : (o n : List ℕ) (c : ℕ) (x : Outcome ReadLengths Outputs) → x ≡ parsed o n (given (record { pattern = patternAt t l ls; read = c })) → x ≡ parsed o n (fewTransitions (patternAt t l ls) c)
     unfolding fewTransitions transitionsFirst automatonOf spell
     within-22 o n c x q = q ∙ sym (rw (le-ltb 2048 (length (transitionsAt t l ls)) (omega (arith, a .listed h .behind, a .memory .most))))
 
@@ -166,7 +168,7 @@ module _ (t : List ℕ) (x : Span) (arrows : Cursor) (b buf : List ℕ) (r : Arr
       pub states-fitting : Fitting buf (r .filled)
       states-fitting = a .fitting i f
 
-      pub within-21 : (o n : List ℕ) (y : Output) → y ≡ parsed o n (fewTransitions (patternAt t (record { initial = x; arrows = arrows; first = first; more = more }) (namesIn t b i)) (c .at))
+      pub within-21 : (o n : List ℕ) (y : Outcome ReadLengths Outputs) → y ≡ parsed o n (fewTransitions (patternAt t (record { initial = x; arrows = arrows; first = first; more = more }) (namesIn t b i)) (c .at))
           → y ≡ parsed o n (meaning t (toldFrom t x (arrows .at)))
       unfolding meant statesFirst patternOf automatonOf
       within-21 o n y z =
@@ -176,18 +178,18 @@ module _ (t : List ℕ) (x : Span) (arrows : Cursor) (b buf : List ℕ) (r : Arr
 
 -- 20, 8, or what follows
 module _ (t o n : List ℕ) (f : Bool) (room : f ≡ (ltb (length o) 10500 || ltb (length n) 16642)) where
-  pub over-20 : f ≡ true → parsedOf (Refused (State OutputLength)) o n ≡ parsed o n (roomFirst o n (parseAnswer t))
-  unfolding parsed
-  over-20 h = sym (ap (parsed o n) (room-lacking o n (parseAnswer t) f room h))
+  pub over-20 : f ≡ true → parsedOf (Refused (State OutputLength)) o n ≡ parsed o n (parseAnswer t o n)
+  unfolding parsed parseAnswer
+  over-20 h = sym (ap (parsed o n) (room-lacking o n (readingAnswer t) f room h))
 
   module _ (h : f ≡ false) (p : NamePiece) (told : nameOf p ≡ opening t) where
-    pub outside-8 : p ≡ NoName → parsedOf (Refused (Input Grammar)) o n ≡ parsed o n (roomFirst o n (parseAnswer t))
-    unfolding parsed parseAnswer
-    outside-8 e = sym (ap (parsed o n) (room-enough o n (parseAnswer t) f room h ∙ ap (meaning t) (opens-nothing t p told e)))
+    pub outside-8 : p ≡ NoName → parsedOf (Refused (Input Grammar)) o n ≡ parsed o n (parseAnswer t o n)
+    unfolding parsed readingAnswer parseAnswer
+    outside-8 e = sym (ap (parsed o n) (room-enough o n (readingAnswer t) f room h ∙ ap (meaning t) (opens-nothing t p told e)))
 
-    pub text-read : (x : Span) (c : Cursor) → p ≡ NameRead x c → (y : Output) → y ≡ parsed o n (meaning t (toldFrom t x (c .at))) → y ≡ parsed o n (roomFirst o n (parseAnswer t))
-    unfolding parseAnswer
-    text-read x c e y q = q ∙ sym (ap (parsed o n) (room-enough o n (parseAnswer t) f room h ∙ ap (meaning t) (opens-found t p told x c e)))
+    pub text-read : (x : Span) (c : Cursor) → p ≡ NameRead x c → (y : Outcome ReadLengths Outputs) → y ≡ parsed o n (meaning t (toldFrom t x (c .at))) → y ≡ parsed o n (parseAnswer t o n)
+    unfolding readingAnswer parseAnswer
+    text-read x c e y q = q ∙ sym (ap (parsed o n) (room-enough o n (readingAnswer t) f room h ∙ ap (meaning t) (opens-found t p told x c e)))
 
 pub ruleset recordedLaws = (over-22, few-22, within-22, gathered-held, needs)
 

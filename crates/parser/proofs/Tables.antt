@@ -22,11 +22,11 @@ use Rattle.name_table.specs.declared.Added.the-variants as Variants
 use Rattle.name_table.proofs.Adding as Adding
 use Rattle.search.specs.Search.{index, add, meet}
 use Rattle.search.proofs.Tables.{meet-out}
+use Rattle.name_table.proofs.Finding.{names-count}
 use Rattle.parser.specs.inner.Memory.{Zeros}
 use Rattle.parser.specs.inner.Names.{spanAt, namesIn, Table, Addition, kept, full}
 use Rattle.parser.specs.declared.names.Added.{Added}
 use Rattle.parser.specs.declared.names.Added.the-variants.{Kept, Full}
-use Rattle.parser.proofs.Finding.{names-count}
 
 -- a name of a text is a label
 module _ (t : List ℕ) (x : Span) (p : Spelt t x) where

@@ -38,7 +38,7 @@ use Rattle.syntax.specs.Syntax.{Move, Said, Text, BeginsWith}
 use Rattle.syntax.proofs.Theorems.{front}
 use Rattle.parser.specs.Moves.{IsMove}
 use Rattle.parser.specs.Parsed.{parsed, parsedOf, parsedNumber}
-use Rattle.parser.specs.Pattern.{bothNames, namesOf, statesOf, transitionOf, acceptWord, automatonOf, patternOf, parseAnswer}
+use Rattle.parser.specs.Pattern.{bothNames, namesOf, statesOf, transitionOf, acceptWord, automatonOf, patternOf, readingAnswer, parseAnswer}
 use Rattle.parser.specs.declared.Parsed.{Parsed}
 use Rattle.parser.specs.declared.Parsed.the-variants.{Read}
 use Rattle.parser.proofs.Appearance.{meet-order}
@@ -106,26 +106,27 @@ module _ (s : Said) where
       into i = rw (any-in (sameLabel x) i (same-decides .same-self x)) (omega arith)
 
 -- the contract of a call: r is its answer, o and l are the outputs before it, o′ and l′ after it
-module _ (t o l o′ l′ : List ℕ) (r : Parsed) (call : parsedOf r o′ l′ ≡ parsed o l (roomFirst o l (parseAnswer t))) where
-  as-made : outputOf (madeOf r) o′ l′ ≡ outputs o l (roomFirst o l (patternsOf (parseAnswer t)))
-  as-made = made-call o l o′ l′ r (parseAnswer t) call
+module _ (t o l o′ l′ : List ℕ) (r : Parsed) (call : parsedOf r o′ l′ ≡ parsed o l (parseAnswer t o l)) where
+  as-made : outputOf (madeOf r) o′ l′ ≡ outputs o l (roomFirst o l (patternsOf (readingAnswer t)))
+  unfolding parseAnswer
+  as-made = made-call o l o′ l′ r (readingAnswer t) call
 
-  -- a number other than 20 is answered exactly where there is room and `parseAnswer` gives it
-  by-number : (k : ℕ) → (k ≡ 0 → ⊥) → (k ≡ 20 → ⊥) → (parsedNumber r ≡ k) ↔ (Room o l × (parseAnswer t ≡ refused k))
+  -- a number other than 20 is answered exactly where there is room and `readingAnswer` gives it
+  by-number : (k : ℕ) → (k ≡ 0 → ⊥) → (k ≡ 20 → ⊥) → (parsedNumber r ≡ k) ↔ (Room o l × (readingAnswer t ≡ refused k))
   by-number k some other =
-      let c = call-number o l o′ l′ (madeOf r) (patternsOf (parseAnswer t)) as-made k some other in
-      (λ e. let h = c .0 (made-number r ∙ e) in (h .0, only-refused k (parseAnswer t) (h .1)), λ h. sym (made-number r) ∙ c .1 (h .0, ap patternsOf (h .1)))
+      let c = call-number o l o′ l′ (madeOf r) (patternsOf (readingAnswer t)) as-made k some other in
+      (λ e. let h = c .0 (made-number r ∙ e) in (h .0, only-refused k (readingAnswer t) (h .1)), λ h. sym (made-number r) ∙ c .1 (h .0, ap patternsOf (h .1)))
 
   -- the bytes that were read are a text, and the outputs hold what it means: at the front of one the sheet of its automaton, at the front of the other
   -- the labels of its states, and behind them nothing is changed
   pub parse-left : (n w b : ℕ) → r ≡ Read n w b → (s : Said) × (n ≤ length t) × Text (take n t) s × Leaves o l o′ l′ w b (automatonOf s (statesOf s)) (statesOf s)
-  unfolding patternOf
+  unfolding patternOf parseAnswer
   parse-left n w b e =
-      let g = call-given o l o′ l′ (madeOf r) (patternsOf (parseAnswer t)) as-made .0 (made-number r ∙ ap parsedNumber e) in
-      let R = some-reading (parseAnswer t) (g .1 .0) (g .1 .1) in
+      let g = call-given o l o′ l′ (madeOf r) (patternsOf (readingAnswer t)) as-made .0 (made-number r ∙ ap parsedNumber e) in
+      let R = some-reading (readingAnswer t) (g .1 .0) (g .1 .1) in
       let i = answers-given t (R .0) (R .1) in
-      let c : n ≡ R .0 .read = bytes-read o l o′ l′ n w b (R .0) (ap (λ (p : Parsed). parsedOf p o′ l′) (sym e) ∙ call ∙ ap (parsed o l) (room-first o l (parseAnswer t) (g .0) ∙ R .1)) in
-      let v = call-leaves o l o′ l′ (madeOf r) (patternsOf (parseAnswer t)) as-made w b (ap madeOf e) (R .0 .pattern) (ap patternsOf (R .1)) (i .writable) in (
+      let c : n ≡ R .0 .read = bytes-read o l o′ l′ n w b (R .0) (ap (λ (p : Parsed). parsedOf p o′ l′) (sym e) ∙ call ∙ ap (parsed o l) (room-first o l (readingAnswer t) (g .0) ∙ R .1)) in
+      let v = call-leaves o l o′ l′ (madeOf r) (patternsOf (readingAnswer t)) as-made w b (ap madeOf e) (R .0 .pattern) (ap patternsOf (R .1)) (i .writable) in (
         i .said,
         subst (λ k. k ≤ length t) (sym c) (i .inside),
         subst (λ k. Text (take k t) (i .said)) (sym c) (i .text),
@@ -136,9 +137,9 @@ module _ (t o l o′ l′ : List ℕ) (r : Parsed) (call : parsedOf r o′ l′ 
   pub parse-read : (parsedNumber r ≡ 0)
       ↔ (Room o l × ((u : List ℕ) × (s : Said) × BeginsWith t u s × (length (statesOf s) ≤ 256) × (length (automatonOf s (statesOf s) .transitions) ≤ 2048)))
   parse-read =
-      let c = call-given o l o′ l′ (madeOf r) (patternsOf (parseAnswer t)) as-made in (
+      let c = call-given o l o′ l′ (madeOf r) (patternsOf (readingAnswer t)) as-made in (
         λ e. let g = c .0 (made-number r ∙ e) in
-            let R = some-reading (parseAnswer t) (g .1 .0) (g .1 .1) in
+            let R = some-reading (readingAnswer t) (g .1 .0) (g .1 .1) in
             let i = answers-given t (R .0) (R .1) in
             (g .0, (_, i .said, front t (R .0 .read) (i .text), i .few-states, i .few-transitions)),
         λ h. let R = answers-some t (h .1 .2) (h .1 .3) (h .1 .4) in sym (made-number r) ∙ c .1 (h .0, (R .0 .pattern, ap patternsOf (R .1))),
@@ -147,7 +148,7 @@ module _ (t o l o′ l′ : List ℕ) (r : Parsed) (call : parsedOf r o′ l′ 
   -- 20 exactly where an output is shorter than its fixed size
   pub parse-20 : (parsedNumber r ≡ 20) ↔ (Room o l → ⊥)
   parse-20 =
-      let c = call-20 o l o′ l′ (madeOf r) (patternsOf (parseAnswer t)) as-made (λ e. answers-20 t (only-refused 20 (parseAnswer t) e)) in
+      let c = call-20 o l o′ l′ (madeOf r) (patternsOf (readingAnswer t)) as-made (λ e. answers-20 t (only-refused 20 (readingAnswer t) e)) in
       (λ e. c .0 (made-number r ∙ e), λ n. sym (made-number r) ∙ c .1 n)
 
   -- 8 exactly where there is room, and no text stands at the front
@@ -165,4 +166,4 @@ module _ (t o l o′ l′ : List ℕ) (r : Parsed) (call : parsedOf r o′ l′ 
 
   -- a refusal leaves everything as it was
   pub parse-refused : (parsedNumber r ≡ 0 → ⊥) → Unchanged o l o′ l′
-  parse-refused n = call-refused o l o′ l′ (madeOf r) (patternsOf (parseAnswer t)) as-made (λ e. n (sym (made-number r) ∙ e))
+  parse-refused n = call-refused o l o′ l′ (madeOf r) (patternsOf (readingAnswer t)) as-made (λ e. n (sym (made-number r) ∙ e))

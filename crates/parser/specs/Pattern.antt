@@ -9,7 +9,7 @@ use Rattle.automata.specs.Ordered.{inOrder}
 use Rattle.grammar.specs.Grammar.{ReadResult, nothing, found, TextParts, wholeText}
 use Rattle.labels.specs.Labels.{sameLabel}
 use Rattle.lists.specs.Lists.{any}
-use Rattle.output.specs.Output.{Pattern, statesFirst, transitionsFirst}
+use Rattle.output.specs.Output.{Pattern, roomFirst, statesFirst, transitionsFirst}
 use Rattle.refusal.specs.Answer.{Answer, refused, given}
 use Rattle.search.specs.Search.{index, meet}
 use Rattle.syntax.specs.Syntax.{Move, Said}
@@ -61,11 +61,19 @@ fewTransitions P n = transitionsFirst (P .automaton) (given (record { pattern = 
 unfoldable pub meant : Said → ℕ → Answer Reading
 meant s n = statesFirst (patternOf s .automaton) (fewTransitions (patternOf s) n)
 
--- 8 where no text is found in t
+-- 8 where no text is found, or else the answer for its parts and its length
+abbrev pub textFirst : {X : Type 0} → ReadResult TextParts → (TextParts → ℕ → Answer X) → Answer X
+textFirst nothing a = refused 8
+textFirst (found g n) a = a g n
+
+-- what the text that is found in t means
 abbrev pub meaning : List ℕ → ReadResult TextParts → Answer Reading
-meaning t nothing = refused 8
-meaning t (found g n) = meant (spell t g) n
+meaning t f = textFirst f (λ g n. meant (spell t g) n)
 
 -- the pattern at the front of a text
-unfoldable pub parseAnswer : List ℕ → Answer Reading
-parseAnswer t = meaning t (wholeText t)
+unfoldable pub readingAnswer : List ℕ → Answer Reading
+readingAnswer t = meaning t (wholeText t)
+
+-- the same into the outputs o and l: 20, then 8, 21 and 22
+unfoldable pub parseAnswer : List ℕ → List ℕ → List ℕ → Answer Reading
+parseAnswer t o l = roomFirst o l (readingAnswer t)

@@ -7,8 +7,7 @@ ghost use Rattle.grammar.specs.Places.{spelled};
 ghost use Rattle.grammar.specs.inner.Parts.{toldFrom};
 ghost use Rattle.grammar.specs.inner.Places.{Spelt, Laid};
 ghost use Rattle.labels.specs.Labels.{entry, writeLabels};
-ghost use Rattle.lists.specs.Written.{Written};
-ghost use Rattle.output.specs.Output.{roomFirst};
+ghost use Rattle.stores.specs.Written.{Written};
 ghost use Rattle.output.specs.inner.Gathering.{Memory, Gathered};
 ghost use Rattle.refusal.specs.Answer.{given};
 ghost use Rattle.parser.specs.inner.Arrows.{Fitting, ArrowsRead, StoppedAt};
@@ -18,6 +17,7 @@ ghost use Rattle.parser.specs.inner.Records.{Recorded};
 ghost use Rattle.parser.specs.Parsed.{parsedOf, parsed};
 ghost use Rattle.parser.specs.Pattern.{transitionOf, fewTransitions, meaning, parseAnswer};
 ghost use Rattle.parser.specs.inner.Places.{movesAt, transitionsAt, patternAt};
+ghost use Rattle.output.specs.Output.{labelsSize, sheetSize};
 use arrows::Arrows;
 use arrows::Begun;
 use arrows::Stop;
@@ -44,13 +44,13 @@ pub enum Parsed {
 
 // The sheet with the start 0, these accept words and these records.
 fn write_sheet(out: &mut [u32], accepts: &[u32], records: &[u32]) -> usize
-    requires { ⌜ (10500 ≤ length (now out)) × (length (now accepts) ≤ 256) × (length (now records) ≤ 10240) ⌝ }
+    requires { ⌜ (sheetSize ≤ length (now out)) × (length (now accepts) ≤ 256) × (length (now records) ≤ 10240) ⌝ }
     ensures { λ r. ⌜ Written (now (out .entry)) 0 (1 ∷ 0 ∷ length (now (accepts .entry)) ∷ (now (accepts .entry) ++ length (now (records .entry)) / 5 ∷ now (records .entry))) (now (out .exit)) r ⌝ }
 {
     let first = output::put_start(out, 0, accepts.len() as u32);
-    let count = output::put_words(out, first, accepts);
-    let behind = output::put_word(out, count, (records.len() / 5) as u32);
-    output::put_words(out, behind, records)
+    let count = stores::put_words(out, first, accepts);
+    let behind = stores::put_word(out, count, (records.len() / 5) as u32);
+    stores::put_words(out, behind, records)
 }
 
 // Name j of a table after its length.
@@ -65,7 +65,7 @@ fn put_name(names: &mut [u8], at: usize, text: &[u8], t: &[usize], j: usize) -> 
 
 // The label list with the names of a table.
 fn write_labels(names: &mut [u8], text: &[u8], t: &[usize], n: usize) -> usize
-    requires { ⌜ Table (now text) (now t) n × (16642 ≤ length (now names)) ⌝ }
+    requires { ⌜ Table (now text) (now t) n × (labelsSize ≤ length (now names)) ⌝ }
     ensures { λ r. ⌜ Written (now (names .entry)) 0 (writeLabels (namesIn (now (text .entry)) (now (t .entry)) n)) (now (names .exit)) r ⌝ }
 {
     let mut at = labels::put_count(names, n);
@@ -91,7 +91,7 @@ fn write_pattern(
 ) -> Parsed
     requires { ⌜ Table (now text) (now t) n × Laid (now text) l ⌝ }
     requires { ⌜ Recorded (now records) (transitionsAt (now text) l (namesIn (now text) (now t) n)) × Zeros 256 (now words) ⌝ }
-    requires { ⌜ (10500 ≤ length (now out)) × (16642 ≤ length (now names)) ⌝ }
+    requires { ⌜ (sheetSize ≤ length (now out)) × (labelsSize ≤ length (now names)) ⌝ }
     ensures { λ r. ⌜ parsedOf r (now (out .exit)) (now (names .exit)) ≡ parsed (now (out .entry)) (now (names .entry)) (given (record { pattern = patternAt (now (text .entry)) l (namesIn (now (text .entry)) (now (t .entry)) n); read = c .at })) ⌝ }
 {
     accepts::mark_names(text, l.first, l.more, t, n, words);
@@ -116,7 +116,7 @@ fn with_names(
     requires { ⌜ Table (now text) (now t) n × Laid (now text) l ⌝ }
     requires { ⌜ Fitting (now buf) f ⌝ }
     requires { ⌜ Gathered (now buf) (f .sorted) (f .end) (map (transitionOf (namesIn (now text) (now t) n)) (movesAt (now text) (l .arrows .at))) × Zeros 256 (now words) ⌝ }
-    requires { ⌜ (10500 ≤ length (now out)) × (16642 ≤ length (now names)) ⌝ }
+    requires { ⌜ (sheetSize ≤ length (now out)) × (labelsSize ≤ length (now names)) ⌝ }
     ensures { λ r. ⌜ parsedOf r (now (out .exit)) (now (names .exit)) ≡ parsed (now (out .entry)) (now (names .entry)) (fewTransitions (patternAt (now (text .entry)) l (namesIn (now (text .entry)) (now (t .entry)) n)) (c .at)) ⌝ }
 {
     let last = output::collect_records(buf, f);
@@ -140,7 +140,7 @@ fn with_read(
     names: &mut [u8],
 ) -> Parsed
     requires { ⌜ Spelt (now text) x × ArrowsRead (now text) (arrows .at) (spelled (now text) x ∷ []) (now t) (now buf) read × Zeros 256 (now words) ⌝ }
-    requires { ⌜ (10500 ≤ length (now out)) × (16642 ≤ length (now names)) ⌝ }
+    requires { ⌜ (sheetSize ≤ length (now out)) × (labelsSize ≤ length (now names)) ⌝ }
     ensures { λ r. ⌜ parsedOf r (now (out .exit)) (now (names .exit)) ≡ parsed (now (out .entry)) (now (names .entry)) (meaning (now (text .entry)) (toldFrom (now (text .entry)) x (arrows .at))) ⌝ }
 {
     let AcceptingPiece::Read(first, more, c) = grammar::closing(text, read.behind) else {
@@ -172,12 +172,12 @@ fn with_more(
     names: &mut [u8],
 ) -> Parsed
     requires { ⌜ Spelt (now text) x × StoppedAt (now text) (arrows .at) (spelled (now text) x ∷ []) (now t) (now small) s × Zeros 256 (now words) ⌝ }
-    requires { ⌜ (10500 ≤ length (now out)) × (16642 ≤ length (now names)) ⌝ }
+    requires { ⌜ (sheetSize ≤ length (now out)) × (labelsSize ≤ length (now names)) ⌝ }
     ensures { λ r. ⌜ parsedOf r (now (out .exit)) (now (names .exit)) ≡ parsed (now (out .entry)) (now (names .entry)) (meaning (now (text .entry)) (toldFrom (now (text .entry)) x (arrows .at))) ⌝ }
 {
     let mut buf = [0u32; 11520];
     let end = s.filled.end;
-    output::put_words(&mut buf, 0, &small[0..end]);
+    stores::put_words(&mut buf, 0, &small[0..end]);
     let read = arrows::read_rest(
         text,
         s.cursor,
@@ -201,7 +201,7 @@ fn with_tables(
     names: &mut [u8],
 ) -> Parsed
     requires { ⌜ Spelt (now text) x × Zeros 1024 (now t) × Memory (now buf) × Zeros 256 (now words) ⌝ }
-    requires { ⌜ (10500 ≤ length (now out)) × (16642 ≤ length (now names)) ⌝ }
+    requires { ⌜ (sheetSize ≤ length (now out)) × (labelsSize ≤ length (now names)) ⌝ }
     ensures { λ r. ⌜ parsedOf r (now (out .exit)) (now (names .exit)) ≡ parsed (now (out .entry)) (now (names .entry)) (meaning (now (text .entry)) (toldFrom (now (text .entry)) x (arrows .at))) ⌝ }
 {
     let begun = arrows::read_states(text, x, arrows, t, buf);
@@ -214,7 +214,7 @@ fn with_tables(
 // The same by tables of its own.
 fn from_start(text: &[u8], x: Span, arrows: Cursor, out: &mut [u32], names: &mut [u8]) -> Parsed
     requires { ⌜ Spelt (now text) x ⌝ }
-    requires { ⌜ (10500 ≤ length (now out)) × (16642 ≤ length (now names)) ⌝ }
+    requires { ⌜ (sheetSize ≤ length (now out)) × (labelsSize ≤ length (now names)) ⌝ }
     ensures { λ r. ⌜ parsedOf r (now (out .exit)) (now (names .exit)) ≡ parsed (now (out .entry)) (now (names .entry)) (meaning (now (text .entry)) (toldFrom (now (text .entry)) x (arrows .at))) ⌝ }
 {
     let mut t = [0usize; 1024];
@@ -225,7 +225,7 @@ fn from_start(text: &[u8], x: Span, arrows: Cursor, out: &mut [u32], names: &mut
 
 // The pattern at the front of a text: its sheet and its labels into the lent outputs, and how many bytes were read.
 pub fn parse_automaton(text: &[u8], out: &mut [u32], names: &mut [u8]) -> Parsed
-    ensures { λ r. ⌜ parsedOf r (now (out .exit)) (now (names .exit)) ≡ parsed (now (out .entry)) (now (names .entry)) (roomFirst (now (out .entry)) (now (names .entry)) (parseAnswer (now (text .entry)))) ⌝ }
+    ensures { λ r. ⌜ parsedOf r (now (out .exit)) (now (names .exit)) ≡ parsed (now (out .entry)) (now (names .entry)) (parseAnswer (now (text .entry)) (now (out .entry)) (now (names .entry))) ⌝ }
 {
     if output::lacks_room(out, names) {
         return Parsed::Refused(Refusal::State(StateRefusal::OutputLength));

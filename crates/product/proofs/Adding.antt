@@ -39,7 +39,7 @@ module _ (buf : List ℕ) (sorted end : ℕ) (k : Open buf sorted end) (T : List
   pub joint-other-right : (getD e 1 0 ≡ 1 → ⊥) → Gathered buf sorted end (recordsIn buf 0 end ++ links T i (recordAt d 0 ∷ []) (recordAt e 0 ∷ []))
   joint-other-right h = none-added (joints-other-right (recordAt d 0) (recordAt e 0) h)
 
-  module _ (x : Common) (told : spanOf x ≡ intersectRanges (record { low = getD d 2 0; high = getD d 3 0 }) (record { low = getD e 2 0; high = getD e 3 0 })) (hd : getD d 1 0 ≡ 1) (he : getD e 1 0 ≡ 1) where
+  module _ (x : Common) (told : spanOf x ≡ intersectRanges (record { first = getD d 2 0; last = getD d 3 0 }) (record { first = getD e 2 0; last = getD e 3 0 })) (hd : getD d 1 0 ≡ 1) (he : getD e 1 0 ≡ 1) where
     pub joint-apart : x ≡ Nothing → Gathered buf sorted end (recordsIn buf 0 end ++ links T i (recordAt d 0 ∷ []) (recordAt e 0 ∷ []))
     unfolding jointOf
     joint-apart h =
@@ -49,7 +49,7 @@ module _ (buf : List ℕ) (sorted end : ℕ) (k : Open buf sorted end) (T : List
         → Gathered m ahead next (recordsIn buf 0 end ++ record { from = i; kind = 1; first = a; last = b; to = to } ∷ []) → Gathered m ahead next (recordsIn buf 0 end ++ links T i (recordAt d 0 ∷ []) (recordAt e 0 ∷ []))
     unfolding links jointOf transitionOf
     joint-put a b h to q m ahead next g =
-        let j : jointsOf (recordAt d 0 ∷ []) (recordAt e 0 ∷ []) ≡ record { span = record { low = a; high = b }; to = record { left = getD d 4 0; right = getD e 4 0 } } ∷ [] =
+        let j : jointsOf (recordAt d 0 ∷ []) (recordAt e 0 ∷ []) ≡ record { span = record { first = a; last = b }; to = record { left = getD d 4 0; right = getD e 4 0 } } ∷ [] =
         joints-two (recordAt d 0) (recordAt e 0) hd he ∙ ap (λ o. jointOf o (record { left = getD d 4 0; right = getD e 4 0 })) (sym told ∙ ap spanOf h) in
         rw (j, ← q) g
 

@@ -62,9 +62,9 @@ unfolding meetingPairs
 next-within A B f g p q m =
     let r = map-out (λ (j : Joint). j .to) (jointsFrom A B p) q m in
     let o = from-out A B p (r .0) (r .1) in
-    let low = ap (λ (x : Joint). x .span .low) (o .of .is) in
-    let high = ap (λ (x : Joint). x .span .high) (o .of .is) in
-    let k = o .meet (r .0 .span .low) (omega arith) (omega (arith, low, high, o .of .meets)) in
+    let first-is = ap (λ (x : Joint). x .span .first) (o .of .is) in
+    let last-is = ap (λ (x : Joint). x .span .last) (o .of .is) in
+    let k = o .meet (r .0 .span .first) (omega arith) (omega (arith, first-is, last-is, o .of .meets)) in
     let to : q ≡ record { left = o .left .to; right = o .right .to } = r .2 ∙ ap (λ (x : Joint). x .to) (o .of .is) in
     rw to (f .tos (o .left) (k .left), g .tos (o .right) (k .right))
 

@@ -6,12 +6,13 @@ use mathlib.Core.Logic.{⊎-elim}
 use mathlib.Core.Option.{none, some}
 use mathlib.Core.Path.{_≡_, refl, sym, _∙_, ap, subst}
 use native.Mathlib.Omega.{arith}
-use borrow.Author.Tests.{le-leb, lt-leb, leb-true, ltb-true, eq-eqb, ne-eqb, eqb-true}
+use borrow.Author.Tests.{le-leb, lt-leb, leb-true, ltb-true, eq-eqb, ne-eqb}
 use lib.Dec.{leb, ltb, eqb}
 use lib.ListN.{length}
 use Rattle.lists.specs.Lists.{_∈_, filter}
 use Rattle.lists.proofs.Lists.{filter-in, filter-out, filter-append, length-filter}
 use Rattle.automata.specs.Automaton.{Transition, Automaton, leaving, rangesOf}
+use Rattle.automata.proofs.Leaving.{range-leaves}
 use Rattle.ranges.specs.Span.{intersectRanges}
 use Rattle.automata.specs.Pairs.{Pair}
 use Rattle.product.specs.Product.{Joint, symbolsOf, jointOf, joint, jointsWith, joints, jointsOf, jointsFrom}
@@ -20,7 +21,7 @@ use Rattle.product.specs.inner.Tables.{ended, notEnded}
 
 -- the joint of two ranges that meet
 abbrev pub jointBy : Transition → Transition → Joint
-jointBy d e = record { span = record { low = max (d .first) (e .first); high = min (d .last) (e .last) }; to = record { left = d .to; right = e .to } }
+jointBy d e = record { span = record { first = max (d .first) (e .first); last = min (d .last) (e .last) }; to = record { left = d .to; right = e .to } }
 
 -- where a joint comes from
 pub record Of (d e : Transition) (j : Joint) : Type 0 where
@@ -36,19 +37,19 @@ pub record Origin (ds es : List Transition) (j : Joint) : Type 0 where
 
 joint-out : (d e : Transition) (j : Joint) → j ∈ joint d e → Of d e j
 unfolding joint jointOf intersectRanges
-joint-out d e j m = go (leb low high) refl m
+joint-out d e j m = go (leb greater-first lesser-last) refl m
   where
-    low : ℕ
-    low = max (d .first) (e .first)
+    greater-first : ℕ
+    greater-first = max (d .first) (e .first)
 
-    high : ℕ
-    high = min (d .last) (e .last)
+    lesser-last : ℕ
+    lesser-last = min (d .last) (e .last)
 
     to : Pair
     to = record { left = d .to; right = e .to }
 
-    go : (b : Bool) → leb low high ≡ b → j ∈ jointOf (cond b (some (record { low = low; high = high })) none) to → Of d e j
-    go true h m = record { meets = leb-true low high h; is = List·Memᴰ·eq-of-singleton m }
+    go : (b : Bool) → leb greater-first lesser-last ≡ b → j ∈ jointOf (cond b (some (record { first = greater-first; last = lesser-last })) none) to → Of d e j
+    go true h m = record { meets = leb-true greater-first lesser-last h; is = List·Memᴰ·eq-of-singleton m }
     go false h m = elim m [ ]
 
 joint-in : (d e : Transition) (j : Joint) → Of d e j → j ∈ joint d e
@@ -88,11 +89,7 @@ pub record RangeFrom (A : Automaton) (p : ℕ) (d : Transition) : Type 0 where
   pub is-range : d .kind ≡ 1
 
 pub range-out : (A : Automaton) (p : ℕ) (d : Transition) → d ∈ rangesOf (leaving A p) → RangeFrom A p d
-unfolding rangesOf leaving
-range-out A p d m =
-    let k = filter-out (λ e. eqb (e .kind) 1) d (leaving A p) m in
-    let l = filter-out (λ e. eqb (e .from) p) d (A .transitions) (k .0) in
-    record { «in» = l .0; from-is = eqb-true _ _ (l .1); is-range = eqb-true _ _ (k .1) }
+range-out A p d m = let (i, c, k) = range-leaves A p d m in record { «in» = i; from-is = c; is-range = k }
 
 pub range-in : {A : Automaton} {p : ℕ} {d : Transition} → RangeFrom A p d → d ∈ rangesOf (leaving A p)
 unfolding rangesOf leaving
@@ -104,7 +101,7 @@ module _ (A B : Automaton) (p : Pair) where
     pub left : Transition
     pub right : Transition
     pub of : Of left right j
-    pub meet : (a : ℕ) → j .span .low ≤ a → a ≤ j .span .high → Meet A B (p .left) (p .right) left right a
+    pub meet : (a : ℕ) → j .span .first ≤ a → a ≤ j .span .last → Meet A B (p .left) (p .right) left right a
 
   pub from-out : (j : Joint) → j ∈ jointsFrom A B p → From j
   unfolding jointsFrom jointsOf
@@ -112,8 +109,8 @@ module _ (A B : Automaton) (p : Pair) where
       let r = joints-out _ _ j m in
       let d = range-out A (p .left) (r .left) (r .in-left) in
       let e = range-out B (p .right) (r .right) (r .in-right) in
-      let low : j .span .low ≡ max (r .left .first) (r .right .first) = ap (λ (x : Joint). x .span .low) (r .of .is) in
-      let high : j .span .high ≡ min (r .left .last) (r .right .last) = ap (λ (x : Joint). x .span .high) (r .of .is) in
+      let first-is : j .span .first ≡ max (r .left .first) (r .right .first) = ap (λ (x : Joint). x .span .first) (r .of .is) in
+      let last-is : j .span .last ≡ min (r .left .last) (r .right .last) = ap (λ (x : Joint). x .span .last) (r .of .is) in
       record {
         left = r .left;
         right = r .right;
@@ -126,10 +123,10 @@ module _ (A B : Automaton) (p : Pair) where
               from-right = e .from-is;
               range-left = d .is-range;
               range-right = e .is-range;
-              above-left = omega (arith, low, l);
-              below-left = omega (arith, high, u);
-              above-right = omega (arith, low, l);
-              below-right = omega (arith, high, u);
+              above-left = omega (arith, first-is, l);
+              below-left = omega (arith, last-is, u);
+              above-right = omega (arith, first-is, l);
+              below-right = omega (arith, last-is, u);
             };
       }
 

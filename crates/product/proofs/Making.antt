@@ -9,7 +9,7 @@ use lib.Dec.{ltb}
 use lib.ListN.{length, take, replicate, length-replicate}
 use lib.Seq.{sets, length-take-le}
 use Rattle.lists.specs.Lists.{any, Distinct}
-use Rattle.lists.specs.Written.{Written}
+use Rattle.stores.specs.Written.{Written}
 use Rattle.automata.specs.Automaton.{Automaton}
 use Rattle.automata.specs.Records.{writeRecords}
 use Rattle.automata.proofs.Records.{length-write}
@@ -19,7 +19,7 @@ use Rattle.output.specs.declared.Made.{Made}
 use Rattle.output.specs.declared.Made.the-variants as made
 use Rattle.output.specs.inner.Gathering.{Collected}
 use Rattle.output.specs.Made.{outputOf}
-use Rattle.output.specs.Output.{outputs, roomFirst}
+use Rattle.output.specs.Output.{outputs}
 use Rattle.output.proofs.Answers.{made-given, made-refused, room-lacking, room-enough}
 use Rattle.refusal.specs.declared.InputRefusal.{InputRefusal}
 use Rattle.refusal.specs.declared.InputRefusal.the-variants.{Epsilon}
@@ -132,15 +132,16 @@ module _ (a b : List ℕ) (out names : List ℕ) where
     second-refused i h = made-refused out names (Input i) _ (sheet-refused b _ r e i h)
 
   pub no-room : (l : Bool) → l ≡ (ltb (length out) 10500 || ltb (length names) 16642) → l ≡ true
-      → outputOf (made.Refused (State OutputLength)) out names ≡ outputs out names (roomFirst out names (intersectionAnswer a b))
-  no-room l o h = made-refused out names (State OutputLength) _ (room-lacking out names (intersectionAnswer a b) l o h)
+      → outputOf (made.Refused (State OutputLength)) out names ≡ outputs out names (intersectionAnswer a b out names)
+  unfolding intersectionAnswer
+  no-room l o h = made-refused out names (State OutputLength) _ (room-lacking out names _ l o h)
 
   module _ (l : Bool) (o : l ≡ (ltb (length out) 10500 || ltb (length names) 16642)) (f : l ≡ false) (r : Checked) (e : checkedNumber r ≡ fault a) where
     pub first-passed : r ≡ checked.Accepted → (x : Made) (out′ names′ : List ℕ) → outputOf x out′ names′ ≡ outputs out names (sheetFirst b (product (read a) (read b)))
-        → outputOf x out′ names′ ≡ outputs out names (roomFirst out names (intersectionAnswer a b))
+        → outputOf x out′ names′ ≡ outputs out names (intersectionAnswer a b out names)
     unfolding intersectionAnswer
     first-passed h x out′ names′ p = p ∙ ap (outputs out names) (sym (room-enough out names _ l o f ∙ sheet-passed a _ r e h))
 
-    pub first-refused : (i : InputRefusal) → r ≡ checked.Refused i → outputOf (made.Refused (Input i)) out names ≡ outputs out names (roomFirst out names (intersectionAnswer a b))
+    pub first-refused : (i : InputRefusal) → r ≡ checked.Refused i → outputOf (made.Refused (Input i)) out names ≡ outputs out names (intersectionAnswer a b out names)
     unfolding intersectionAnswer
     first-refused i h = made-refused out names (Input i) _ (room-enough out names _ l o f ∙ sheet-refused a _ r e i h)

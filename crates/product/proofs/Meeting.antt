@@ -30,7 +30,7 @@ module _ (queue t : List ℕ) (n : ℕ) (k : Queued queue t n) (d e : List ℕ) 
   pub record-other-right : (getD e 1 0 ≡ 1 → ⊥) → PairsMet (tableOf queue n) (targets (recordAt d 0 ∷ []) (recordAt e 0 ∷ [])) queue t n
   record-other-right h = none-met (joints-other-right (recordAt d 0) (recordAt e 0) h)
 
-  module _ (x : Common) (told : spanOf x ≡ intersectRanges (record { low = getD d 2 0; high = getD d 3 0 }) (record { low = getD e 2 0; high = getD e 3 0 })) (hd : getD d 1 0 ≡ 1) (he : getD e 1 0 ≡ 1) where
+  module _ (x : Common) (told : spanOf x ≡ intersectRanges (record { first = getD d 2 0; last = getD d 3 0 }) (record { first = getD e 2 0; last = getD e 3 0 })) (hd : getD d 1 0 ≡ 1) (he : getD e 1 0 ≡ 1) where
     pub record-apart : x ≡ Nothing → PairsMet (tableOf queue n) (targets (recordAt d 0 ∷ []) (recordAt e 0 ∷ [])) queue t n
     unfolding jointOf
     record-apart h =
@@ -40,7 +40,7 @@ module _ (queue t : List ℕ) (n : ℕ) (k : Queued queue t n) (d e : List ℕ) 
         → PairsMet (tableOf queue n) (targets (recordAt d 0 ∷ []) (recordAt e 0 ∷ [])) queue′ t′ m
     unfolding targets jointOf
     record-met a b h queue′ t′ m r =
-        let j : jointsOf (recordAt d 0 ∷ []) (recordAt e 0 ∷ []) ≡ record { span = record { low = a; high = b }; to = record { left = getD d 4 0; right = getD e 4 0 } } ∷ [] =
+        let j : jointsOf (recordAt d 0 ∷ []) (recordAt e 0 ∷ []) ≡ record { span = record { first = a; last = b }; to = record { left = getD d 4 0; right = getD e 4 0 } } ∷ [] =
         joints-two (recordAt d 0) (recordAt e 0) hd he ∙ ap (λ o. jointOf o (record { left = getD d 4 0; right = getD e 4 0 })) (sym told ∙ ap spanOf h) in
         rw j r
 

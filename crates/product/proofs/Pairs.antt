@@ -28,10 +28,10 @@ module _ (A B : Automaton) where
       let k = map-out (λ (j : Joint). j .to) (jointsFrom A B q) p m in
       let j = k .0 in
       let f = from-out A B q j (k .1) in
-      let low = ap (λ (x : Joint). x .span .low) (f .of .is) in
-      let high = ap (λ (x : Joint). x .span .high) (f .of .is) in
+      let first-is = ap (λ (x : Joint). x .span .first) (f .of .is) in
+      let last-is = ap (λ (x : Joint). x .span .last) (f .of .is) in
       let t : p ≡ record { left = f .left .to; right = f .right .to } = k .2 ∙ ap (λ (x : Joint). x .to) (f .of .is) in
-      rw t (step (graph-reached r) (f .meet (j .span .low) (omega arith) (omega (arith, low, high, f .of .meets))))
+      rw t (step (graph-reached r) (f .meet (j .span .first) (omega arith) (omega (arith, first-is, last-is, f .of .meets))))
 
   pub reached-graph : {p q : ℕ} → PairReached A B p q → Search.Reached (meetingPairs A B) (record { left = p; right = q })
   unfolding meetingPairs

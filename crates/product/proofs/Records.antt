@@ -1,24 +1,23 @@
 -- The records of a run: where they lead, and in which order they start.
 use Prim.Native.Nat.{ℕ, _+_, _-_, _*_, _/_, _≤_, _<_}
 use mathlib.Core.Bool.{Bool, true, false, cond, not}
-use mathlib.Core.List.{List, [], _∷_, List·Memᴰ·head, List·Memᴰ·tail, List·Memᴰ·cases-cons}
+use mathlib.Core.List.{List, [], _∷_, List·Memᴰ·tail, List·Memᴰ·cases-cons}
 use mathlib.Core.Logic.{⊎-elim}
 use mathlib.Core.Path.{_≡_, sym, _∙_, ap, ap₂, subst}
 use native.Mathlib.Nat.{le-refl}
 use native.Mathlib.Omega.{arith}
 use borrow.Author.Needs.{needs}
 use borrow.Author.Tests.{not-true, not-false}
-use lib.Dec.{eqb}
 use lib.ListN.{length, getD, take, drop}
 use Rattle.lists.specs.Lists.{_∈_}
 use Rattle.lists.proofs.Parts.{part-all}
-use Rattle.lists.proofs.Members.{ascending-filter, ascending-by, ascending-first, ascending-rest}
+use Rattle.lists.proofs.Members.{ascending-first, ascending-rest}
 use Rattle.automata.specs.Automaton.{Transition, Automaton, leaving}
 use Rattle.automata.specs.Records.{readRecords, writeRecords}
 use Rattle.automata.specs.inner.Records.{recordAt}
-use Rattle.automata.specs.WellFormed.{Lex, Before, Sound, WellFormed}
-use Rattle.automata.proofs.Leaving.{leaves}
-use Rattle.automata.proofs.Records.{read-write, records-at, records-end, part-record}
+use Rattle.automata.specs.WellFormed.{WellFormed}
+use Rattle.automata.proofs.Leaving.{leaves, leaving-rises}
+use Rattle.automata.proofs.Records.{read-write, records-at, records-end, part-record, part-in}
 use Rattle.sheets.specs.Sheet.{stateCount, read}
 use Rattle.sheets.specs.inner.Runs.{IndexedSheet}
 use Rattle.sheets.proofs.Meaning.{read-well}
@@ -32,11 +31,8 @@ rest-to k r = record { tos = λ e m. r .tos e (List·Memᴰ·tail m); rises = as
 
 -- the record at a place, as it is handed on, and the records behind it
 module _ (k : ℕ) (t : List ℕ) (at : ℕ) (n : RunTo k (readRecords (drop at t))) (h : 5 ≤ length t - at) where
-  first-in : recordAt (take (at + 5 - at) (drop at t)) 0 ∈ readRecords (drop at t)
-  first-in = subst (λ (es : List Transition). recordAt (take (at + 5 - at) (drop at t)) 0 ∈ es) (sym (records-at t at h)) (List·Memᴰ·head (part-record t at))
-
   pub run-to : getD (take (at + 5 - at) (drop at t)) 4 0 < k
-  run-to = n .tos _ first-in
+  run-to = n .tos _ (part-in t at h)
 
   pub run-rest : RunTo k (readRecords (drop (at + 5) t))
   run-rest = rest-to k (rw (records-at t at h) at n)
@@ -101,22 +97,9 @@ module _ (k : ℕ) (run : List ℕ) (from a next : ℕ) (h : next ≤ length run
 
 pub ruleset passLaws = (pass-none, pass-found, pass-next, needs)
 
--- an epsilon, whose symbols are 0, stands before the ranges of its state (belongs to crate ranges)
-starts-below : (d e : Transition) → d .from ≡ e .from → Sound d → Sound e → Before d e → d .first ≤ e .first
-starts-below d e f s u (Lex.here h) = absurd (omega arith)
-starts-below d e f s u (Lex.later p (Lex.here h)) = let z : d .kind ≡ 0 = omega (arith, u .known) in let b = s .blank z in omega (arith, b .0)
-starts-below d e f s u (Lex.later p (Lex.later q (Lex.here h))) = omega arith
-starts-below d e f s u (Lex.later p (Lex.later q (Lex.later r h))) = omega arith
-
 -- the transitions that leave a state
 leaving-to : (A : Automaton) (q k : ℕ) → WellFormed A → A .size ≤ k → RunTo k (leaving A q)
-unfolding leaving
-leaving-to A q k w l =
-    let out : (e : Transition) → e ∈ leaving A q → e ∈ A .transitions × (e .from ≡ q) = λ e m. leaves A q e m in
-    record {
-      tos = λ e m. omega (arith, w .states .tos e (out e m .0));
-      rises = ascending-by (λ d e m n. starts-below d e (out d m .1 ∙ sym (out e n .1)) (w .sound d (out d m .0)) (w .sound e (out e n .0))) (ascending-filter (λ e. eqb (e .from) q) (w .ascends));
-    }
+leaving-to A q k w l = record { tos = λ e m. omega (arith, w .states .tos e (leaves A q e m .0)); rises = leaving-rises A q w }
 
 -- the run of a state of an accepted sheet
 module _ (s starts : List ℕ) (r : IndexedSheet s starts) (q : ℕ) (run : List ℕ) (e : run ≡ writeRecords (leaving (read s) q)) where

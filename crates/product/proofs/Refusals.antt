@@ -124,8 +124,8 @@ module _ (A B : Automaton) (T : List Pair) (e : table (meetingPairs A B) mostSta
         by-right = r .right;
         reached = in-reached (pairAt A B T e (t .from)) (at-in T (t .from) (startPair A B) (r .from-lt));
         meet = r .meet (t .first) (omega arith) (r .full);
-        first-is = ap (λ (x : Joint). x .span .low) (r .of .is);
-        last-is = ap (λ (x : Joint). x .span .high) (r .of .is);
+        first-is = ap (λ (x : Joint). x .span .first) (r .of .is);
+        last-is = ap (λ (x : Joint). x .span .last) (r .of .is);
         to-left = ap (λ (x : Joint). x .to .left) (r .of .is);
         to-right = ap (λ (x : Joint). x .to .right) (r .of .is);
       }

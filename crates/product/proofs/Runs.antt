@@ -26,7 +26,7 @@ use Rattle.product.proofs.Pairs.{pairs-decides}
 use Rattle.lists.proofs.Lists.{map-at}
 use Rattle.product.proofs.Result.{startPair, accept-both, origin, from-in}
 
-joint-eq : (j : Joint) (l h : ℕ) (p : Pair) → l ≡ j .span .low → h ≡ j .span .high → p ≡ j .to → record { span = record { low = l; high = h }; to = p } ≡ j
+joint-eq : (j : Joint) (l h : ℕ) (p : Pair) → l ≡ j .span .first → h ≡ j .span .last → p ≡ j .to → record { span = record { first = l; last = h }; to = p } ≡ j
 joint-eq j l h p a b c = rw (a, b, c)
 
 module _ (A B : Automaton) (T : List Pair) (e : table (meetingPairs A B) mostStates ≡ found T) where
@@ -46,7 +46,7 @@ module _ (A B : Automaton) (T : List Pair) (e : table (meetingPairs A B) mostSta
     pub right : Transition
     pub full : t .first ≤ t .last
     pub meet : (a : ℕ) → t .first ≤ a → a ≤ t .last → Meet A B (pairAt (t .from) .left) (pairAt (t .from) .right) left right a
-    pub of : Joints.Of left right (record { span = record { low = t .first; high = t .last }; to = pairAt (t .to) })
+    pub of : Joints.Of left right (record { span = record { first = t .first; last = t .last }; to = pairAt (t .to) })
 
   -- a joint of an entry leads to an entry
   pub joint-entry : (i : ℕ) → i < length T → (j : Joint) → j ∈ jointsFrom A B (pairAt i) → j .to ∈ T
@@ -64,23 +64,23 @@ module _ (A B : Automaton) (T : List Pair) (e : table (meetingPairs A B) mostSta
       let j = r .joint in
       let n = r .near in
       let f : t .from ≡ i = ap (λ (x : Transition). x .from) (r .is) ∙ omega arith in
-      let low : t .first ≡ j .span .low = ap (λ (x : Transition). x .first) (r .is) in
-      let high : t .last ≡ j .span .high = ap (λ (x : Transition). x .last) (r .is) in
+      let first-is : t .first ≡ j .span .first = ap (λ (x : Transition). x .first) (r .is) in
+      let last-is : t .last ≡ j .span .last = ap (λ (x : Transition). x .last) (r .is) in
       let to : t .to ≡ index samePair (j .to) T = ap (λ (x : Transition). x .to) (r .is) in
       let g = from-out A B (pairAt i) j (r .in) in
       let l = index-lt samePair pair-decides (j .to) (joint-entry i n j (r .in)) in
       let at : pairAt (t .to) ≡ j .to = ap pairAt to ∙ joint-at i n j (r .in) in
-      let low′ = ap (λ (x : Joint). x .span .low) (g .of .is) in
-      let high′ = ap (λ (x : Joint). x .span .high) (g .of .is) in
+      let first-is′ = ap (λ (x : Joint). x .span .first) (g .of .is) in
+      let last-is′ = ap (λ (x : Joint). x .span .last) (g .of .is) in
       record {
         is-range = ap (λ (x : Transition). x .kind) (r .is);
         from-lt = omega arith;
         to-lt = omega arith;
         left = g .left;
         right = g .right;
-        full = omega (arith, low′, high′, g .of .meets);
+        full = omega (arith, first-is′, last-is′, g .of .meets);
         meet = λ a l u. subst (λ (n : ℕ). Meet A B (pairAt n .left) (pairAt n .right) (g .left) (g .right) a) (sym f) (g .meet a (omega arith) (omega arith));
-        of = record { meets = g .of .meets; is = joint-eq j (t .first) (t .last) (pairAt (t .to)) low high at ∙ g .of .is };
+        of = record { meets = g .of .meets; is = joint-eq j (t .first) (t .last) (pairAt (t .to)) first-is last-is at ∙ g .of .is };
       }
 
   run-both : {i k : ℕ} {w : List ℕ} → Run P i w k → Run A (pairAt i .left) w (pairAt k .left) × Run B (pairAt i .right) w (pairAt k .right)

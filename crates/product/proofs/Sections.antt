@@ -10,9 +10,9 @@ use lib.Dec.{eqb}
 use lib.ListN.{getD, length, take, drop, set, length-map, take-append-drop}
 use lib.Seq.{take-take}
 use Rattle.lists.specs.Lists.{_∈_}
-use Rattle.lists.specs.Written.{Written}
+use Rattle.stores.specs.Written.{Written}
 use Rattle.lists.proofs.Parts.{take-more}
-use Rattle.lists.proofs.Written.{written-none, written-append, written-more, written-length}
+use Rattle.stores.proofs.Written.{written-none, written-append, written-more, written-length}
 use Rattle.labels.specs.Labels.{entry, writeEntries, countBytes, writeLabels, AllLabels, none, more}
 use Rattle.labels.proofs.Listing.{list-none, list-next, list-length, list-room, list-done, label-pair}
 use Rattle.sheets.specs.Sheet.{stateCount, read}

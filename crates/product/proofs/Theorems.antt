@@ -35,9 +35,10 @@ use Rattle.output.specs.Left.{madeNumber, Room, Leaves, Unchanged}
 use Rattle.output.specs.Made.{outputOf}
 use Rattle.output.specs.Output.{Pattern, outputs, roomFirst}
 use Rattle.output.proofs.Left.{call-given, call-20, call-number, call-refused, call-leaves}
-use Rattle.refusal.specs.Answer.{refused, given}
+use Rattle.refusal.specs.Answer.{Answer, refused, given}
 use Rattle.search.specs.Search.{found, over, table}
 use Rattle.search.proofs.Queue.{table-all}
+use Rattle.sheets.specs.Checked.{sheetFirst}
 use Rattle.sheets.specs.Fault.{fault}
 use Rattle.sheets.specs.Sheet.{read, write}
 use Rattle.sheets.proofs.Decisions.{given-not}
@@ -136,25 +137,31 @@ module _ (A B : Automaton) where
       go (made T e b h q) = (record { automaton = productAutomaton A B T; labels = map pairLabelOf T }, q)
 
 -- the call on the sheets a and b: r is its answer, o and l are the outputs before it, o′ and l′ after it
-module _ (a b o l o′ l′ : List ℕ) (r : Made) (call : outputOf r o′ l′ ≡ outputs o l (roomFirst o l (intersectionAnswer a b))) where
+module _ (a b o l o′ l′ : List ℕ) (r : Made) (call : outputOf r o′ l′ ≡ outputs o l (intersectionAnswer a b o l)) where
+  -- the answer behind 20
+  abbrev answer : Answer Pattern
+  answer = sheetFirst a (sheetFirst b (product (read a) (read b)))
+
+  contract : outputOf r o′ l′ ≡ outputs o l (roomFirst o l answer)
+  unfolding intersectionAnswer
+  contract = call
+
   module _ (w n : ℕ) (lengths : r ≡ Lengths w n) where
     answered : (P : Pattern) × (fault a ≡ 0) × (fault b ≡ 0) × (product (read a) (read b) ≡ given P)
-    unfolding intersectionAnswer
     answered =
-        let (k, x) = call-given o l o′ l′ r (intersectionAnswer a b) call .0 (ap madeNumber lengths) in
+        let (k, x) = call-given o l o′ l′ r answer contract .0 (ap madeNumber lengths) in
         let (f, g, e) = sheets-given a b (product (read a) (read b)) (x .0) .0 (x .1) in
         (x .0, f, g, e)
 
     -- the product stands in the one output, and its labels in the other
     pub intersection-left : (P : Pattern) × (product (read a) (read b) ≡ given P) × Leaves o l o′ l′ w n (P .automaton) (P .labels)
-    unfolding intersectionAnswer
     intersection-left =
         let (P, f, g, e) = answered in
         let i = accepted a f in
         let j = accepted b g in
         let h = sheets-given a b (product (read a) (read b)) P .1 (f, g, e) in
         let ok = given-writable (read a) (read b) P e (read-well a i) (read-well b j) (i .few-states) (j .few-states) in
-        (P, e, call-leaves o l o′ l′ r (intersectionAnswer a b) call w n lengths P h ok)
+        (P, e, call-leaves o l o′ l′ r answer contract w n lengths P h ok)
 
     -- state q of the sheet left stands for pair q of the table, and its label is `(i, j)` for the states i and j of that pair
     pub intersection-left-labels : (T : List Pair) × (table (Product.meetingPairs (read a) (read b)) mostStates ≡ found T) × (read (take w o′) ≡ productAutomaton (read a) (read b) T) × (readLabels (take n l′) ≡ map pairLabelOf T)
@@ -172,11 +179,10 @@ module _ (a b o l o′ l′ : List ℕ) (r : Made) (call : outputOf r o′ l′ 
   -- nothing is refused exactly where there is room, neither sheet has a fault and none of the conditions of 21, 7 and 22 holds
   pub intersection-lengths : (madeNumber r ≡ 0)
       ↔ (Room o l × (fault a ≡ 0) × (fault b ≡ 0) × (ManyPairs mostStates (read a) (read b) → ⊥) × (Blocked (read a) (read b) → ⊥) × (ManyTransitions mostTransitions (read a) (read b) → ⊥))
-  unfolding intersectionAnswer
   intersection-lengths =
       let A = read a in
       let B = read b in
-      let c = call-given o l o′ l′ r (intersectionAnswer a b) call in (
+      let c = call-given o l o′ l′ r answer contract in (
         λ h.
             let (k, x) = c .0 h in
             let (f, g, e) = sheets-given a b (product A B) (x .0) .0 (x .1) in
@@ -188,23 +194,20 @@ module _ (a b o l o′ l′ : List ℕ) (r : Made) (call : outputOf r o′ l′ 
 
   -- 20 exactly where an output is too short
   pub intersection-20 : (madeNumber r ≡ 20) ↔ (Room o l → ⊥)
-  unfolding intersectionAnswer
   intersection-20 =
-      call-20 o l o′ l′ r (intersectionAnswer a b) call
+      call-20 o l o′ l′ r answer contract
       (λ e. product-other (read a) (read b) 20 (λ z. omega arith) (λ z. omega arith) (λ z. omega arith) (sheets-number a b (product (read a) (read b)) 20 (omega arith) .0 e .2))
 
   -- 1 to 6 exactly where there is room and the first sheet has that fault, or the second where the first has none
   pub intersection-fault : (m : ℕ) → 1 ≤ m → m ≤ 6 → (madeNumber r ≡ m) ↔ (Room o l × ((fault a ≡ m) ⊎ ((fault a ≡ 0) × (fault b ≡ m))))
-  unfolding intersectionAnswer
   intersection-fault m i j =
-      let c = call-number o l o′ l′ r (intersectionAnswer a b) call m (λ z. omega arith) (λ z. omega arith) in
+      let c = call-number o l o′ l′ r answer contract m (λ z. omega arith) (λ z. omega arith) in
       let p = sheets-fault a b (product (read a) (read b)) m (omega arith) (product-other (read a) (read b) m (λ z. omega arith) (λ z. omega arith) (λ z. omega arith)) in
       (λ h. let (k, e) = c .0 h in (k, p .0 e), λ (k, f). c .1 (k, p .1 f))
 
   number : (m : ℕ) → 6 < m → (m ≡ 20 → ⊥) → (madeNumber r ≡ m) ↔ (Room o l × (fault a ≡ 0) × (fault b ≡ 0) × (product (read a) (read b) ≡ refused m))
-  unfolding intersectionAnswer
   number m i j =
-      let c = call-number o l o′ l′ r (intersectionAnswer a b) call m (λ z. omega arith) j in
+      let c = call-number o l o′ l′ r answer contract m (λ z. omega arith) j in
       let p = sheets-number a b (product (read a) (read b)) m i in
       (λ h. let (k, e) = c .0 h in let (f, g, q) = p .0 e in (k, f, g, q), λ (k, f, g, q). c .1 (k, p .1 (f, g, q)))
 
@@ -232,4 +235,4 @@ module _ (a b o l o′ l′ : List ℕ) (r : Made) (call : outputOf r o′ l′ 
 
   -- a refusal leaves both outputs as they were
   pub intersection-unchanged : (madeNumber r ≡ 0 → ⊥) → Unchanged o l o′ l′
-  intersection-unchanged = call-refused o l o′ l′ r (intersectionAnswer a b) call
+  intersection-unchanged = call-refused o l o′ l′ r answer contract

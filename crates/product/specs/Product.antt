@@ -12,7 +12,7 @@ use Rattle.automata.specs.Ordered.{inOrder}
 use Rattle.automata.specs.Pairs.{Pair, samePair}
 use Rattle.automata.specs.WellFormed.{mostStates}
 use Rattle.labels.specs.Forms.{pairLabel}
-use Rattle.output.specs.Output.{Pattern, transitionsFirst}
+use Rattle.output.specs.Output.{Pattern, roomFirst, transitionsFirst}
 use Rattle.ranges.specs.Span.{Span, intersectRanges}
 use Rattle.refusal.specs.Answer.{Answer, refused, given}
 use Rattle.search.specs.Search.{Graph, index, SearchResult, over, found, table}
@@ -25,7 +25,7 @@ pub record Joint : Type 0 where
   pub to : Pair
 
 abbrev pub symbolsOf : Transition → Span
-symbolsOf e = record { low = e .first; high = e .last }
+symbolsOf e = record { first = e .first; last = e .last }
 
 unfoldable pub jointOf : Option Span → Pair → List Joint
 jointOf none p = []
@@ -62,7 +62,7 @@ meetingPairs A B = record {
 
 -- the transition of a joint that leaves pair i, where f numbers the pairs
 unfoldable pub transitionOf : (Pair → ℕ) → ℕ → Joint → Transition
-transitionOf f i j = record { from = i; kind = 1; first = j .span .low; last = j .span .high; to = f (j .to) }
+transitionOf f i j = record { from = i; kind = 1; first = j .span .first; last = j .span .last; to = f (j .to) }
 
 -- the transitions of the pairs ps, which are numbered from i on
 unfoldable pub transitionsFrom : (Pair → ℕ) → Automaton → Automaton → ℕ → List Pair → List Transition
@@ -113,6 +113,6 @@ pairsAnswer A B (found T) = cond (any (blockedAt A B) T) (refused 7) (transition
 unfoldable pub product : Automaton → Automaton → Answer Pattern
 product A B = pairsAnswer A B (table (meetingPairs A B) mostStates)
 
--- of two sheets, the first's faults before the second's
-unfoldable pub intersectionAnswer : List ℕ → List ℕ → Answer Pattern
-intersectionAnswer s t = sheetFirst s (sheetFirst t (product (read s) (read t)))
+-- of two sheets into the outputs o and l: 20, the first's faults, the second's, then 21, 7 and 22
+unfoldable pub intersectionAnswer : List ℕ → List ℕ → List ℕ → List ℕ → Answer Pattern
+intersectionAnswer s t o l = roomFirst o l (sheetFirst s (sheetFirst t (product (read s) (read t))))

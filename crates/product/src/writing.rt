@@ -8,10 +8,10 @@ ghost use lib.ListN.{length};
 ghost use Rattle.automata.specs.Records.{writeRecords};
 ghost use Rattle.sheets.specs.inner.Accepted.{Accepted};
 ghost use Rattle.sheets.specs.Sheet.{stateCount, read};
-ghost use Rattle.lists.specs.Written.{Written};
+ghost use Rattle.stores.specs.Written.{Written};
 ghost use Rattle.labels.specs.Labels.{writeLabels};
 ghost use Rattle.output.specs.Made.{outputOf};
-ghost use Rattle.output.specs.Output.{outputs};
+ghost use Rattle.output.specs.Output.{outputs, labelsSize, sheetSize};
 ghost use Rattle.product.specs.Product.{pairAccept, productAutomaton, pairLabelOf, product};
 ghost use Rattle.sheets.specs.inner.Runs.{IndexedSheet};
 ghost use Rattle.product.specs.inner.Tables.{pairOf, tableOf, Queued, PairsBelow, sheetWords, Whole};
@@ -70,18 +70,18 @@ fn write_sheet(
     records: &[u32],
     out: &mut [u32],
 ) -> usize
-    requires { ⌜ Accepted (now a) × Accepted (now b) × (n ≤ length (now queue)) × (n ≤ 256) × PairsBelow (stateCount (now a)) (stateCount (now b)) (tableOf (now queue) n) × (length (now records) ≤ 10240) × (10500 ≤ length (now out)) ⌝ }
+    requires { ⌜ Accepted (now a) × Accepted (now b) × (n ≤ length (now queue)) × (n ≤ 256) × PairsBelow (stateCount (now a)) (stateCount (now b)) (tableOf (now queue) n) × (length (now records) ≤ 10240) × (sheetSize ≤ length (now out)) ⌝ }
     ensures { λ r. ⌜ Written (now (out .entry)) 0 (sheetWords (map (pairAccept (read (now (a .entry))) (read (now (b .entry)))) (tableOf (now (queue .entry)) n)) n (now (records .entry))) (now (out .exit)) r ⌝ }
 {
     let states = output::put_start(out, 0, n as u32);
     let counts = put_accept_words(a, b, queue, n, out, states);
-    let first = output::put_word(out, counts, (records.len() / 5) as u32);
-    output::put_words(out, first, records)
+    let first = stores::put_word(out, counts, (records.len() / 5) as u32);
+    stores::put_words(out, first, records)
 }
 
 // The labels of the first n pairs of the queue; how many bytes they take.
 fn write_labels(queue: &[u32], n: usize, names: &mut [u8]) -> usize
-    requires { ⌜ (n ≤ length (now queue)) × (n ≤ 256) × PairsBelow 256 256 (tableOf (now queue) n) × (16642 ≤ length (now names)) ⌝ }
+    requires { ⌜ (n ≤ length (now queue)) × (n ≤ 256) × PairsBelow 256 256 (tableOf (now queue) n) × (labelsSize ≤ length (now names)) ⌝ }
     ensures { λ r. ⌜ Written (now (names .entry)) 0 (writeLabels (map pairLabelOf (tableOf (now (queue .entry)) n))) (now (names .exit)) r ⌝ }
 {
     let mut at = labels::put_count(names, n);
@@ -104,7 +104,7 @@ fn write_outputs(
     out: &mut [u32],
     names: &mut [u8],
 ) -> Made
-    requires { ⌜ Accepted (now a) × Accepted (now b) × (n ≤ length (now queue)) × (n ≤ 256) × PairsBelow (stateCount (now a)) (stateCount (now b)) (tableOf (now queue) n) × Whole (read (now a)) (read (now b)) (tableOf (now queue) n) × (now records ≡ writeRecords (productAutomaton (read (now a)) (read (now b)) (tableOf (now queue) n) .transitions)) × (length (now records) ≤ 10240) × (10500 ≤ length (now out)) × (16642 ≤ length (now names)) ⌝ }
+    requires { ⌜ Accepted (now a) × Accepted (now b) × (n ≤ length (now queue)) × (n ≤ 256) × PairsBelow (stateCount (now a)) (stateCount (now b)) (tableOf (now queue) n) × Whole (read (now a)) (read (now b)) (tableOf (now queue) n) × (now records ≡ writeRecords (productAutomaton (read (now a)) (read (now b)) (tableOf (now queue) n) .transitions)) × (length (now records) ≤ 10240) × (sheetSize ≤ length (now out)) × (labelsSize ≤ length (now names)) ⌝ }
     ensures { λ r. ⌜ outputOf r (now (out .exit)) (now (names .exit)) ≡ outputs (now (out .entry)) (now (names .entry)) (product (read (now (a .entry))) (read (now (b .entry)))) ⌝ }
 {
     let words = write_sheet(a, b, queue, n, records, out);
@@ -124,7 +124,7 @@ fn write_large(
     out: &mut [u32],
     names: &mut [u8],
 ) -> Made
-    requires { ⌜ IndexedSheet (now a) (now aruns) × IndexedSheet (now b) (now bruns) × (256 * stateCount (now a) ≤ length (now t)) × Queued (now queue) (now t) n × (n ≤ 256) × PairsBelow (stateCount (now a)) (stateCount (now b)) (tableOf (now queue) n) × Whole (read (now a)) (read (now b)) (tableOf (now queue) n) × (10500 ≤ length (now out)) × (16642 ≤ length (now names)) ⌝ }
+    requires { ⌜ IndexedSheet (now a) (now aruns) × IndexedSheet (now b) (now bruns) × (256 * stateCount (now a) ≤ length (now t)) × Queued (now queue) (now t) n × (n ≤ 256) × PairsBelow (stateCount (now a)) (stateCount (now b)) (tableOf (now queue) n) × Whole (read (now a)) (read (now b)) (tableOf (now queue) n) × (sheetSize ≤ length (now out)) × (labelsSize ≤ length (now names)) ⌝ }
     ensures { λ r. ⌜ outputOf r (now (out .exit)) (now (names .exit)) ≡ outputs (now (out .entry)) (now (names .entry)) (product (read (now (a .entry))) (read (now (b .entry)))) ⌝ }
 {
     let mut buf = [0u32; 11520];
@@ -147,7 +147,7 @@ pub fn write_product(
     out: &mut [u32],
     names: &mut [u8],
 ) -> Made
-    requires { ⌜ IndexedSheet (now a) (now aruns) × IndexedSheet (now b) (now bruns) × (256 * stateCount (now a) ≤ length (now t)) × Queued (now queue) (now t) n × (n ≤ 256) × PairsBelow (stateCount (now a)) (stateCount (now b)) (tableOf (now queue) n) × Whole (read (now a)) (read (now b)) (tableOf (now queue) n) × (10500 ≤ length (now out)) × (16642 ≤ length (now names)) ⌝ }
+    requires { ⌜ IndexedSheet (now a) (now aruns) × IndexedSheet (now b) (now bruns) × (256 * stateCount (now a) ≤ length (now t)) × Queued (now queue) (now t) n × (n ≤ 256) × PairsBelow (stateCount (now a)) (stateCount (now b)) (tableOf (now queue) n) × Whole (read (now a)) (read (now b)) (tableOf (now queue) n) × (sheetSize ≤ length (now out)) × (labelsSize ≤ length (now names)) ⌝ }
     ensures { λ r. ⌜ outputOf r (now (out .exit)) (now (names .exit)) ≡ outputs (now (out .entry)) (now (names .entry)) (product (read (now (a .entry))) (read (now (b .entry)))) ⌝ }
 {
     if 160 < a.len() + b.len() {

@@ -140,7 +140,7 @@ module _ (top : ℕ) (es : List Transition) where
   spans-one (suc n) a x d l u =
       let g : a < nextCut a top es = next-gt a top es (omega arith) in
       let h : nextCut a top es ≤ top = next-le a top es in
-      let sp : Span = record { low = a; high = nextCut a top es - 1 } in
+      let sp : Span = record { first = a; last = nextCut a top es - 1 } in
       ⊎-elim
       (λ (t : leb x (nextCut a top es - 1) ≡ true).
       let y : x ≤ nextCut a top es - 1 = leb-true _ _ t in
@@ -174,7 +174,7 @@ module _ (upper : ℕ) (es : List Transition) where
   cut-end a h = spans-enough (suc upper) es (suc upper - a) 0 a (omega arith) (omega arith)
 
   pub cut-step : (a : ℕ) → a ≤ upper
-      → cutAll a upper es ≡ record { low = a; high = nextCut a (suc upper) es - 1 } ∷ cutAll (nextCut a (suc upper) es) upper es
+      → cutAll a upper es ≡ record { first = a; last = nextCut a (suc upper) es - 1 } ∷ cutAll (nextCut a (suc upper) es) upper es
   unfolding cutAll spans
   cut-step a h =
       let n : a < nextCut a (suc upper) es = next-gt a (suc upper) es (omega arith) in

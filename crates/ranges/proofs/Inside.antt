@@ -4,6 +4,6 @@ use mathlib.Core.Bool.{Bool, _&&_}
 use lib.Dec.{leb}
 use Rattle.ranges.specs.Span.{Span}
 
--- the same as a test
+-- as a test
 unfoldable pub inside : ℕ → Span → Bool
-inside x s = leb (s .low) x && leb x (s .high)
+inside x s = leb (s .first) x && leb x (s .last)

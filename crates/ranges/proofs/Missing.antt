@@ -29,16 +29,16 @@ module _ (es : List Transition) where
   unfoldable unheld : Span → Bool
   unheld s = not (covered es s)
 
-  unheld-free : (s : Span) → unheld s ≡ true → Free (s .low) es
+  unheld-free : (s : Span) → unheld s ≡ true → Free (s .first) es
   unfolding unheld covered
-  unheld-free s h = any-none (holds (s .low)) es (not-true _ h)
+  unheld-free s h = any-none (holds (s .first)) es (not-true _ h)
 
-  free-unheld : (s : Span) → Free (s .low) es → unheld s ≡ true
+  free-unheld : (s : Span) → Free (s .first) es → unheld s ≡ true
   unfolding unheld covered
   free-unheld s g =
-      ⊎-elim (λ (t : any (holds (s .low)) es ≡ true). let r = any-out (holds (s .low)) es t in absurd (false≢true (sym (g (r .0) (r .1)) ∙ r .2)))
-      (λ (t : any (holds (s .low)) es ≡ false). rw t)
-      (test (any (holds (s .low)) es))
+      ⊎-elim (λ (t : any (holds (s .first)) es ≡ true). let r = any-out (holds (s .first)) es t in absurd (false≢true (sym (g (r .0) (r .1)) ∙ r .2)))
+      (λ (t : any (holds (s .first)) es ≡ false). rw t)
+      (test (any (holds (s .first)) es))
 
 module _ (top : ℕ) (es : List Transition) (full : (e : Transition) → e ∈ es → e .first ≤ e .last) where
   -- a free span ends where some range begins
@@ -64,7 +64,7 @@ module _ (top : ℕ) (es : List Transition) (full : (e : Transition) → e ∈ e
       (λ (t : ltb a top ≡ true).
       let h : a < top = ltb-true a top t in
       let b = nextCut a top es in
-      let sp : Span = record { low = a; high = b - 1 } in
+      let sp : Span = record { first = a; last = b - 1 } in
       let l : a < b = next-gt a top es h in
       ⊎-elim
       (λ (c : unheld es sp ≡ true).
@@ -74,8 +74,8 @@ module _ (top : ℕ) (es : List Transition) (full : (e : Transition) → e ∈ e
       let v = stretches top es n b s (k .0) in
       let z = v .full in
       let x = v .below in
-      ⊎-elim (λ (q : b ≡ s .low). absurd (next-held a h (unheld-free es sp c) (omega arith) (rw q (unheld-free es s (k .1)))))
-      (λ (q : b < s .low). omega arith)
+      ⊎-elim (λ (q : b ≡ s .first). absurd (next-held a h (unheld-free es sp c) (omega arith) (rw q (unheld-free es s (k .1)))))
+      (λ (q : b < s .first). omega arith)
       (eq-or-lt-of-le (v .above)) in
       rw (t, c) (Ascending.more g (unheld-apart n b)))
       (λ (c : unheld es sp ≡ false). rw (t, c) (unheld-apart n b))
@@ -89,7 +89,7 @@ unfolding missing unheld inside
 missing-holes lower upper es full =
     let all = cutAll lower upper es in
     let alike = stretch-alike (suc upper) es lower in
-    let out : (s : Span) → s ∈ filter (unheld es) all → Stretch (suc upper) es lower s × Free (s .low) es =
+    let out : (s : Span) → s ∈ filter (unheld es) all → Stretch (suc upper) es lower s × Free (s .first) es =
     λ s m. let k = filter-out (unheld es) s all m in (cut-stretch lower upper es s (k .0), unheld-free es s (k .1)) in
     record {
       ascends = unfold cutAll in unheld-apart (suc upper) es full (suc upper - lower) lower;
@@ -103,9 +103,9 @@ missing-holes lower upper es full =
             let o = cut-one upper es lower x l u in
             let s = o .0 in
             let k = filter-out (inside x) s all (rw (o .1) (List·Memᴰ·head refl)) in
-            let i = and-parts (leb (s .low) x) _ (k .1) in
-            let a = leb-true (s .low) x (i .0) in
-            let b = leb-true x (s .high) (i .1) in
+            let i = and-parts (leb (s .first) x) _ (k .1) in
+            let a = leb-true (s .first) x (i .0) in
+            let b = leb-true x (s .last) (i .1) in
             let v = cut-stretch lower upper es s (k .0) in
             (s, filter-in (unheld es) (k .0) (free-unheld es s (λ e m. sym (alike s v x a b e m) ∙ g e m)), record { above = a; below = b }),
       );

@@ -14,38 +14,38 @@ use Rattle.lists.proofs.Tests.{test, or-right}
 use Rattle.lists.proofs.Lists.{filter-in, filter-none}
 use Rattle.automata.specs.Automaton.{Transition, holds}
 use Rattle.lists.proofs.Members.{ascending-first}
-use Rattle.ranges.specs.Span.{Span, Inside, InsideAny, intersectRanges, startsBelow, overlapping, Shared}
+use Rattle.ranges.specs.Span.{Span, InSpan, InOptionalSpan, intersectRanges, overlapsFrom, overlapping, Shared}
 use Rattle.ranges.specs.Missing.{missing, Holes, SortedRanges}
 use Rattle.lists.proofs.Every.{any-none}
 use Rattle.ranges.proofs.Missing.{missing-holes}
 use Rattle.ranges.proofs.Held.{held, holds-ends, rest-sorted}
 
 -- a symbol lies in both ranges exactly when it lies in what they share
-pub intersect-exact : (s t : Span) (x : ℕ) → (Inside x s × Inside x t) ↔ InsideAny x (intersectRanges s t)
+pub intersect-exact : (s t : Span) (x : ℕ) → (InSpan x s × InSpan x t) ↔ InOptionalSpan x (intersectRanges s t)
 unfolding intersectRanges
-intersect-exact s t x = go (leb low high) refl
+intersect-exact s t x = go (leb greater-first lesser-last) refl
   where
-    low : ℕ
-    low = max (s .low) (t .low)
+    greater-first : ℕ
+    greater-first = max (s .first) (t .first)
 
-    high : ℕ
-    high = min (s .high) (t .high)
+    lesser-last : ℕ
+    lesser-last = min (s .last) (t .last)
 
-    go : (b : Bool) → leb low high ≡ b → (Inside x s × Inside x t) ↔ InsideAny x (cond b (some (record { low = low; high = high })) none)
+    go : (b : Bool) → leb greater-first lesser-last ≡ b → (InSpan x s × InSpan x t) ↔ InOptionalSpan x (cond b (some (record { first = greater-first; last = lesser-last })) none)
     go true e = (
       λ (i, j). record { above = omega (arith, i .above, j .above); below = omega (arith, i .below, j .below) },
       λ i. (record { above = omega (arith, i .above); below = omega (arith, i .below) }, record { above = omega (arith, i .above); below = omega (arith, i .below) }),
     )
-    go false e = (λ (i, j). omega (arith, leb-false low high e, i .above, j .above, i .below, j .below), λ i. absurd i)
+    go false e = (λ (i, j). omega (arith, leb-false greater-first lesser-last e, i .above, j .above, i .below, j .below), λ i. absurd i)
 
 -- an entry that starts at or below `end` is found
-below-found : (end : ℕ) {e : Transition} {es : List Transition} → e ∈ es → e .first ≤ end → startsBelow end es ≡ true
-unfolding startsBelow
+below-found : (end : ℕ) {e : Transition} {es : List Transition} → e ∈ es → e .first ≤ end → overlapsFrom end es ≡ true
+unfolding overlapsFrom
 below-found end {e} {es = d ∷ es} (List·Memᴰ·head q) h = rw (le-leb (d .first) end (rw (ap (λ (t : Transition). t .first) q) at h))
 below-found end {es = d ∷ es} (List·Memᴰ·tail m) h = or-right (leb (d .first) end) _ (below-found (max end (d .last)) m (omega arith))
 
-below-shared : (end : ℕ) {es : List Transition} → Shared es → startsBelow end es ≡ true
-unfolding startsBelow
+below-shared : (end : ℕ) {es : List Transition} → Shared es → overlapsFrom end es ≡ true
+unfolding overlapsFrom
 below-shared end {es = d ∷ es} (Shared.first e x m p q) =
     or-right (leb (d .first) end) _ (below-found (max end (d .last)) m (omega (arith, holds-ends x d p .1, holds-ends x e q .0)))
 below-shared end {es = d ∷ es} (Shared.later s) = or-right (leb (d .first) end) _ (below-shared (max end (d .last)) s)
@@ -55,15 +55,15 @@ first-shared : (d e : Transition) (es : List Transition) → SortedRanges (d ∷
 first-shared d e es p m h =
     Shared.first e (e .first) m (held (e .first) d (ascending-first (p .rises) e m) h) (held (e .first) e (omega arith) (p .full e (List·Memᴰ·tail m)))
 
-found-below : (end : ℕ) (es : List Transition) → SortedRanges es → startsBelow end es ≡ true → ((e : Transition) × e ∈ es × (e .first ≤ end)) ⊎ Shared es
-unfolding startsBelow
+found-below : (end : ℕ) (es : List Transition) → SortedRanges es → overlapsFrom end es ≡ true → ((e : Transition) × e ∈ es × (e .first ≤ end)) ⊎ Shared es
+unfolding overlapsFrom
 found-below end [] p h = absurd (false≢true h)
 found-below end (d ∷ es) p h =
     let full : d .first ≤ d .last = p .full d (List·Memᴰ·head refl) in
     ⊎-elim (λ (t : leb (d .first) end ≡ true). inl (d, List·Memᴰ·head refl, leb-true _ _ t))
     (λ (t : leb (d .first) end ≡ false).
     let k : end < d .first = leb-false _ _ t in
-    let r : startsBelow (max end (d .last)) es ≡ true = rw t at h in
+    let r : overlapsFrom (max end (d .last)) es ≡ true = rw t at h in
     inr
     (⊎-elim (λ (f : (e : Transition) × e ∈ es × (e .first ≤ max end (d .last))). first-shared d (f .0) es p (f .1) (omega (arith, f .2))) (λ s. Shared.later s)
     (found-below (max end (d .last)) es (rest-sorted p) r)))
@@ -142,6 +142,6 @@ module _ (lower upper : ℕ) (es : List Transition) (p : SortedRanges es) (withi
       no-hole : ((x : ℕ) → lower ≤ x → x ≤ upper → (d : Transition) × (filter (holds x) es ≡ d ∷ [])) → (hs : List Span) → Holes lower upper es hs → hs ≡ []
       no-hole f [] q = refl
       no-hole f (s ∷ hs) q =
-          let (l, u, free) = q .exact (s .low) .0 (s, List·Memᴰ·head refl, record { above = omega arith; below = q .full s (List·Memᴰ·head refl) }) in
-          let one = ap length (sym (filter-none (holds (s .low)) es free) ∙ f (s .low) l u .1) in
+          let (l, u, free) = q .exact (s .first) .0 (s, List·Memᴰ·head refl, record { above = omega arith; below = q .full s (List·Memᴰ·head refl) }) in
+          let one = ap length (sym (filter-none (holds (s .first)) es free) ∙ f (s .first) l u .1) in
           absurd (omega arith)

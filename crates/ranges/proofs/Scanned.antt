@@ -11,14 +11,14 @@ use Rattle.lists.specs.Lists.{_∈_, Ascending}
 use Rattle.lists.proofs.Tests.{test}
 use Rattle.lists.proofs.Members.{ascending-first}
 use Rattle.automata.specs.Automaton.{Transition}
-use Rattle.ranges.specs.Span.{Span, Inside}
+use Rattle.ranges.specs.Span.{Span, InSpan}
 use Rattle.ranges.specs.Missing.{Free, InSomeSpan, Holes, SortedRanges}
 use Rattle.ranges.specs.inner.Missing.{gap, scan}
 use Rattle.ranges.proofs.Separate.{split, here, there}
 use Rattle.ranges.proofs.Held.{not-held, past, free-cons, rest-sorted}
 
 -- a gap is one span or none
-pub gap-some : (a b : ℕ) → a < b → gap a b ≡ record { low = a; high = b - 1 } ∷ []
+pub gap-some : (a b : ℕ) → a < b → gap a b ≡ record { first = a; last = b - 1 } ∷ []
 unfolding gap
 gap-some a b h = rw (lt-ltb a b h)
 
@@ -32,7 +32,7 @@ module _ (upper : ℕ) where
   end-holes c = ⊎-elim (λ t. some (leb-true c upper t)) (λ t. nothing (leb-false c upper t)) (test (leb c upper))
     where
       sp : Span
-      sp = record { low = c; high = suc upper - 1 }
+      sp = record { first = c; last = suc upper - 1 }
 
       some : c ≤ upper → Holes c upper [] (gap c (suc upper))
       some h =
@@ -42,7 +42,7 @@ module _ (upper : ℕ) where
             full = λ s m. ⊎-elim (λ (q : s ≡ sp). rw q (omega arith)) (λ m. absurd (List·Memᴰ·not-nil m)) (List·Memᴰ·cases-cons m);
             exact = λ x. (
               λ w.
-                  ⊎-elim (λ (i : Inside x sp). (i .above, omega (arith, i .below), λ e m. absurd (List·Memᴰ·not-nil m))) (λ (v : InSomeSpan x []). absurd (List·Memᴰ·not-nil (v .1)))
+                  ⊎-elim (λ (i : InSpan x sp). (i .above, omega (arith, i .below), λ e m. absurd (List·Memᴰ·not-nil m))) (λ (v : InSomeSpan x []). absurd (List·Memᴰ·not-nil (v .1)))
                   (split sp [] w),
               λ f. here sp [] (f .0) (omega (arith, f .1)),
             );
@@ -79,23 +79,23 @@ module _ (upper : ℕ) where
         b = min (e .first) (suc upper)
 
         sp : Span
-        sp = record { low = c; high = b - 1 }
+        sp = record { first = c; last = b - 1 }
 
         free-before : (x : ℕ) → x < e .first → Free x (e ∷ es)
         free-before x h = free-cons x e es (not-held x e (λ i. omega (arith, i .0))) (λ d m. let y = ascending-first (p .rises) d m in not-held x d (λ i. omega (arith, i .0)))
 
-        low : (s : Span) → s ∈ hs → max c (suc (e .last)) ≤ s .low
-        low s m = r .exact (s .low) .0 (s, m, record { above = omega arith; below = r .full s m }) .0
+        first-behind : (s : Span) → s ∈ hs → max c (suc (e .last)) ≤ s .first
+        first-behind s m = r .exact (s .first) .0 (s, m, record { above = omega arith; below = r .full s m }) .0
 
         some : c < b → Holes c upper (e ∷ es) (gap c b ++ hs)
         some h =
             rw (gap-some c b h)
             (record {
-              ascends = Ascending.more {x = sp} (λ s m. let y = low s m in omega (arith, full-range)) (r .ascends);
+              ascends = Ascending.more {x = sp} (λ s m. let y = first-behind s m in omega (arith, full-range)) (r .ascends);
               full = λ s m. ⊎-elim (λ (q : s ≡ sp). rw q (omega arith)) (λ m. r .full s m) (List·Memᴰ·cases-cons m);
               exact = λ x. (
                 λ w.
-                    ⊎-elim (λ (i : Inside x sp). (i .above, omega (arith, i .below), free-before x (omega (arith, i .below)))) (λ v. sound x v) (split sp hs w),
+                    ⊎-elim (λ (i : InSpan x sp). (i .above, omega (arith, i .below), free-before x (omega (arith, i .below)))) (λ v. sound x v) (split sp hs w),
                 λ f.
                     ⊎-elim (λ (k : ltb x (e .first) ≡ true). let y = ltb-true x (e .first) k in here sp hs (f .0) (omega (arith, f .1)))
                     (λ (k : ltb x (e .first) ≡ false). there sp (behind x (f .0) (f .1) (f .2) (ltb-false x (e .first) k)))

@@ -12,70 +12,70 @@ use Rattle.lists.specs.Lists.{_∈_, Ascending}
 use Rattle.lists.proofs.Tests.{test}
 use Rattle.lists.proofs.Members.{ascending-first, ascending-rest}
 use Rattle.automata.specs.Automaton.{Transition}
-use Rattle.ranges.specs.Span.{Span, Inside}
+use Rattle.ranges.specs.Span.{Span, InSpan}
 use Rattle.ranges.specs.Missing.{InSomeSpan, SpansApart, Holes}
 
-span-eq : (s t : Span) → s .low ≡ t .low → s .high ≡ t .high → s ≡ t
-span-eq s t p q = λ i. record { low = p i; high = q i }
+span-eq : (s t : Span) → s .first ≡ t .first → s .last ≡ t .last → s ≡ t
+span-eq s t p q = λ i. record { first = p i; last = q i }
 
 -- spans that ascend apart, none empty
 record Separate (hs : List Span) : Type 0 where
   ascends : Ascending SpansApart hs
-  full : (s : Span) → s ∈ hs → s .low ≤ s .high
+  full : (s : Span) → s ∈ hs → s .first ≤ s .last
 
 rest-separate : {s : Span} {hs : List Span} → Separate (s ∷ hs) → Separate hs
 rest-separate p = record { ascends = ascending-rest (p .ascends); full = λ t m. p .full t (List·Memᴰ·tail m) }
 
-pub split : {x : ℕ} (s : Span) (hs : List Span) → InSomeSpan x (s ∷ hs) → Inside x s ⊎ InSomeSpan x hs
+pub split : {x : ℕ} (s : Span) (hs : List Span) → InSomeSpan x (s ∷ hs) → InSpan x s ⊎ InSomeSpan x hs
 split {x} s hs (t, m, i) = ⊎-elim (λ (q : t ≡ s). inl (rw q at i)) (λ k. inr (t, k, i)) (List·Memᴰ·cases-cons m)
 
-pub here : {x : ℕ} (s : Span) (hs : List Span) → s .low ≤ x → x ≤ s .high → InSomeSpan x (s ∷ hs)
+pub here : {x : ℕ} (s : Span) (hs : List Span) → s .first ≤ x → x ≤ s .last → InSomeSpan x (s ∷ hs)
 here s hs l u = (s, List·Memᴰ·head refl, record { above = l; below = u })
 
 pub there : {x : ℕ} (s : Span) {hs : List Span} → InSomeSpan x hs → InSomeSpan x (s ∷ hs)
 there s (t, m, i) = (t, List·Memᴰ·tail m, i)
 
 module _ (s : Span) (hs : List Span) (p : Separate (s ∷ hs)) where
-  full-first : s .low ≤ s .high
+  full-first : s .first ≤ s .last
   full-first = p .full s (List·Memᴰ·head refl)
 
-  -- the first span's low is the least symbol, and every symbol of the others lies apart from it
-  low-within : InSomeSpan (s .low) (s ∷ hs)
-  low-within = here s hs (omega arith) full-first
+  -- the first span's first is the least symbol, and every symbol of the others lies apart from it
+  first-within : InSomeSpan (s .first) (s ∷ hs)
+  first-within = here s hs (omega arith) full-first
 
-  beyond : (x : ℕ) → InSomeSpan x hs → suc (s .high) < x
+  beyond : (x : ℕ) → InSomeSpan x hs → suc (s .last) < x
   beyond x (t, m, i) = let a = ascending-first (p .ascends) t m in omega (arith, i .above)
 
-  low-least : (x : ℕ) → InSomeSpan x (s ∷ hs) → s .low ≤ x
-  low-least x w = ⊎-elim (λ (i : Inside x s). i .above) (λ (v : InSomeSpan x hs). omega (arith, beyond x v, full-first)) (split s hs w)
+  first-least : (x : ℕ) → InSomeSpan x (s ∷ hs) → s .first ≤ x
+  first-least x w = ⊎-elim (λ (i : InSpan x s). i .above) (λ (v : InSomeSpan x hs). omega (arith, beyond x v, full-first)) (split s hs w)
 
 module _ (s t : Span) (hs ks : List Span) (p : Separate (s ∷ hs)) (q : Separate (t ∷ ks)) where
   -- a span with all the symbols of another list's first ends no earlier
-  high-least : s .low ≡ t .low → ((x : ℕ) → InSomeSpan x (t ∷ ks) → InSomeSpan x (s ∷ hs)) → t .high ≤ s .high
-  high-least e h =
+  last-least : s .first ≡ t .first → ((x : ℕ) → InSomeSpan x (t ∷ ks) → InSomeSpan x (s ∷ hs)) → t .last ≤ s .last
+  last-least e h =
       ⊎-elim (λ c. leb-true _ _ c)
-      (λ (c : leb (t .high) (s .high) ≡ false).
-      let l : s .high < t .high = leb-false _ _ c in
+      (λ (c : leb (t .last) (s .last) ≡ false).
+      let l : s .last < t .last = leb-false _ _ c in
       let f = full-first s hs p in
-      let x = suc (s .high) in
-      ⊎-elim (λ (i : Inside x s). absurd (omega (arith, i .below))) (λ (v : InSomeSpan x hs). absurd (omega (arith, beyond s hs p x v)))
+      let x = suc (s .last) in
+      ⊎-elim (λ (i : InSpan x s). absurd (omega (arith, i .below))) (λ (v : InSomeSpan x hs). absurd (omega (arith, beyond s hs p x v)))
       (split s hs (h x (here t ks (omega arith) (omega arith)))))
-      (test (leb (t .high) (s .high)))
+      (test (leb (t .last) (s .last)))
 
-  rest-within : s .high ≡ t .high → ((x : ℕ) → InSomeSpan x (s ∷ hs) → InSomeSpan x (t ∷ ks)) → (x : ℕ) → InSomeSpan x hs → InSomeSpan x ks
+  rest-within : s .last ≡ t .last → ((x : ℕ) → InSomeSpan x (s ∷ hs) → InSomeSpan x (t ∷ ks)) → (x : ℕ) → InSomeSpan x hs → InSomeSpan x ks
   rest-within e h x v =
-      ⊎-elim (λ (i : Inside x t). absurd (omega (arith, i .below, beyond s hs p x v))) (λ w. w) (split t ks (h x (there s v)))
+      ⊎-elim (λ (i : InSpan x t). absurd (omega (arith, i .below, beyond s hs p x v))) (λ w. w) (split t ks (h x (there s v)))
 
 -- separate spans with the same symbols are the same spans
 same-symbols : (hs ks : List Span) → Separate hs → Separate ks → ((x : ℕ) → InSomeSpan x hs → InSomeSpan x ks) → ((x : ℕ) → InSomeSpan x ks → InSomeSpan x hs) → hs ≡ ks
 same-symbols [] [] p q f g = refl
-same-symbols [] (t ∷ ks) p q f g = absurd (List·Memᴰ·not-nil (g (t .low) (low-within t ks q) .1))
-same-symbols (s ∷ hs) [] p q f g = absurd (List·Memᴰ·not-nil (f (s .low) (low-within s hs p) .1))
+same-symbols [] (t ∷ ks) p q f g = absurd (List·Memᴰ·not-nil (g (t .first) (first-within t ks q) .1))
+same-symbols (s ∷ hs) [] p q f g = absurd (List·Memᴰ·not-nil (f (s .first) (first-within s hs p) .1))
 same-symbols (s ∷ hs) (t ∷ ks) p q f g =
-    let a : t .low ≤ s .low = low-least t ks q (s .low) (f (s .low) (low-within s hs p)) in
-    let b : s .low ≤ t .low = low-least s hs p (t .low) (g (t .low) (low-within t ks q)) in
-    let l : s .low ≡ t .low = le-antisymm b a in
-    let u : s .high ≡ t .high = le-antisymm (high-least t s ks hs q p (sym l) f) (high-least s t hs ks p q l g) in
+    let a : t .first ≤ s .first = first-least t ks q (s .first) (f (s .first) (first-within s hs p)) in
+    let b : s .first ≤ t .first = first-least s hs p (t .first) (g (t .first) (first-within t ks q)) in
+    let l : s .first ≡ t .first = le-antisymm b a in
+    let u : s .last ≡ t .last = le-antisymm (last-least t s ks hs q p (sym l) f) (last-least s t hs ks p q l g) in
     ap₂ _∷_ (span-eq s t l u)
     (same-symbols hs ks (rest-separate p) (rest-separate q) (rest-within s t hs ks p q u f) (rest-within t s ks hs q p (sym u) g))
 

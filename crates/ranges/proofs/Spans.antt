@@ -17,19 +17,19 @@ use Rattle.ranges.specs.Cuts.{Cut, nextCut, spans, cutAll}
 use Rattle.ranges.proofs.Cuts.{next-le, next-gt, next-is, next-cuts, next-alike, cut-one}
 
 -- the first has a symbol, and the second lies above it
-abbrev pub Ahead : Span → Span → Type 0
-Ahead s t = (s .low ≤ s .high) × (s .high < t .low)
+abbrev pub SpanBefore : Span → Span → Type 0
+SpanBefore s t = (s .first ≤ s .last) × (s .last < t .first)
 
 module _ (top : ℕ) (es : List Transition) where
   -- from a on, below top
   pub record Stretch (a : ℕ) (s : Span) : Type 0 where
-    pub above : a ≤ s .low
-    pub begins : (s .low ≡ a) ⊎ Cut es (s .low)
-    pub ends : suc (s .high) ≡ nextCut (s .low) top es
-    pub full : s .low ≤ s .high
-    pub below : s .high < top
+    pub above : a ≤ s .first
+    pub begins : (s .first ≡ a) ⊎ Cut es (s .first)
+    pub ends : suc (s .last) ≡ nextCut (s .first) top es
+    pub full : s .first ≤ s .last
+    pub below : s .last < top
 
-  stretch-first : (a : ℕ) → a < top → Stretch a (record { low = a; high = nextCut a top es - 1 })
+  stretch-first : (a : ℕ) → a < top → Stretch a (record { first = a; last = nextCut a top es - 1 })
   stretch-first a h =
       let l = next-gt a top es h in
       let u = next-le a top es in
@@ -38,9 +38,9 @@ module _ (top : ℕ) (es : List Transition) where
   stretch-later : (a : ℕ) (s : Span) → a < top → Stretch (nextCut a top es) s → Stretch a s
   stretch-later a s h r =
       let l = next-gt a top es h in
-      let b : (s .low ≡ a) ⊎ Cut es (s .low) =
+      let b : (s .first ≡ a) ⊎ Cut es (s .first) =
       ⊎-elim
-      (λ (e : s .low ≡ nextCut a top es).
+      (λ (e : s .first ≡ nextCut a top es).
       ⊎-elim (λ (q : nextCut a top es ≡ top). let f = r .full in let u = r .below in absurd (omega arith))
       (λ c. inr (c .0, c .1, ⊎-elim (λ q. inl (e ∙ q)) (λ q. inr (e ∙ q)) (c .2)))
       (next-is a top es))
@@ -55,17 +55,17 @@ module _ (top : ℕ) (es : List Transition) where
       b : ℕ
       b = nextCut a top es
 
-      go : (t : Bool) → ltb a top ≡ t → s ∈ cond t (record { low = a; high = b - 1 } ∷ spans n b top es) [] → (s ∈ spans n b top es → Stretch b s) → Stretch a s
+      go : (t : Bool) → ltb a top ≡ t → s ∈ cond t (record { first = a; last = b - 1 } ∷ spans n b top es) [] → (s ∈ spans n b top es → Stretch b s) → Stretch a s
       go true e m ih =
           let h = ltb-true a top e in
-          ⊎-elim (λ (q : s ≡ record { low = a; high = b - 1 }). rw q (stretch-first a h)) (λ m. stretch-later a s h (ih m)) (List·Memᴰ·cases-cons m)
+          ⊎-elim (λ (q : s ≡ record { first = a; last = b - 1 }). rw q (stretch-first a h)) (λ m. stretch-later a s h (ih m)) (List·Memᴰ·cases-cons m)
       go false e m ih = elim m [ ]
 
   -- the ranges don't tell two symbols of it apart
-  pub stretch-alike : (a : ℕ) (s : Span) → Stretch a s → (x : ℕ) → s .low ≤ x → x ≤ s .high → (e : Transition) → e ∈ es → holds x e ≡ holds (s .low) e
-  stretch-alike a s r x l u = next-alike (s .low) top es x l (omega (arith, r .ends))
+  pub stretch-alike : (a : ℕ) (s : Span) → Stretch a s → (x : ℕ) → s .first ≤ x → x ≤ s .last → (e : Transition) → e ∈ es → holds x e ≡ holds (s .first) e
+  stretch-alike a s r x l u = next-alike (s .first) top es x l (omega (arith, r .ends))
 
-  spans-ascend : (n a : ℕ) → Ascending Ahead (spans n a top es)
+  spans-ascend : (n a : ℕ) → Ascending SpanBefore (spans n a top es)
   unfolding spans
   spans-ascend zero a = Ascending.none
   spans-ascend (suc n) a =
@@ -73,7 +73,7 @@ module _ (top : ℕ) (es : List Transition) where
       (λ (t : ltb a top ≡ true).
       let b = nextCut a top es in
       let l = next-gt a top es (ltb-true _ _ t) in
-      let f : (s : Span) → s ∈ spans n b top es → Ahead (record { low = a; high = b - 1 }) s = λ s m. let k = stretches n b s m .above in (omega arith, omega arith) in
+      let f : (s : Span) → s ∈ spans n b top es → SpanBefore (record { first = a; last = b - 1 }) s = λ s m. let k = stretches n b s m .above in (omega arith, omega arith) in
       rw t (Ascending.more f (spans-ascend n b)))
       (λ (t : ltb a top ≡ false). rw t Ascending.none)
       (test (ltb a top))
@@ -83,37 +83,37 @@ module _ (lower upper : ℕ) (es : List Transition) where
   unfolding cutAll
   cut-stretch s m = stretches (suc upper) es (suc upper - lower) lower s m
 
-  pub cut-ascend : Ascending Ahead (cutAll lower upper es)
+  pub cut-ascend : Ascending SpanBefore (cutAll lower upper es)
   unfolding cutAll
   cut-ascend = spans-ascend (suc upper) es (suc upper - lower) lower
 
   -- a span ends before a cut or at upper, and no cut lies inside it
-  pub cut-ends : (s : Span) → s ∈ cutAll lower upper es → (s .high ≡ upper) ⊎ Cut es (suc (s .high))
+  pub cut-ends : (s : Span) → s ∈ cutAll lower upper es → (s .last ≡ upper) ⊎ Cut es (suc (s .last))
   cut-ends s m =
       let r = cut-stretch s m in
-      ⊎-elim (λ (q : nextCut (s .low) (suc upper) es ≡ suc upper). inl (omega (arith, r .ends)))
+      ⊎-elim (λ (q : nextCut (s .first) (suc upper) es ≡ suc upper). inl (omega (arith, r .ends)))
       (λ c. inr (c .0, c .1, ⊎-elim (λ q. inl (r .ends ∙ q)) (λ q. inr (r .ends ∙ q)) (c .2)))
-      (next-is (s .low) (suc upper) es)
+      (next-is (s .first) (suc upper) es)
 
-  pub cut-uncut : (s : Span) → s ∈ cutAll lower upper es → (c : ℕ) → Cut es c → s .low < c → s .high < c
+  pub cut-uncut : (s : Span) → s ∈ cutAll lower upper es → (c : ℕ) → Cut es c → s .first < c → s .last < c
   cut-uncut s m c (e, i, k) l =
-      let n = nextCut (s .low) (suc upper) es in
+      let n = nextCut (s .first) (suc upper) es in
       let f = cut-stretch s m .ends in
-      let z = next-cuts (s .low) (suc upper) i in
+      let z = next-cuts (s .first) (suc upper) i in
       ⊎-elim
-      (λ (q : c ≡ e .first). ⊎-elim (λ (h : e .first ≤ s .low). absurd (omega arith)) (λ (h : n ≤ e .first). omega arith) (z .0))
-      (λ (q : c ≡ suc (e .last)). ⊎-elim (λ (h : suc (e .last) ≤ s .low). absurd (omega arith)) (λ (h : n ≤ suc (e .last)). omega arith) (z .1))
+      (λ (q : c ≡ e .first). ⊎-elim (λ (h : e .first ≤ s .first). absurd (omega arith)) (λ (h : n ≤ e .first). omega arith) (z .0))
+      (λ (q : c ≡ suc (e .last)). ⊎-elim (λ (h : suc (e .last) ≤ s .first). absurd (omega arith)) (λ (h : n ≤ suc (e .last)). omega arith) (z .1))
       k
 
-  pub cut-alike : (s : Span) → s ∈ cutAll lower upper es → (x : ℕ) → s .low ≤ x → x ≤ s .high → (e : Transition) → e ∈ es → holds x e ≡ holds (s .low) e
+  pub cut-alike : (s : Span) → s ∈ cutAll lower upper es → (x : ℕ) → s .first ≤ x → x ≤ s .last → (e : Transition) → e ∈ es → holds x e ≡ holds (s .first) e
   cut-alike s m = stretch-alike (suc upper) es lower s (cut-stretch s m)
 
   -- the span that holds a symbol
   pub record Containing (a : ℕ) : Type 0 where
     pub span : Span
     pub «in» : span ∈ cutAll lower upper es
-    pub low : span .low ≤ a
-    pub high : a ≤ span .high
+    pub above : span .first ≤ a
+    pub below : a ≤ span .last
     pub only : filter (inside a) (cutAll lower upper es) ≡ span ∷ []
 
   pub containing : (a : ℕ) → lower ≤ a → a ≤ upper → Containing a
@@ -122,5 +122,5 @@ module _ (lower upper : ℕ) (es : List Transition) where
       let r = cut-one upper es lower a l u in
       let s = r .0 in
       let m = filter-out (inside a) s (cutAll lower upper es) (rw (r .1) (List·Memᴰ·head refl)) in
-      let i = and-parts (leb (s .low) a) _ (m .1) in
-      record { span = s; «in» = m .0; low = leb-true _ _ (i .0); high = leb-true _ _ (i .1); only = r .1 }
+      let i = and-parts (leb (s .first) a) _ (m .1) in
+      record { span = s; «in» = m .0; above = leb-true _ _ (i .0); below = leb-true _ _ (i .1); only = r .1 }

@@ -10,14 +10,14 @@ use mathlib.Core.Logic.{_↔_}
 use mathlib.Core.Path.{_≡_}
 use Rattle.lists.specs.Lists.{_∈_}
 use Rattle.automata.specs.Automaton.{Transition}
-use Rattle.ranges.specs.Span.{Span, Inside, InsideAny, intersectRanges, overlapping, Shared}
+use Rattle.ranges.specs.Span.{Span, InSpan, InOptionalSpan, intersectRanges, overlapping, Shared}
 use Rattle.ranges.specs.Missing.{missing, Holes, SortedRanges}
 use Rattle.ranges.proofs.Missing
 use Rattle.ranges.proofs.Overlap
 use Rattle.ranges.proofs.Separate
 
 -- a symbol lies in two ranges exactly when it lies in what they share
-pub intersect-exact : (s t : Span) (x : ℕ) → (Inside x s × Inside x t) ↔ InsideAny x (intersectRanges s t)
+pub intersect-exact : (s t : Span) (x : ℕ) → (InSpan x s × InSpan x t) ↔ InOptionalSpan x (intersectRanges s t)
 intersect-exact = Overlap.intersect-exact
 
 -- sorted ranges overlap exactly when two different ones hold the same symbol

@@ -26,7 +26,7 @@ nextCut a top (e ∷ es) = nextCut a (nearer a (e .first) (nearer a (suc (e .las
 unfoldable pub spans : ℕ → ℕ → ℕ → List Transition → List Span
 spans zero a top es = []
 spans (suc n) a top es =
-    let more : List Span = record { low = a; high = nextCut a top es - 1 } ∷ spans n (nextCut a top es) top es in
+    let more : List Span = record { first = a; last = nextCut a top es - 1 } ∷ spans n (nextCut a top es) top es in
     cond (ltb a top) more []
 
 -- the spans between cuts from lower to upper

@@ -10,42 +10,42 @@ use Rattle.automata.specs.Automaton.{Transition, Automaton, holds, leaving, ran
 use Rattle.ranges.specs.declared.Common.{Common}
 use Rattle.ranges.specs.declared.Common.the-variants.{Range, Nothing}
 
--- the symbols from low to high
+-- the symbols from first to last
 pub record Span : Type 0 where
-  pub low : ℕ
-  pub high : ℕ
+  pub first : ℕ
+  pub last : ℕ
 
 -- the symbol x lies in s
-pub record Inside (x : ℕ) (s : Span) : Type 0 where
-  pub above : s .low ≤ x
-  pub below : x ≤ s .high
+pub record InSpan (x : ℕ) (s : Span) : Type 0 where
+  pub above : s .first ≤ x
+  pub below : x ≤ s .last
 
 -- the symbol x lies in the span that there may be
-abbrev pub InsideAny : ℕ → Option Span → Type 0
-InsideAny x none = ⊥
-InsideAny x (some s) = Inside x s
+abbrev pub InOptionalSpan : ℕ → Option Span → Type 0
+InOptionalSpan x none = ⊥
+InOptionalSpan x (some s) = InSpan x s
 
 -- the common symbols of two ranges, or none
 unfoldable pub intersectRanges : Span → Span → Option Span
 intersectRanges s t =
-    cond (leb (max (s .low) (t .low)) (min (s .high) (t .high)))
-    (some (record { low = max (s .low) (t .low); high = min (s .high) (t .high) }))
+    cond (leb (max (s .first) (t .first)) (min (s .last) (t .last)))
+    (some (record { first = max (s .first) (t .first); last = min (s .last) (t .last) }))
     none
 
 -- the answer of `intersect_ranges`
 abbrev pub spanOf : Common → Option Span
-spanOf (Range first last) = some (record { low = first; high = last })
+spanOf (Range first last) = some (record { first = first; last = last })
 spanOf Nothing = none
 
 -- some entry starts at or below `end` or the end of an entry before it
-unfoldable pub startsBelow : ℕ → List Transition → Bool
-startsBelow end [] = false
-startsBelow end (e ∷ es) = leb (e .first) end || startsBelow (max end (e .last)) es
+unfoldable pub overlapsFrom : ℕ → List Transition → Bool
+overlapsFrom end [] = false
+overlapsFrom end (e ∷ es) = leb (e .first) end || overlapsFrom (max end (e .last)) es
 
 -- some entry starts at or below the largest end before it
 unfoldable pub overlapping : List Transition → Bool
 overlapping [] = false
-overlapping (e ∷ es) = startsBelow (e .last) es
+overlapping (e ∷ es) = overlapsFrom (e .last) es
 
 -- the ranges of no state overlap
 abbrev pub OverlapFree : Automaton → Type 0

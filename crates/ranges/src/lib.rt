@@ -6,9 +6,15 @@ ghost use lib.ListN.{length};
 ghost use lib.Seq.{sets};
 ghost use Rattle.automata.specs.Automaton.{rangesOf};
 ghost use Rattle.automata.specs.Records.{readRecords};
-ghost use Rattle.ranges.specs.Span.{intersectRanges, spanOf, startsBelow, overlapping};
+ghost use Rattle.ranges.specs.Span.{intersectRanges, spanOf, overlapsFrom, overlapping};
 ghost use Rattle.ranges.specs.Missing.{SortedRanges, missing};
 ghost use Rattle.ranges.specs.inner.Missing.{gap, spanWords};
+
+// The two ends of a stretch of symbols: the least and the greatest.
+pub struct Ends {
+    pub lower: u32,
+    pub upper: u32,
+}
 
 // The common symbols of two ranges.
 pub enum Common {
@@ -30,7 +36,7 @@ fn smaller(a: u32, b: u32) -> u32
 
 // The common symbols of two ranges, or none.
 pub fn intersect_ranges(first1: u32, last1: u32, first2: u32, last2: u32) -> Common
-    ensures { λ r. ⌜ spanOf r ≡ intersectRanges (record { low = first1; high = last1 }) (record { low = first2; high = last2 }) ⌝ }
+    ensures { λ r. ⌜ spanOf r ≡ intersectRanges (record { first = first1; last = last1 }) (record { first = first2; last = last2 }) ⌝ }
 {
     let first = larger(first1, first2);
     let last = smaller(last1, last2);
@@ -42,8 +48,8 @@ pub fn intersect_ranges(first1: u32, last1: u32, first2: u32, last2: u32) -> Com
 }
 
 // Whether a range of the run starts at or below `end` or the end of a range before it.
-fn starts_below(run: &[u32], end: u32) -> bool
-    ensures { λ r. ⌜ r ≡ startsBelow end (rangesOf (readRecords (now (run .entry)))) ⌝ }
+fn overlaps_from(run: &[u32], end: u32) -> bool
+    ensures { λ r. ⌜ r ≡ overlapsFrom end (rangesOf (readRecords (now (run .entry)))) ⌝ }
 {
     let mut largest = end;
     let mut at: usize = 0;
@@ -72,7 +78,7 @@ pub fn has_overlapping_ranges(run: &[u32]) -> bool
         let last = run[at + 3];
         at += 5;
         if kind == 1 {
-            return starts_below(&run[at..], last);
+            return overlaps_from(&run[at..], last);
         }
     }
     false
@@ -123,7 +129,7 @@ fn add_gap(holes: &mut [u32], n: usize, from: u64, to: u64) -> usize
     n
 }
 
-// Writes low and high of each hole that the run's ranges leave from lower to upper at the front of holes; answers how many holes there are.
+// Writes first and last of each hole that the run's ranges leave from lower to upper at the front of holes; answers how many holes there are.
 // There is room for two words for each record of five, and two more.
 pub fn missing_ranges(run: &[u32], lower: u32, upper: u32, holes: &mut [u32]) -> usize
     requires { ⌜ SortedRanges (rangesOf (readRecords (now run))) × (2 * length (now run) + 10 ≤ 5 * length (now holes)) ⌝ }

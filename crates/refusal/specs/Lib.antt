@@ -1,4 +1,6 @@
--- The numbers of the refusals, and the answers that bear them.
+-- The numbers of the refusals, the answers that bear them, and what calls leave.
 pub mod Number
 pub mod Answer
+pub mod Outcome
+pub mod Reply
 pub mod Decision

@@ -8,9 +8,9 @@ use borrow.Author.Needs.{needs}
 use borrow.Author.Tests.{le-leb, lt-leb, lt-ltb, le-ltb}
 use lib.ListN.{length, getD, take, drop, set, length-take, drop-of-length-le}
 use lib.Seq.{take-all, length-take-le, getD-take}
-use Rattle.lists.specs.Written.{Written}
+use Rattle.stores.specs.Written.{Written}
 use Rattle.lists.proofs.Parts.{take-more, drop-at}
-use Rattle.lists.proofs.Written.{written-none, written-more}
+use Rattle.stores.proofs.Written.{written-none, written-more}
 use Rattle.replay.specs.Cases.{listAt, bytesBefore}
 
 -- a place outside, a list that is too long, and a list

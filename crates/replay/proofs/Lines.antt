@@ -1,20 +1,19 @@
 -- Laws of lines of numbers, as the functions that read them ask them.
 use Prim.Native.Nat.{ℕ, suc, _+_, _-_, _≤_, _<_}
-use mathlib.Core.Bool.{Bool, true, false, cond}
+use mathlib.Core.Bool.{Bool, true, false, not, cond, _&&_}
 use mathlib.Core.List.{List, []}
-use mathlib.Core.Path.{_≡_, refl, sym, _∙_, ap}
+use mathlib.Core.Path.{_≡_, refl, sym, _∙_, ap, subst}
 use native.Mathlib.Omega.{arith}
 use borrow.Author.Needs.{needs}
-use borrow.Author.Tests.{eq-eqb, ne-eqb, ltb-false}
-use lib.Dec.{ltb}
+use borrow.Author.Tests.{not-true, not-false, lt-leb, le-leb, eq-eqb, ne-eqb, ltb-false}
+use lib.Dec.{leb, ltb}
 use lib.ListN.{length, getD, take, drop, set, drop-of-length-le}
 use lib.Seq.{sets, set-out, sets-eq, take-at, length-take-le}
 use Rattle.lists.proofs.Parts.{drop-at}
-use Rattle.replay.specs.declared.Longer.{Longer}
-use Rattle.replay.specs.declared.Longer.the-variants.{Value, Nothing}
+use Rattle.decimal.specs.Decimal.{isDigit, withDigit}
 use Rattle.replay.specs.declared.Numbers.{Numbers}
 use Rattle.replay.specs.declared.Numbers.the-variants.{Stored, TooMany, Malformed}
-use Rattle.replay.specs.Lines.{NumberLine, withDigit, ended, behind, lineFrom, lineAt, told, answer}
+use Rattle.replay.specs.Lines.{NumberLine, ended, behind, lineFrom, lineAt, told, answer}
 
 -- a number that no digits say, one for which there is no room, and one that is stored
 module _ (l : List ℕ) (n v : ℕ) (b : Bool) where
@@ -69,11 +68,11 @@ module _ (s : List ℕ) (i v : ℕ) (b : Bool) where
       unfolding lineFrom
       from-blank p = ap (lineFrom b v) (drop-at s i h) ∙ rw (ne-eqb (getD s i 0) 10 other, eq-eqb (getD s i 0) 32 p)
 
-      from-digit : (w : ℕ) → (getD s i 0 ≡ 32 → ⊥) → withDigit v (getD s i 0) ≡ Value w → lineFrom b v (drop i s) ≡ behind false 0 (lineFrom true w (drop (i + 1) s))
+      from-digit : (getD s i 0 ≡ 32 → ⊥) → isDigit (getD s i 0) ≡ true → withDigit v (getD s i 0) ≤ 4294967295 → lineFrom b v (drop i s) ≡ behind false 0 (lineFrom true (withDigit v (getD s i 0)) (drop (i + 1) s))
       unfolding lineFrom
-      from-digit w p q = ap (lineFrom b v) (drop-at s i h) ∙ rw (ne-eqb (getD s i 0) 10 other, ne-eqb (getD s i 0) 32 p, q)
+      from-digit p q m = ap (lineFrom b v) (drop-at s i h) ∙ rw (ne-eqb (getD s i 0) 10 other, ne-eqb (getD s i 0) 32 p, q, le-leb _ 4294967295 m)
 
-      from-other : (getD s i 0 ≡ 32 → ⊥) → withDigit v (getD s i 0) ≡ Nothing → lineFrom b v (drop i s) ≡ record { numbers = []; size = 0; whole = false }
+      from-other : (getD s i 0 ≡ 32 → ⊥) → (isDigit (getD s i 0) && leb (withDigit v (getD s i 0)) 4294967295) ≡ false → lineFrom b v (drop i s) ≡ record { numbers = []; size = 0; whole = false }
       unfolding lineFrom
       from-other p q = ap (lineFrom b v) (drop-at s i h) ∙ rw (ne-eqb (getD s i 0) 10 other, ne-eqb (getD s i 0) 32 p, q)
 
@@ -129,20 +128,45 @@ module _ (out₀ s out : List ℕ) (at n v i : ℕ) (b : Bool) (e : outcome out 
           let l : NumberLine = lineFrom false 0 (drop (i + 1) s) in
           rw (q, r) (outcome-behind out n i v b l) ∙ ap (outcome out n i) (sym (from-blank s i v b h other p)) ∙ e
 
-      module _ (x : Longer) (p : getD s i 0 ≡ 32 → ⊥) (q : x ≡ withDigit v (getD s i 0)) where
-        pub line-digit : (w : ℕ) → x ≡ Value w → outcome out n (i + 1) (lineFrom true w (drop (i + 1) s)) ≡ outcome out₀ 0 at (lineAt s at)
-        line-digit w r =
-            outcome-passed out n i (lineFrom true w (drop (i + 1) s)) ∙ ap (outcome out n i) (sym (from-digit s i v b h other w p (sym q ∙ r))) ∙ e
-
+      module _ (p : getD s i 0 ≡ 32 → ⊥) where
         -- another byte, or a number that is no word
-        pub other-stored : x ≡ Nothing → out ≡ sets out₀ 0 (lineAt s at .numbers)
+        stopped-stored : (isDigit (getD s i 0) && leb (withDigit v (getD s i 0)) 4294967295) ≡ false → out ≡ sets out₀ 0 (lineAt s at .numbers)
         unfolding outcome
-        other-stored r = ap (λ (l : NumberLine). sets out n (l .numbers)) (sym (from-other s i v b h other p (sym q ∙ r))) ∙ ap (λ (o : Outcome). o .memory) e
+        stopped-stored r = ap (λ (l : NumberLine). sets out n (l .numbers)) (sym (from-other s i v b h other p r)) ∙ ap (λ (o : Outcome). o .memory) e
 
-        pub other-answer : x ≡ Nothing → (room : ℕ) → Malformed ≡ answer room at (lineAt s at)
+        stopped-answer : (isDigit (getD s i 0) && leb (withDigit v (getD s i 0)) 4294967295) ≡ false → (room : ℕ) → Malformed ≡ answer room at (lineAt s at)
         unfolding reply outcome
-        other-answer r room =
-            ap (λ (l : NumberLine). reply room (outcome out n i l)) (sym (from-other s i v b h other p (sym q ∙ r))) ∙ ap (reply room) e ∙ answer-reply room at out₀ (lineAt s at)
+        stopped-answer r room =
+            ap (λ (l : NumberLine). reply room (outcome out n i l)) (sym (from-other s i v b h other p r)) ∙ ap (reply room) e ∙ answer-reply room at out₀ (lineAt s at)
+
+        module _ (x : Bool) (q : x ≡ isDigit (getD s i 0)) where
+          no-digit : not x ≡ true → (isDigit (getD s i 0) && leb (withDigit v (getD s i 0)) 4294967295) ≡ false
+          no-digit r = rw (sym q ∙ not-true x r)
+
+          pub other-stored : not x ≡ true → out ≡ sets out₀ 0 (lineAt s at .numbers)
+          other-stored r = stopped-stored (no-digit r)
+
+          pub other-answer : not x ≡ true → (room : ℕ) → Malformed ≡ answer room at (lineAt s at)
+          other-answer r = stopped-answer (no-digit r)
+
+          module _ (r : not x ≡ false) where
+            pub byte-digit : isDigit (getD s i 0) ≡ true
+            byte-digit = sym q ∙ not-false x r
+
+            module _ (w : ℕ) (k : w ≡ withDigit v (getD s i 0)) where
+              over : 4294967295 < w → (isDigit (getD s i 0) && leb (withDigit v (getD s i 0)) 4294967295) ≡ false
+              over m = rw (byte-digit, lt-leb _ 4294967295 (subst (λ (y : ℕ). 4294967295 < y) k m))
+
+              pub over-stored : 4294967295 < w → out ≡ sets out₀ 0 (lineAt s at .numbers)
+              over-stored m = stopped-stored (over m)
+
+              pub over-answer : 4294967295 < w → (room : ℕ) → Malformed ≡ answer room at (lineAt s at)
+              over-answer m = stopped-answer (over m)
+
+              pub line-digit : w ≤ 4294967295 → outcome out n (i + 1) (lineFrom true w (drop (i + 1) s)) ≡ outcome out₀ 0 at (lineAt s at)
+              line-digit m =
+                  ap (λ (y : ℕ). outcome out n (i + 1) (lineFrom true y (drop (i + 1) s))) k ∙ outcome-passed out n i (lineFrom true (withDigit v (getD s i 0)) (drop (i + 1) s))
+                  ∙ ap (outcome out n i) (sym (from-digit s i v b h other p byte-digit (subst (λ (y : ℕ). y ≤ 4294967295) k m))) ∙ e
 
 -- at most one number ends at a byte, so that there are no more numbers than bytes
 pub few-more : (n k v i z : ℕ) (b : Bool) → n + (z - i) ≤ z → i < z → k ≡ n + length (ended b v []) → k + (z - (i + 1)) ≤ z
@@ -155,7 +179,9 @@ pub ruleset endLaws = (end-answer, end-stored, needs)
 
 pub ruleset otherLaws = (other-answer, other-stored, needs)
 
-pub ruleset lineLaws = (line-begun, line-blank, line-digit, few-more, needs)
+pub ruleset overLaws = (over-answer, over-stored, needs)
+
+pub ruleset lineLaws = (line-begun, line-blank, byte-digit, line-digit, few-more, needs)
 
 -- what the answer says of a line that was stored
 pub record LineStored (room at : ℕ) (l : NumberLine) (n to : ℕ) : Type 0 where

@@ -1,11 +1,10 @@
 -- Lines of decimal numbers: digits, separated by blanks, ended by a line feed or by the end of the text.
-use Prim.Native.Nat.{ℕ, suc, _+_, _-_, _*_}
-use mathlib.Core.Bool.{Bool, true, false, cond}
+use Prim.Native.Nat.{ℕ, suc, _+_}
+use mathlib.Core.Bool.{Bool, true, false, cond, _&&_}
 use mathlib.Core.List.{List, [], _∷_}
-use lib.Dec.{eqb, ltb}
+use lib.Dec.{leb, ltb, eqb}
 use lib.ListN.{length, drop}
-use Rattle.replay.specs.declared.Longer.{Longer}
-use Rattle.replay.specs.declared.Longer.the-variants.{Value, Nothing}
+use Rattle.decimal.specs.Decimal.{isDigit, withDigit}
 use Rattle.replay.specs.declared.Numbers.{Numbers}
 use Rattle.replay.specs.declared.Numbers.the-variants.{Stored, TooMany, Malformed}
 
@@ -14,14 +13,6 @@ pub record NumberLine : Type 0 where
   pub numbers : List ℕ
   pub size : ℕ
   pub whole : Bool
-
--- the number v with the digit b behind it, if b is a digit and the number is a word
-unfoldable pub withDigit : ℕ → ℕ → Longer
-withDigit v b =
-    cond (ltb b 48) Nothing
-    (cond (ltb 57 b) Nothing
-    (cond (ltb 4294967295 (10 * v + (b - 48))) Nothing
-    (Value (10 * v + (b - 48)))))
 
 -- the number v in front of others, if digits say it
 abbrev pub ended : Bool → ℕ → List ℕ → List ℕ
@@ -32,13 +23,14 @@ ended false v ns = ns
 abbrev pub behind : Bool → ℕ → NumberLine → NumberLine
 behind begun v l = record { numbers = ended begun v (l .numbers); size = suc (l .size); whole = l .whole }
 
--- the line at the front of a text; `begun` tells whether digits stand directly before, and they say v
+-- the line at the front of a text; `begun` tells whether digits stand directly before, and they say v; each number is a word
 unfoldable pub lineFrom : Bool → ℕ → List ℕ → NumberLine
 lineFrom begun v [] = record { numbers = ended begun v []; size = 0; whole = true }
 lineFrom begun v (b ∷ bs) =
     cond (eqb b 10) (record { numbers = ended begun v []; size = 1; whole = true })
     (cond (eqb b 32) (behind begun v (lineFrom false 0 bs))
-    (elim (withDigit v b) [ Value w ↦ behind false 0 (lineFrom true w bs) | Nothing ↦ record { numbers = []; size = 0; whole = false } ]))
+    (cond (isDigit b && leb (withDigit v b) 4294967295) (behind false 0 (lineFrom true (withDigit v b) bs))
+    (record { numbers = []; size = 0; whole = false })))
 
 -- the line at a place of a text
 unfoldable pub lineAt : List ℕ → ℕ → NumberLine

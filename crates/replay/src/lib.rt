@@ -7,8 +7,8 @@ ghost use Prim.Native.Nat.{_+_, _^_, _<_};
 ghost use lib.ListN.{length, take};
 ghost use lib.Seq.{sets};
 ghost use Rattle.io.specs.Counts.{Counts};
-ghost use Rattle.lists.specs.Written.{Written};
-ghost use Rattle.replay.specs.Lines.{withDigit, ended, told, answer, lineAt};
+ghost use Rattle.stores.specs.Written.{Written};
+ghost use Rattle.replay.specs.Lines.{ended, told, answer, lineAt};
 ghost use Rattle.replay.specs.Cases.{listAt, isLast, bytesBefore};
 ghost use Rattle.replay.specs.Counting.{caseAt, fresh, begun, Bounded, tallied};
 
@@ -17,29 +17,6 @@ pub fn wide(x: u32) -> usize
     ensures { λ r. ⌜ r ≡ x ⌝ }
 {
     x as usize
-}
-
-// A number with one more digit, if the byte is a digit and the number is below 2^32.
-enum Longer {
-    Value(u32),
-    Nothing,
-}
-
-// The number v with the digit b behind it.
-fn with_digit(v: u32, b: u8) -> Longer
-    ensures { λ r. ⌜ r ≡ withDigit v b ⌝ }
-{
-    if b < 48 {
-        return Longer::Nothing;
-    }
-    if 57 < b {
-        return Longer::Nothing;
-    }
-    let w = 10 * (v as u64) + (b - 48) as u64;
-    if 4294967295 < w {
-        return Longer::Nothing;
-    }
-    Longer::Value(w as u32)
 }
 
 // Stores v behind n numbers, if digits say it and there is room; answers how many numbers there are then.
@@ -99,11 +76,15 @@ pub fn read_line(text: &[u8], at: usize, out: &mut [u32]) -> Numbers
             v = 0;
             i += 1;
         } else {
-            let Longer::Value(w) = with_digit(v, b) else {
+            if !decimal::is_digit(b) {
                 return Numbers::Malformed;
-            };
+            }
+            let w = decimal::with_digit(v as u64, b);
+            if 4294967295 < w {
+                return Numbers::Malformed;
+            }
             begun = true;
-            v = w;
+            v = w as u32;
             i += 1;
         }
     }

@@ -13,8 +13,8 @@ use Rattle.labels.specs.Checked.{checkedNumber}
 use Rattle.labels.specs.declared.Checked.{Checked}
 use Rattle.labels.specs.declared.Checked.the-variants as checked
 use Rattle.labels.specs.Labels.{labelsFault}
-use Rattle.lists.specs.Written.{Written}
-use Rattle.lists.proofs.Written.{written-length}
+use Rattle.stores.specs.Written.{Written}
+use Rattle.stores.proofs.Written.{written-length}
 use Rattle.refusal.specs.declared.InputRefusal.{InputRefusal}
 use Rattle.refusal.specs.Number.{inputNumber}
 use Rattle.replay.specs.Cases.{listAt, isLast, bytesBefore}

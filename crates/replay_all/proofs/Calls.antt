@@ -10,10 +10,10 @@ use lib.Dec.{eqb, ltb, leb}
 use lib.ListN.{length, getD, take}
 use Rattle.determinize.specs.Sheets.{determinizeAnswer}
 use Rattle.epsilon.specs.Eliminate.{eliminateAnswer}
-use Rattle.lists.specs.Written.{Written}
+use Rattle.stores.specs.Written.{Written}
 use Rattle.output.specs.declared.Made.{Made}
 use Rattle.output.specs.Made.{outputOf}
-use Rattle.output.specs.Output.{Output, outputs, roomFirst}
+use Rattle.output.specs.Output.{Lengths, Outputs, outputs}
 use Rattle.parser.specs.declared.Parsed.{Parsed}
 use Rattle.parser.specs.declared.Parsed.the-variants as parsing
 use Rattle.parser.specs.Parsed.{parsed, parsedOf}
@@ -23,6 +23,7 @@ use Rattle.refusal.specs.declared.Decision.{Decision}
 use Rattle.refusal.specs.Decision.{decisionOf}
 use Rattle.refusal.specs.declared.Refusal.{Refusal}
 use Rattle.refusal.specs.Number.{numberOf}
+use Rattle.refusal.specs.Outcome.{Outcome}
 use Rattle.replay.specs.Cases.{listAt, isLast, bytesBefore}
 use Rattle.subautomaton.specs.Answer.{subautomatonAnswer}
 use Rattle.totality.specs.Answers.{totalizeAnswer, complementAnswer}
@@ -38,39 +39,39 @@ module _ (s x : List ℕ) (lx : x ≡ listAt s 0) (o l : List ℕ) (a : Made) (b
   unfolding determinizeCase
   determinize-told e p = p ∙ ap (isOutcome s (1 + length x)) e ∙ rw lx
 
-  pub product-told : (y : List ℕ) → y ≡ listAt s (1 + length x) → outputOf a o l ≡ outputs words bytes (roomFirst words bytes (intersectionAnswer x y))
+  pub product-told : (y : List ℕ) → y ≡ listAt s (1 + length x) → outputOf a o l ≡ outputs words bytes (intersectionAnswer x y words bytes)
       → b ≡ isOutcome s (1 + length x + 1 + length y) (outputOf a o l) → b ≡ productCase s
   unfolding productCase
   product-told y ly e p = p ∙ ap (isOutcome s (1 + length x + 1 + length y)) e ∙ rw (ly, lx)
 
 -- the operation by its name
-module _ (k : Operation) (o l s t : List ℕ) (r : Output) where
-  pub operation-totalize : k ≡ Totalize → r ≡ outputs o l (roomFirst o l (totalizeAnswer 0 4294967295 s t)) → r ≡ outputs o l (roomFirst o l (operation k s t))
+module _ (k : Operation) (o l s t : List ℕ) (r : Outcome Lengths Outputs) where
+  pub operation-totalize : k ≡ Totalize → r ≡ outputs o l (totalizeAnswer 0 4294967295 s t o l) → r ≡ outputs o l (operation k s t o l)
   unfolding operation
-  operation-totalize e p = p ∙ ap (λ (x : Operation). outputs o l (roomFirst o l (operation x s t))) (sym e)
+  operation-totalize e p = p ∙ ap (λ (x : Operation). outputs o l (operation x s t o l)) (sym e)
 
-  pub operation-complement : k ≡ Complement → r ≡ outputs o l (roomFirst o l (complementAnswer 0 4294967295 s t)) → r ≡ outputs o l (roomFirst o l (operation k s t))
+  pub operation-complement : k ≡ Complement → r ≡ outputs o l (complementAnswer 0 4294967295 s t o l) → r ≡ outputs o l (operation k s t o l)
   unfolding operation
-  operation-complement e p = p ∙ ap (λ (x : Operation). outputs o l (roomFirst o l (operation x s t))) (sym e)
+  operation-complement e p = p ∙ ap (λ (x : Operation). outputs o l (operation x s t o l)) (sym e)
 
-  pub operation-eliminate : k ≡ EpsilonEliminate → r ≡ outputs o l (roomFirst o l (eliminateAnswer s t)) → r ≡ outputs o l (roomFirst o l (operation k s t))
+  pub operation-eliminate : k ≡ EpsilonEliminate → r ≡ outputs o l (eliminateAnswer s t o l) → r ≡ outputs o l (operation k s t o l)
   unfolding operation
-  operation-eliminate e p = p ∙ ap (λ (x : Operation). outputs o l (roomFirst o l (operation x s t))) (sym e)
+  operation-eliminate e p = p ∙ ap (λ (x : Operation). outputs o l (operation x s t o l)) (sym e)
 
 -- a sheet and its labels
 module _ (k : Operation) (s x y : List ℕ) (lx : x ≡ listAt s 0) (ly : y ≡ listAt s (1 + length x)) (n : ℕ) (q : n ≡ bytesBefore (take 16642 y)) where
   operation-by : operationCase k s
-      ≡ cond (eqb n (length y)) (isOutcome s (1 + length x + 1 + length y) (outputs words bytes (roomFirst words bytes (operation k x y)))) false
+      ≡ cond (eqb n (length y)) (isOutcome s (1 + length x + 1 + length y) (outputs words bytes (operation k x y words bytes))) false
   unfolding operationCase
   operation-by = rw (← lx, ← ly, ← q)
 
   pub operation-other : (n ≡ length y → ⊥) → false ≡ operationCase k s
   operation-other h = sym (operation-by ∙ rw (ne-eqb n (length y) h))
 
-  pub operation-told : n ≡ length y → (z m : List ℕ) → Written z 0 (take n y) m n → n ≤ length m → (o : Output) (b : Bool)
-      → o ≡ outputs words bytes (roomFirst words bytes (operation k x (take n m))) → b ≡ isOutcome s (1 + length x + 1 + length y) o → b ≡ operationCase k s
+  pub operation-told : n ≡ length y → (z m : List ℕ) → Written z 0 (take n y) m n → n ≤ length m → (o : Outcome Lengths Outputs) (b : Bool)
+      → o ≡ outputs words bytes (operation k x (take n m) words bytes) → b ≡ isOutcome s (1 + length x + 1 + length y) o → b ≡ operationCase k s
   operation-told h z m w g o b e p =
-      p ∙ ap (isOutcome s (1 + length x + 1 + length y)) (e ∙ ap (λ (v : List ℕ). outputs words bytes (roomFirst words bytes (operation k x v))) (bytes-all z m y n w h g))
+      p ∙ ap (isOutcome s (1 + length x + 1 + length y)) (e ∙ ap (λ (v : List ℕ). outputs words bytes (operation k x v words bytes)) (bytes-all z m y n w h g))
       ∙ sym (operation-by ∙ rw (eq-eqb n (length y) h))
 
 -- the outcome of the pattern reader
@@ -123,7 +124,7 @@ module _ (s : List ℕ) (at : ℕ) (a : Parsed) (o l : List ℕ) where
 
 -- a text
 module _ (s x : List ℕ) (lx : x ≡ listAt s 0) (n : ℕ) (q : n ≡ bytesBefore (take 4096 x)) where
-  parse-by : parseCase s ≡ cond (eqb n (length x)) (isReading s (1 + length x) (parsed words bytes (roomFirst words bytes (parseAnswer x)))) false
+  parse-by : parseCase s ≡ cond (eqb n (length x)) (isReading s (1 + length x) (parsed words bytes (parseAnswer x words bytes))) false
   unfolding parseCase
   parse-by = rw (← lx, ← q)
 
@@ -131,9 +132,9 @@ module _ (s x : List ℕ) (lx : x ≡ listAt s 0) (n : ℕ) (q : n ≡ bytesBefo
   parse-other h = sym (parse-by ∙ rw (ne-eqb n (length x) h))
 
   pub parse-told : n ≡ length x → (z m : List ℕ) → Written z 0 (take n x) m n → n ≤ length m → (o l : List ℕ) (a : Parsed) (b : Bool)
-      → parsedOf a o l ≡ parsed words bytes (roomFirst words bytes (parseAnswer (take n m))) → b ≡ isReading s (1 + length x) (parsedOf a o l) → b ≡ parseCase s
+      → parsedOf a o l ≡ parsed words bytes (parseAnswer (take n m) words bytes) → b ≡ isReading s (1 + length x) (parsedOf a o l) → b ≡ parseCase s
   parse-told h z m w g o l a b e p =
-      p ∙ ap (isReading s (1 + length x)) (e ∙ ap (λ (v : List ℕ). parsed words bytes (roomFirst words bytes (parseAnswer v))) (bytes-all z m x n w h g))
+      p ∙ ap (isReading s (1 + length x)) (e ∙ ap (λ (v : List ℕ). parsed words bytes (parseAnswer v words bytes)) (bytes-all z m x n w h g))
       ∙ sym (parse-by ∙ rw (eq-eqb n (length x) h))
 
 -- two sheets and their labels

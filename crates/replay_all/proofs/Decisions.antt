@@ -18,7 +18,7 @@ use Rattle.sheets.specs.Checked.{checkedNumber}
 use Rattle.sheets.specs.declared.Checked.{Checked}
 use Rattle.sheets.specs.declared.Checked.the-variants as checked
 use Rattle.sheets.specs.Fault.{fault}
-use Rattle.totality.specs.Answers.{isNfaAnswer}
+use Rattle.nondeterminism.specs.Nondeterminism.{isNfaAnswer}
 use Rattle.words.specs.Acceptance.{acceptsWordsAnswer, acceptanceOf}
 use Rattle.words.specs.declared.Acceptance.{Acceptance}
 use Rattle.words.specs.declared.Acceptance.the-variants as acceptance

@@ -19,7 +19,7 @@ use Rattle.sheets.specs.Sheet.{read}
 use Rattle.sheets.proofs.Accepted.{check-accepted}
 use Rattle.sheets.proofs.Meaning.{read-well, read-fits}
 use Rattle.sheets.proofs.Runs.{starts-indexed, run-at}
-use Rattle.words.proofs.Epsilons.{fresh}
+use Rattle.words.proofs.Epsilons.{fresh-large}
 
 module _ (s : List ℕ) (a : Accepted s) where
   pub first-run : (old starts : List ℕ) → starts ≡ sets old 0 (startsOf s) → length old ≡ 257 → RunAt s starts 0
@@ -42,4 +42,4 @@ module _ (s : List ℕ) (a : Accepted s) where
 
 pub ruleset acceptedLaws = (check-accepted, needs)
 
-pub ruleset freshLaws = (fresh, needs)
+pub ruleset freshLaws = (fresh-large, needs)

@@ -14,9 +14,9 @@ use Rattle.automata.specs.Automaton.{leaving, rangesOf}
 use Rattle.automata.specs.Records.{readRecords, writeRecords}
 use Rattle.automata.proofs.Records.{read-write}
 use Rattle.labels.specs.Labels.{sameLabel}
-use Rattle.lists.specs.Written.{Written}
+use Rattle.stores.specs.Written.{Written}
 use Rattle.lists.proofs.Parts.{drop-at, sets-append}
-use Rattle.lists.proofs.Written.{written-none, written-append, written-cons}
+use Rattle.stores.proofs.Written.{written-none, written-append, written-cons}
 use Rattle.ranges.specs.declared.Common.{Common}
 use Rattle.ranges.specs.declared.Common.the-variants as common
 use Rattle.ranges.specs.Missing.{missing}
@@ -52,16 +52,16 @@ module _ (l : List ℕ) (a : Common) where
     pub ends-length : (length l ≡ 2 → ⊥) → false ≡ isEnds l (spanOf a)
     ends-length h = sym (ends-by ∙ rw (ne-eqb (length l) 2 h))
 
-    pub ends-low : length l ≡ 2 → (getD l 0 0 ≡ f → ⊥) → false ≡ isEnds l (spanOf a)
-    ends-low h g = sym (ends-by ∙ rw (eq-eqb (length l) 2 h, ne-eqb (getD l 0 0) f g))
+    pub ends-first : length l ≡ 2 → (getD l 0 0 ≡ f → ⊥) → false ≡ isEnds l (spanOf a)
+    ends-first h g = sym (ends-by ∙ rw (eq-eqb (length l) 2 h, ne-eqb (getD l 0 0) f g))
 
-    pub ends-high : length l ≡ 2 → getD l 0 0 ≡ f → eqb (getD l 1 0) t ≡ isEnds l (spanOf a)
-    ends-high h g = sym (ends-by ∙ rw (eq-eqb (length l) 2 h, eq-eqb (getD l 0 0) f g))
+    pub ends-last : length l ≡ 2 → getD l 0 0 ≡ f → eqb (getD l 1 0) t ≡ isEnds l (spanOf a)
+    ends-last h g = sym (ends-by ∙ rw (eq-eqb (length l) 2 h, eq-eqb (getD l 0 0) f g))
 
   pub ends-none : a ≡ common.Nothing → eqb (length l) 0 ≡ isEnds l (spanOf a)
   ends-none e = ap (λ (x : Common). isEnds l (spanOf x)) (sym e)
 
-pub ruleset endLaws = (ends-length, ends-low, ends-high, ends-none, needs)
+pub ruleset endLaws = (ends-length, ends-first, ends-last, ends-none, needs)
 
 pub common-short : (s : List ℕ) → length s < 5 → false ≡ commonCase s
 unfolding commonCase
@@ -69,7 +69,7 @@ common-short s h = sym (rw (lt-ltb (length s) 5 h))
 
 module _ (s x : List ℕ) (h : 5 ≤ length s) (l : x ≡ listAt s 5) where
   common-by : commonCase s
-      ≡ cond (eqb (6 + length x) (length s)) (isEnds x (intersectRanges (record { low = getD s 1 0; high = getD s 2 0 }) (record { low = getD s 3 0; high = getD s 4 0 }))) false
+      ≡ cond (eqb (6 + length x) (length s)) (isEnds x (intersectRanges (record { first = getD s 1 0; last = getD s 2 0 }) (record { first = getD s 3 0; last = getD s 4 0 }))) false
   unfolding commonCase
   common-by = rw (le-ltb (length s) 5 h, ← l)
 
@@ -77,7 +77,7 @@ module _ (s x : List ℕ) (h : 5 ≤ length s) (l : x ≡ listAt s 5) where
   common-other g = sym (common-by ∙ rw (ne-eqb (6 + length x) (length s) g))
 
   pub common-told : 6 + length x ≡ length s → (a : Common) (b : Bool)
-      → spanOf a ≡ intersectRanges (record { low = getD s 1 0; high = getD s 2 0 }) (record { low = getD s 3 0; high = getD s 4 0 }) → b ≡ isEnds x (spanOf a) → b ≡ commonCase s
+      → spanOf a ≡ intersectRanges (record { first = getD s 1 0; last = getD s 2 0 }) (record { first = getD s 3 0; last = getD s 4 0 }) → b ≡ isEnds x (spanOf a) → b ≡ commonCase s
   common-told g a b e p = p ∙ ap (isEnds x) e ∙ sym (common-by ∙ rw (eq-eqb (6 + length x) (length s) g))
 
 pub ruleset commonLaws = (common-short, common-other, common-told, needs)

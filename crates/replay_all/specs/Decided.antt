@@ -11,7 +11,7 @@ use Rattle.refusal.specs.Answer.{Answer, refused, given}
 use Rattle.replay.specs.Cases.{listAt, isLast}
 use Rattle.sheets.specs.Fault.{fault}
 use Rattle.subautomaton.specs.Answer.{subautomatonAnswer}
-use Rattle.totality.specs.Answers.{isNfaAnswer}
+use Rattle.nondeterminism.specs.Nondeterminism.{isNfaAnswer}
 use Rattle.words.specs.Acceptance.{acceptsWordsAnswer, acceptsTextAnswer}
 use Rattle.replay_all.specs.Parts.{behind, areBytes}
 

@@ -7,12 +7,12 @@ use lib.ListN.{length, getD, take, replicate}
 use Rattle.determinize.specs.Sheets.{determinizeAnswer}
 use Rattle.epsilon.specs.Eliminate.{eliminateAnswer}
 use Rattle.labels.specs.Labels.{sameLabel}
-use Rattle.output.specs.Output.{Pattern, Lengths, Output, outputs, roomFirst}
-use Rattle.parser.specs.Parsed.{parsed}
-use Rattle.parser.specs.Parsed as parser
+use Rattle.output.specs.Output.{Pattern, Lengths, Outputs, outputs}
+use Rattle.parser.specs.Parsed.{ReadLengths, parsed}
 use Rattle.parser.specs.Pattern.{parseAnswer}
 use Rattle.product.specs.Product.{intersectionAnswer}
 use Rattle.refusal.specs.Answer.{Answer, refused, given}
+use Rattle.refusal.specs.Outcome.{Outcome}
 use Rattle.replay.specs.Cases.{listAt, isLast}
 use Rattle.totality.specs.Answers.{totalizeAnswer, complementAnswer}
 use Rattle.replay_all.specs.Parts.{behind, areBytes}
@@ -39,8 +39,8 @@ isAnswer s at (given l) ws bs =
     cond (ltb (length ws) (l .words)) false
     (cond (ltb (length bs) (l .bytes)) false (isBuilt s at (take (l .words) ws) (take (l .bytes) bs)))
 
-abbrev pub isOutcome : List ℕ → ℕ → Output → Bool
-isOutcome s at o = isAnswer s at (o .answer) (o .sheet) (o .labels)
+abbrev pub isOutcome : List ℕ → ℕ → Outcome Lengths Outputs → Bool
+isOutcome s at o = isAnswer s at (o .answer) (o .memory .sheet) (o .memory .labels)
 
 -- the outputs that are lent
 abbrev pub words : List ℕ
@@ -56,39 +56,39 @@ determinizeCase s = isOutcome s (behind s 0) (outputs words bytes (determinizeAn
 -- two sheets, then the outcome of their product
 unfoldable pub productCase : List ℕ → Bool
 productCase s =
-    isOutcome s (behind s (behind s 0)) (outputs words bytes (roomFirst words bytes (intersectionAnswer (listAt s 0) (listAt s (behind s 0)))))
+    isOutcome s (behind s (behind s 0)) (outputs words bytes (intersectionAnswer (listAt s 0) (listAt s (behind s 0)) words bytes))
 
 -- the operations that keep labels
-unfoldable pub operation : Operation → List ℕ → List ℕ → Answer Pattern
-operation Totalize s b = totalizeAnswer 0 4294967295 s b
-operation Complement s b = complementAnswer 0 4294967295 s b
-operation EpsilonEliminate s b = eliminateAnswer s b
+unfoldable pub operation : Operation → List ℕ → List ℕ → List ℕ → List ℕ → Answer Pattern
+operation Totalize s b o l = totalizeAnswer 0 4294967295 s b o l
+operation Complement s b o l = complementAnswer 0 4294967295 s b o l
+operation EpsilonEliminate s b o l = eliminateAnswer s b o l
 
 -- a sheet, its labels, then the outcome of the operation
 unfoldable pub operationCase : Operation → List ℕ → Bool
 operationCase o s =
     cond (areBytes 16642 (listAt s (behind s 0)))
-    (isOutcome s (behind s (behind s 0)) (outputs words bytes (roomFirst words bytes (operation o (listAt s 0) (listAt s (behind s 0))))))
+    (isOutcome s (behind s (behind s 0)) (outputs words bytes (operation o (listAt s 0) (listAt s (behind s 0)) words bytes)))
     false
 
 -- the answer of the pattern reader with its outputs ws and bs stands in the case from the place on: behind the 0 the number of bytes read
-unfoldable pub isRead : List ℕ → ℕ → Answer parser.Lengths → List ℕ → List ℕ → Bool
+unfoldable pub isRead : List ℕ → ℕ → Answer ReadLengths → List ℕ → List ℕ → Bool
 isRead s at (refused n) ws bs = isLast s at n
 isRead s at (given l) ws bs =
     cond (leb (length s) (at + 1)) false
     (cond (eqb (getD s at 0) 0)
     (cond (eqb (getD s (at + 1) 0) (l .read))
-    (cond (ltb (length ws) (l .words)) false
-    (cond (ltb (length bs) (l .bytes)) false (isListed s (at + 2) (take (l .words) ws) (take (l .bytes) bs))))
+    (cond (ltb (length ws) (l .outputs .words)) false
+    (cond (ltb (length bs) (l .outputs .bytes)) false (isListed s (at + 2) (take (l .outputs .words) ws) (take (l .outputs .bytes) bs))))
     false)
     false)
 
-abbrev pub isReading : List ℕ → ℕ → parser.Output → Bool
-isReading s at o = isRead s at (o .answer) (o .sheet) (o .labels)
+abbrev pub isReading : List ℕ → ℕ → Outcome ReadLengths Outputs → Bool
+isReading s at o = isRead s at (o .answer) (o .memory .sheet) (o .memory .labels)
 
 -- a text, then the outcome of reading it
 unfoldable pub parseCase : List ℕ → Bool
 parseCase s =
     cond (areBytes 4096 (listAt s 0))
-    (isReading s (behind s 0) (parsed words bytes (roomFirst words bytes (parseAnswer (listAt s 0)))))
+    (isReading s (behind s 0) (parsed words bytes (parseAnswer (listAt s 0) words bytes)))
     false

@@ -15,24 +15,24 @@ use Rattle.sheets.specs.Fault.{fault}
 use Rattle.sheets.specs.Sheet.{read}
 use Rattle.replay_all.specs.Parts.{behind}
 
--- the list has low and high of the span, or nothing
+-- the list has first and last of the span, or nothing
 abbrev pub isEnds : List ℕ → Option Span → Bool
 isEnds l none = eqb (length l) 0
-isEnds l (some s) = cond (eqb (length l) 2) (cond (eqb (getD l 0 0) (s .low)) (eqb (getD l 1 0) (s .high)) false) false
+isEnds l (some s) = cond (eqb (length l) 2) (cond (eqb (getD l 0 0) (s .first)) (eqb (getD l 1 0) (s .last)) false) false
 
--- behind the first word low and high of two ranges, then those of their common symbols as a list
+-- behind the first word first and last of two ranges, then those of their common symbols as a list
 unfoldable pub commonCase : List ℕ → Bool
 commonCase s =
     cond (ltb (length s) 5) false
     (cond (eqb (behind s 5) (length s))
-    (isEnds (listAt s 5) (intersectRanges (record { low = getD s 1 0; high = getD s 2 0 }) (record { low = getD s 3 0; high = getD s 4 0 })))
+    (isEnds (listAt s 5) (intersectRanges (record { first = getD s 1 0; last = getD s 2 0 }) (record { first = getD s 3 0; last = getD s 4 0 })))
     false)
 
--- the words of the records of ranges from state 0, given by low and high in turn, to the states from `to` on
+-- the words of the records of ranges from state 0, given by first and last in turn, to the states from `to` on
 unfoldable pub records : ℕ → List ℕ → List ℕ
 records to [] = []
-records to (low ∷ []) = []
-records to (low ∷ high ∷ rest) = 0 ∷ 1 ∷ low ∷ high ∷ to ∷ records (suc to) rest
+records to (first ∷ []) = []
+records to (first ∷ last ∷ rest) = 0 ∷ 1 ∷ first ∷ last ∷ to ∷ records (suc to) rest
 
 -- a sheet of 64 states with these ranges, if there are at most 64
 unfoldable pub rangeSheet : List ℕ → List ℕ
@@ -43,7 +43,7 @@ abbrev pub isBit : ℕ → Bool → Bool
 isBit x true = eqb x 1
 isBit x false = eqb x 0
 
--- the list has low and high of the spans, of which there are at most 2,049
+-- the list has first and last of the spans, of which there are at most 2,049
 unfoldable pub areSpans : List ℕ → List Span → Bool
 areSpans l hs = cond (ltb 2049 (length hs)) false (sameLabel l (spanWords hs))
 

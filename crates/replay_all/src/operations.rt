@@ -4,7 +4,7 @@ use output::Made;
 use parser::Parsed;
 ghost use mathlib.Core.Path.{_≡_};
 ghost use Rattle.output.specs.Made.{outputOf};
-ghost use Rattle.output.specs.Output.{outputs, roomFirst};
+ghost use Rattle.output.specs.Output.{outputs};
 ghost use Rattle.parser.specs.Parsed.{parsedOf};
 ghost use Rattle.replay_all.specs.Outcomes.{isListed, isBuilt, isOutcome, determinizeCase, productCase, operation, operationCase, isReading, parseCase};
 ghost use Rattle.replay_all.specs.declared.operations.Operation.the-variants.{Totalize, Complement, EpsilonEliminate};
@@ -96,7 +96,7 @@ enum Operation {
 }
 
 fn made_by(o: Operation, sheet: &[u32], labels: &[u8], out: &mut [u32], names: &mut [u8]) -> Made
-    ensures { λ r. ⌜ outputOf r (now (out .exit)) (now (names .exit)) ≡ outputs (now (out .entry)) (now (names .entry)) (roomFirst (now (out .entry)) (now (names .entry)) (operation o (now (sheet .entry)) (now (labels .entry)))) ⌝ }
+    ensures { λ r. ⌜ outputOf r (now (out .exit)) (now (names .exit)) ≡ outputs (now (out .entry)) (now (names .entry)) (operation o (now (sheet .entry)) (now (labels .entry)) (now (out .entry)) (now (names .entry))) ⌝ }
 {
     match o {
         Operation::Totalize => totality::totalize(sheet, labels, out, names),

@@ -24,7 +24,7 @@ pub fn nfa(case: &[u32]) -> bool
     ensures { λ r. ⌜ r ≡ nfaCase (now (case .entry)) ⌝ }
 {
     let sheet = replay::list(case, 0);
-    answered(case, 1 + sheet.len(), totality::is_nfa(sheet))
+    answered(case, 1 + sheet.len(), nondeterminism::is_nfa(sheet))
 }
 
 // The sheet, then whether a state that accepts is reached.

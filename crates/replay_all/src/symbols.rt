@@ -6,7 +6,7 @@ ghost use Prim.Native.Nat.{_+_, _*_, _≤_};
 ghost use lib.ListN.{length};
 ghost use Rattle.automata.specs.Automaton.{leaving, rangesOf};
 ghost use Rattle.automata.specs.Records.{readRecords};
-ghost use Rattle.lists.specs.Written.{Written};
+ghost use Rattle.stores.specs.Written.{Written};
 ghost use Rattle.ranges.specs.Missing.{missing, SortedRanges};
 ghost use Rattle.ranges.specs.Span.{spanOf};
 ghost use Rattle.sheets.specs.inner.Accepted.{Accepted};
@@ -26,7 +26,7 @@ pub fn ranges_of(case: &[u32]) -> bool
     common(case)
 }
 
-// Whether the list has low and high of the common symbols of two ranges, or nothing.
+// Whether the list has first and last of the common symbols of two ranges, or nothing.
 fn is_ends(expected: &[u32], found: Common) -> bool
     ensures { λ r. ⌜ r ≡ isEnds (now (expected .entry)) (spanOf found) ⌝ }
 {
@@ -87,8 +87,8 @@ fn put_sheet(pairs: &[u32], sheet: &mut [u32]) -> usize
     }
     let none = [0u32; 64];
     let accepts = output::put_start(sheet, 0, 64);
-    let count = output::put_words(sheet, accepts, &none);
-    let first = output::put_word(sheet, count, (pairs.len() / 2) as u32);
+    let count = stores::put_words(sheet, accepts, &none);
+    let first = stores::put_word(sheet, count, (pairs.len() / 2) as u32);
     put_ranges(pairs, sheet, first)
 }
 

@@ -1,2 +1,3 @@
 -- The replies of the C functions.
 pub mod Reply
+pub mod Calls

@@ -1,88 +1,71 @@
--- The replies of the C functions. Of a function with one answer: the refusal's number and what was lent for the answer unchanged, or 0 and the answer.
+-- The replies of the C functions: what each kind of function has for cells and memory, and its reply to an answer. After a refusal cells and memory
+-- are unchanged.
 use Prim.Native.Nat.{ℕ}
 use mathlib.Core.Bool.{Bool, true, false}
 use mathlib.Core.List.{List}
-use mathlib.Core.Path.{_≡_}
 use Rattle.equality.specs.declared.Verdict.{Verdict}
 use Rattle.equality.specs.declared.Verdict.the-variants.{Same, Different, Refused}
-use Rattle.equality.specs.Equality.{Judged}
-use Rattle.equality.specs.Forced.{Two}
-use Rattle.output.specs.Output.{Lengths, Output}
-use Rattle.parser.specs.Parsed
-use Rattle.refusal.specs.Number.{numberOf}
+use Rattle.output.specs.Output.{Pattern, Lengths, Outputs, outputs}
+use Rattle.parser.specs.Parsed.{ReadLengths, parsed}
+use Rattle.parser.specs.Pattern.{Reading}
 use Rattle.refusal.specs.Answer.{Answer, refused, given}
+use Rattle.refusal.specs.Number.{numberOf}
+use Rattle.refusal.specs.Outcome.{Outcome, outcome}
+use Rattle.refusal.specs.Reply.{Reply, reply}
 
-pub record Reply : Type 0 where
-  pub code : ℕ
-  pub answer : ℕ
+-- of a function that answers one number: its cell, and no memory
+abbrev pub numberReply : ℕ → ℕ → Reply ℕ (Unit {0})
+numberReply code answer = record { code = code; cells = answer; memory = tt }
 
-abbrev pub replied : ℕ → ℕ → Reply
-replied code answer = record { code = code; answer = answer }
+abbrev pub nothingStored : {P : Type 0} → Unit {0} → P → Unit {0}
+nothingStored m p = m
 
-abbrev pub reply : ℕ → Answer ℕ → Reply
-reply old (refused n) = replied n old
-reply old (given k) = replied 0 k
+-- old is what the cell held
+abbrev pub replyToNumber : ℕ → Answer ℕ → Reply ℕ (Unit {0})
+replyToNumber old a = reply old (outcome (λ k. k) nothingStored tt a)
 
 -- a yes is 1, a no 0
-abbrev pub replyBit : ℕ → Answer Bool → Reply
-replyBit old (refused n) = replied n old
-replyBit old (given true) = replied 0 1
-replyBit old (given false) = replied 0 0
+abbrev pub bit : Bool → ℕ
+bit true = 1
+bit false = 0
 
--- the reply of a function with two outputs: the lengths too are unchanged after a refusal
-pub record Built : Type 0 where
-  pub code : ℕ
-  pub words : ℕ
-  pub bytes : ℕ
-  pub sheet : List ℕ
-  pub labels : List ℕ
+abbrev pub replyToBool : ℕ → Answer Bool → Reply ℕ (Unit {0})
+replyToBool old a = reply old (outcome bit nothingStored tt a)
 
-abbrev pub built : ℕ → ℕ → ℕ → List ℕ → List ℕ → Built
-built code words bytes sheet labels = record { code = code; words = words; bytes = bytes; sheet = sheet; labels = labels }
+-- of a function with two outputs: cells for their lengths
+abbrev pub outputsReply : ℕ → ℕ → ℕ → List ℕ → List ℕ → Reply Lengths Outputs
+outputsReply code words bytes o l = record { code = code; cells = record { words = words; bytes = bytes }; memory = record { sheet = o; labels = l } }
 
-abbrev pub builtWith : ℕ → ℕ → Answer Lengths → List ℕ → List ℕ → Built
-builtWith words bytes (refused n) o l = built n words bytes o l
-builtWith words bytes (given L) o l = built 0 (L .words) (L .bytes) o l
+-- for what was lent for the outputs and for their lengths
+abbrev pub replyToPattern : List ℕ → List ℕ → ℕ → ℕ → Answer Pattern → Reply Lengths Outputs
+replyToPattern o l words bytes a = reply (record { words = words; bytes = bytes }) (outputs o l a)
 
--- for what was lent for the lengths, and what is left in the outputs
-abbrev pub buildReply : ℕ → ℕ → Output → Built
-buildReply words bytes r = builtWith words bytes (r .answer) (r .sheet) (r .labels)
+-- of the pattern reader: a cell for the number of bytes read too
+abbrev pub readCells : ℕ → ℕ → ℕ → ReadLengths
+readCells n words bytes = record { read = n; outputs = record { words = words; bytes = bytes } }
 
--- the reply of the pattern reader, with the number of bytes read
-pub record Read : Type 0 where
-  pub code : ℕ
-  pub read : ℕ
-  pub words : ℕ
-  pub bytes : ℕ
-  pub sheet : List ℕ
-  pub labels : List ℕ
+abbrev pub readingReply : ℕ → ℕ → ℕ → ℕ → List ℕ → List ℕ → Reply ReadLengths Outputs
+readingReply code n words bytes o l = record { code = code; cells = readCells n words bytes; memory = record { sheet = o; labels = l } }
 
-abbrev pub read : ℕ → ℕ → ℕ → ℕ → List ℕ → List ℕ → Read
-read code n words bytes sheet labels = record { code = code; read = n; words = words; bytes = bytes; sheet = sheet; labels = labels }
+abbrev pub replyToReading : List ℕ → List ℕ → ℕ → ℕ → ℕ → Answer Reading → Reply ReadLengths Outputs
+replyToReading o l n words bytes a = reply (readCells n words bytes) (parsed o l a)
 
-abbrev pub readWith : ℕ → ℕ → ℕ → Answer Parsed.Lengths → List ℕ → List ℕ → Read
-readWith old words bytes (refused n) o l = read n old words bytes o l
-readWith old words bytes (given L) o l = read 0 (L .read) (L .words) (L .bytes) o l
-
-abbrev pub readReply : ℕ → ℕ → ℕ → Parsed.Output → Read
-readReply old words bytes r = readWith old words bytes (r .answer) (r .sheet) (r .labels)
-
--- the reply of exact equality: 1 and the joins, or 0 and the length of the difference word
-pub record VerdictReply : Type 0 where
-  pub code : ℕ
+-- of exact equality: 1 and the joins, or 0 and the length of the difference word
+pub record VerdictCells : Type 0 where
   pub same : ℕ
   pub number : ℕ
 
-abbrev pub told : ℕ → ℕ → ℕ → VerdictReply
-told code same number = record { code = code; same = same; number = number }
+abbrev pub verdictCells : ℕ → ℕ → VerdictCells
+verdictCells same number = record { same = same; number = number }
 
-abbrev pub tellVerdict : ℕ → ℕ → Verdict → VerdictReply
-tellVerdict same number (Same joins) = told 0 1 joins
-tellVerdict same number (Different n) = told 0 0 n
-tellVerdict same number (Refused r) = told (numberOf r) same number
+abbrev pub verdictReply : ℕ → ℕ → ℕ → List ℕ → Reply VerdictCells (List ℕ)
+verdictReply code same number word = record { code = code; cells = verdictCells same number; memory = word }
 
--- the reply tells a verdict of which all holds that exact equality promises; o is the lent word before, o′ after
-pub record Told (t : Answer Two) (o o′ : List ℕ) (same number : ℕ) (r : VerdictReply) : Type 0 where
-  pub verdict : Verdict
-  pub judged : Judged t o o′ verdict
-  pub is : r ≡ tellVerdict same number verdict
+-- the outcome of a verdict, where o is the word afterwards
+abbrev pub verdictOf : Verdict → List ℕ → Outcome VerdictCells (List ℕ)
+verdictOf (Same joins) o = record { answer = given (verdictCells 1 joins); memory = o }
+verdictOf (Different n) o = record { answer = given (verdictCells 0 n); memory = o }
+verdictOf (Refused r) o = record { answer = refused (numberOf r); memory = o }
+
+abbrev pub replyToVerdict : ℕ → ℕ → Verdict → List ℕ → Reply VerdictCells (List ℕ)
+replyToVerdict same number v o = reply (verdictCells same number) (verdictOf v o)

@@ -3,22 +3,14 @@
 ghost use mathlib.Core.Path.{_≡_};
 ghost use mathlib.Core.List.{List};
 ghost use Prim.Native.Nat.{ℕ};
-ghost use Rattle.automata.specs.WellFormed.{lastSymbol};
-ghost use Rattle.determinize.specs.Sheets.{determinizeAnswer};
-ghost use Rattle.emptiness.specs.Reachable.{reachableAnswer};
-ghost use Rattle.epsilon.specs.Eliminate.{eliminateAnswer};
-ghost use Rattle.equality.specs.Equality.{equalityAnswer};
-ghost use Rattle.equivalence.specs.Equivalent.{equivalentAnswer};
 ghost use Rattle.output.specs.Made.{outputOf};
-ghost use Rattle.output.specs.Output.{outputs, roomFirst};
-ghost use Rattle.parser.specs.Parsed.{parsed, parsedOf};
-ghost use Rattle.parser.specs.Pattern.{parseAnswer};
-ghost use Rattle.product.specs.Product.{intersectionAnswer};
+ghost use Rattle.parser.specs.Parsed.{parsedOf};
 ghost use Rattle.refusal.specs.Decision.{decisionOf};
-ghost use Rattle.ringmatch.specs.Reply.{reply, replyBit, replied, built, buildReply, read, readReply, told, tellVerdict, Told};
-ghost use Rattle.subautomaton.specs.Answer.{subautomatonAnswer};
-ghost use Rattle.totality.specs.Answers.{isNfaAnswer, totalizeAnswer, complementAnswer};
-ghost use Rattle.words.specs.Acceptance.{acceptsWordsAnswer, acceptsTextAnswer, acceptanceOf};
+ghost use Rattle.refusal.specs.Reply.{reply};
+ghost use Rattle.ringmatch.specs.Calls.{acceptsWordsReply, acceptsTextReply, isNfaReply, reachableReply, equivalentReply, subautomatonReply};
+ghost use Rattle.ringmatch.specs.Calls.{determinizeReply, totalizeReply, complementReply, eliminateReply, intersectionReply, parseReply, EqualityReply};
+ghost use Rattle.ringmatch.specs.Reply.{numberReply, replyToNumber, replyToBool, outputsReply, readCells, readingReply, verdictReply, replyToVerdict};
+ghost use Rattle.words.specs.Acceptance.{acceptanceOf};
 use equality::Verdict;
 use output::Made;
 use parser::Parsed;
@@ -27,7 +19,7 @@ use words::Acceptance;
 
 // The number of an acceptance's refusal, or 0 with the answer stored.
 fn reply_acceptance(r: Acceptance, answer: &mut u32) -> u32
-    ensures { λ code. ⌜ replied code (now (answer .exit)) ≡ reply (now (answer .entry)) (acceptanceOf r) ⌝ }
+    ensures { λ code. ⌜ numberReply code (now (answer .exit)) ≡ replyToNumber (now (answer .entry)) (acceptanceOf r) ⌝ }
 {
     match r {
         Acceptance::Kind(k) => {
@@ -40,7 +32,7 @@ fn reply_acceptance(r: Acceptance, answer: &mut u32) -> u32
 
 // The number of an operation's refusal, or 0 with the lengths of its outputs stored.
 fn reply_made(r: Made, words: &mut u64, bytes: &mut u64) -> u32
-    ensures { λ code. ⌜ ((o l : List ℕ) → built code (now (words .exit)) (now (bytes .exit)) o l ≡ buildReply (now (words .entry)) (now (bytes .entry)) (outputOf r o l)) ⌝ }
+    ensures { λ code. ⌜ ((o l : List ℕ) → outputsReply code (now (words .exit)) (now (bytes .exit)) o l ≡ reply (record { words = now (words .entry); bytes = now (bytes .entry) }) (outputOf r o l)) ⌝ }
 {
     match r {
         Made::Lengths(w, b) => {
@@ -54,7 +46,7 @@ fn reply_made(r: Made, words: &mut u64, bytes: &mut u64) -> u32
 
 // The number of the refusal, or 0 with the answer stored: 1 for true, 0 for false.
 fn reply_decision(r: Decision, answer: &mut u32) -> u32
-    ensures { λ code. ⌜ replied code (now (answer .exit)) ≡ replyBit (now (answer .entry)) (decisionOf r) ⌝ }
+    ensures { λ code. ⌜ numberReply code (now (answer .exit)) ≡ replyToBool (now (answer .entry)) (decisionOf r) ⌝ }
 {
     match r {
         Decision::Is(b) => {
@@ -71,7 +63,7 @@ fn reply_decision(r: Decision, answer: &mut u32) -> u32
 
 // The number of the refusal of a text, or 0 with the bytes read and the lengths of the outputs stored.
 fn reply_parsed(r: Parsed, bytes_read: &mut u64, words: &mut u64, bytes: &mut u64) -> u32
-    ensures { λ code. ⌜ ((o l : List ℕ) → read code (now («bytes_read» .exit)) (now (words .exit)) (now (bytes .exit)) o l ≡ readReply (now («bytes_read» .entry)) (now (words .entry)) (now (bytes .entry)) (parsedOf r o l)) ⌝ }
+    ensures { λ code. ⌜ ((o l : List ℕ) → readingReply code (now («bytes_read» .exit)) (now (words .exit)) (now (bytes .exit)) o l ≡ reply (readCells (now («bytes_read» .entry)) (now (words .entry)) (now (bytes .entry))) (parsedOf r o l)) ⌝ }
 {
     match r {
         Parsed::Read(n, w, b) => {
@@ -87,7 +79,7 @@ fn reply_parsed(r: Parsed, bytes_read: &mut u64, words: &mut u64, bytes: &mut u6
 // The number of a verdict's refusal, or 0 with the verdict stored: same is 1 and number the joins, or same is 0 and number the
 // length of the difference word.
 fn reply_verdict(r: Verdict, same: &mut u32, number: &mut u64) -> u32
-    ensures { λ code. ⌜ told code (now (same .exit)) (now (number .exit)) ≡ tellVerdict (now (same .entry)) (now (number .entry)) r ⌝ }
+    ensures { λ code. ⌜ ((o : List ℕ) → verdictReply code (now (same .exit)) (now (number .exit)) o ≡ replyToVerdict (now (same .entry)) (now (number .entry)) r o) ⌝ }
 {
     match r {
         Verdict::Same(joins) => {
@@ -107,7 +99,7 @@ fn reply_verdict(r: Verdict, same: &mut u32, number: &mut u64) -> u32
 // Whether a sheet accepts a word of u32 symbols: answer is 1 if so, else 0. Refusals: 1 to 6.
 #[no_mangle]
 pub extern "C" fn ringmatch_accepts_words(sheet: &[u32], word: &[u32], answer: &mut u32) -> u32
-    ensures { λ code. ⌜ replied code (now (answer .exit)) ≡ reply (now (answer .entry)) (acceptsWordsAnswer (now (sheet .entry)) (now (word .entry))) ⌝ }
+    ensures { λ code. ⌜ numberReply code (now (answer .exit)) ≡ acceptsWordsReply (now (sheet .entry)) (now (word .entry)) (now (answer .entry)) ⌝ }
 {
     reply_acceptance(words::accepts_words(sheet, word), answer)
 }
@@ -115,7 +107,7 @@ pub extern "C" fn ringmatch_accepts_words(sheet: &[u32], word: &[u32], answer: &
 // Whether a sheet accepts a text in UTF-8, as the word of its code points: answer is 1 if so, else 0. Refusals: 1 to 6, then 9.
 #[no_mangle]
 pub extern "C" fn ringmatch_accepts_text(sheet: &[u32], text: &[u8], answer: &mut u32) -> u32
-    ensures { λ code. ⌜ replied code (now (answer .exit)) ≡ reply (now (answer .entry)) (acceptsTextAnswer (now (sheet .entry)) (now (text .entry))) ⌝ }
+    ensures { λ code. ⌜ numberReply code (now (answer .exit)) ≡ acceptsTextReply (now (sheet .entry)) (now (text .entry)) (now (answer .entry)) ⌝ }
 {
     reply_acceptance(words::accepts_text(sheet, text), answer)
 }
@@ -130,7 +122,7 @@ pub extern "C" fn ringmatch_determinize(
     words: &mut u64,
     bytes: &mut u64,
 ) -> u32
-    ensures { λ code. ⌜ built code (now (words .exit)) (now (bytes .exit)) (now (out .exit)) (now (names .exit)) ≡ buildReply (now (words .entry)) (now (bytes .entry)) (outputs (now (out .entry)) (now (names .entry)) (determinizeAnswer (now (sheet .entry)) (now (out .entry)) (now (names .entry)))) ⌝ }
+    ensures { λ code. ⌜ outputsReply code (now (words .exit)) (now (bytes .exit)) (now (out .exit)) (now (names .exit)) ≡ determinizeReply (now (sheet .entry)) (now (out .entry)) (now (names .entry)) (now (words .entry)) (now (bytes .entry)) ⌝ }
 {
     reply_made(determinize::determinize(sheet, out, names), words, bytes)
 }
@@ -146,7 +138,7 @@ pub extern "C" fn ringmatch_totalize(
     words: &mut u64,
     bytes: &mut u64,
 ) -> u32
-    ensures { λ code. ⌜ built code (now (words .exit)) (now (bytes .exit)) (now (out .exit)) (now (names .exit)) ≡ buildReply (now (words .entry)) (now (bytes .entry)) (outputs (now (out .entry)) (now (names .entry)) (roomFirst (now (out .entry)) (now (names .entry)) (totalizeAnswer 0 4294967295 (now (sheet .entry)) (now (labels .entry))))) ⌝ }
+    ensures { λ code. ⌜ outputsReply code (now (words .exit)) (now (bytes .exit)) (now (out .exit)) (now (names .exit)) ≡ totalizeReply (now (sheet .entry)) (now (labels .entry)) (now (out .entry)) (now (names .entry)) (now (words .entry)) (now (bytes .entry)) ⌝ }
 {
     reply_made(totality::totalize(sheet, labels, out, names), words, bytes)
 }
@@ -162,7 +154,7 @@ pub extern "C" fn ringmatch_complement(
     words: &mut u64,
     bytes: &mut u64,
 ) -> u32
-    ensures { λ code. ⌜ built code (now (words .exit)) (now (bytes .exit)) (now (out .exit)) (now (names .exit)) ≡ buildReply (now (words .entry)) (now (bytes .entry)) (outputs (now (out .entry)) (now (names .entry)) (roomFirst (now (out .entry)) (now (names .entry)) (complementAnswer 0 4294967295 (now (sheet .entry)) (now (labels .entry))))) ⌝ }
+    ensures { λ code. ⌜ outputsReply code (now (words .exit)) (now (bytes .exit)) (now (out .exit)) (now (names .exit)) ≡ complementReply (now (sheet .entry)) (now (labels .entry)) (now (out .entry)) (now (names .entry)) (now (words .entry)) (now (bytes .entry)) ⌝ }
 {
     reply_made(
         totality::complement(sheet, labels, out, names),
@@ -181,7 +173,7 @@ pub extern "C" fn ringmatch_epsilon_eliminate(
     words: &mut u64,
     bytes: &mut u64,
 ) -> u32
-    ensures { λ code. ⌜ built code (now (words .exit)) (now (bytes .exit)) (now (out .exit)) (now (names .exit)) ≡ buildReply (now (words .entry)) (now (bytes .entry)) (outputs (now (out .entry)) (now (names .entry)) (roomFirst (now (out .entry)) (now (names .entry)) (eliminateAnswer (now (sheet .entry)) (now (labels .entry))))) ⌝ }
+    ensures { λ code. ⌜ outputsReply code (now (words .exit)) (now (bytes .exit)) (now (out .exit)) (now (names .exit)) ≡ eliminateReply (now (sheet .entry)) (now (labels .entry)) (now (out .entry)) (now (names .entry)) (now (words .entry)) (now (bytes .entry)) ⌝ }
 {
     reply_made(
         epsilon::epsilon_eliminate(sheet, labels, out, names),
@@ -193,15 +185,15 @@ pub extern "C" fn ringmatch_epsilon_eliminate(
 // Whether a sheet has an epsilon, an overlap or a hole: answer is 1 if so, else 0. Refusals: 1 to 6.
 #[no_mangle]
 pub extern "C" fn ringmatch_is_nfa(sheet: &[u32], answer: &mut u32) -> u32
-    ensures { λ code. ⌜ replied code (now (answer .exit)) ≡ replyBit (now (answer .entry)) (isNfaAnswer 0 4294967295 (now (sheet .entry))) ⌝ }
+    ensures { λ code. ⌜ numberReply code (now (answer .exit)) ≡ isNfaReply (now (sheet .entry)) (now (answer .entry)) ⌝ }
 {
-    reply_decision(totality::is_nfa(sheet), answer)
+    reply_decision(nondeterminism::is_nfa(sheet), answer)
 }
 
 // Whether a state that accepts is reached from the start: answer is 1 if so, else 0, and then no word is accepted. Refusals: 1 to 6.
 #[no_mangle]
 pub extern "C" fn ringmatch_has_reachable_accepting_state(sheet: &[u32], answer: &mut u32) -> u32
-    ensures { λ code. ⌜ replied code (now (answer .exit)) ≡ replyBit (now (answer .entry)) (reachableAnswer (now (sheet .entry))) ⌝ }
+    ensures { λ code. ⌜ numberReply code (now (answer .exit)) ≡ reachableReply (now (sheet .entry)) (now (answer .entry)) ⌝ }
 {
     reply_decision(emptiness::has_reachable_accepting_state(sheet), answer)
 }
@@ -210,7 +202,7 @@ pub extern "C" fn ringmatch_has_reachable_accepting_state(sheet: &[u32], answer:
 // so, else 0. Without epsilons or overlaps 1 implies equal words. Refusals: 1 to 6 of a, then of b.
 #[no_mangle]
 pub extern "C" fn ringmatch_is_equivalent(a: &[u32], b: &[u32], answer: &mut u32) -> u32
-    ensures { λ code. ⌜ replied code (now (answer .exit)) ≡ replyBit (now (answer .entry)) (equivalentAnswer (now (a .entry)) (now (b .entry))) ⌝ }
+    ensures { λ code. ⌜ numberReply code (now (answer .exit)) ≡ equivalentReply (now (a .entry)) (now (b .entry)) (now (answer .entry)) ⌝ }
 {
     reply_decision(equivalence::is_equivalent(a, b), answer)
 }
@@ -225,7 +217,7 @@ pub extern "C" fn ringmatch_is_subautomaton(
     b_labels: &[u8],
     answer: &mut u32,
 ) -> u32
-    ensures { λ code. ⌜ replied code (now (answer .exit)) ≡ replyBit (now (answer .entry)) (subautomatonAnswer (now (a .entry)) (now («a_labels» .entry)) (now (b .entry)) (now («b_labels» .entry))) ⌝ }
+    ensures { λ code. ⌜ numberReply code (now (answer .exit)) ≡ subautomatonReply (now (a .entry)) (now («a_labels» .entry)) (now (b .entry)) (now («b_labels» .entry)) (now (answer .entry)) ⌝ }
 {
     reply_decision(
         subautomaton::is_subautomaton(a, a_labels, b, b_labels),
@@ -243,7 +235,7 @@ pub extern "C" fn ringmatch_intersection(
     words: &mut u64,
     bytes: &mut u64,
 ) -> u32
-    ensures { λ code. ⌜ built code (now (words .exit)) (now (bytes .exit)) (now (out .exit)) (now (names .exit)) ≡ buildReply (now (words .entry)) (now (bytes .entry)) (outputs (now (out .entry)) (now (names .entry)) (roomFirst (now (out .entry)) (now (names .entry)) (intersectionAnswer (now (a .entry)) (now (b .entry))))) ⌝ }
+    ensures { λ code. ⌜ outputsReply code (now (words .exit)) (now (bytes .exit)) (now (out .exit)) (now (names .exit)) ≡ intersectionReply (now (a .entry)) (now (b .entry)) (now (out .entry)) (now (names .entry)) (now (words .entry)) (now (bytes .entry)) ⌝ }
 {
     reply_made(product::intersection(a, b, out, names), words, bytes)
 }
@@ -259,7 +251,7 @@ pub extern "C" fn ringmatch_parse_automaton(
     words: &mut u64,
     bytes: &mut u64,
 ) -> u32
-    ensures { λ code. ⌜ read code (now («bytes_read» .exit)) (now (words .exit)) (now (bytes .exit)) (now (out .exit)) (now (names .exit)) ≡ readReply (now («bytes_read» .entry)) (now (words .entry)) (now (bytes .entry)) (parsed (now (out .entry)) (now (names .entry)) (roomFirst (now (out .entry)) (now (names .entry)) (parseAnswer (now (text .entry))))) ⌝ }
+    ensures { λ code. ⌜ readingReply code (now («bytes_read» .exit)) (now (words .exit)) (now (bytes .exit)) (now (out .exit)) (now (names .exit)) ≡ parseReply (now (text .entry)) (now (out .entry)) (now (names .entry)) (now («bytes_read» .entry)) (now (words .entry)) (now (bytes .entry)) ⌝ }
 {
     reply_parsed(
         parser::parse_automaton(text, out, names),
@@ -280,7 +272,7 @@ pub extern "C" fn ringmatch_equality(
     same: &mut u32,
     number: &mut u64,
 ) -> u32
-    ensures { λ code. ⌜ Told (equalityAnswer 0 lastSymbol (now (a .entry)) (now (b .entry)) (now (word .entry))) (now (word .entry)) (now (word .exit)) (now (same .entry)) (now (number .entry)) (told code (now (same .exit)) (now (number .exit))) ⌝ }
+    ensures { λ code. ⌜ EqualityReply (now (a .entry)) (now (b .entry)) (now (word .entry)) (now (same .entry)) (now (number .entry)) (verdictReply code (now (same .exit)) (now (number .exit)) (now (word .exit))) ⌝ }
 {
     reply_verdict(equality::equality(a, b, word), same, number)
 }

@@ -11,10 +11,11 @@ use Rattle.lists.specs.Lists.{filter}
 use Rattle.lists.proofs.Tests.{test}
 use Rattle.automata.specs.Automaton.{Word, none, more, carries, holds}
 use Rattle.automata.specs.WellFormed.{lastSymbol}
-use Rattle.equality.specs.Forced.{Two}
 use Rattle.automata.specs.Successors.{successor, stateAfter, acceptAfter}
+use Rattle.automata.proofs.SameWords.{not-same}
+use Rattle.determinizations.specs.Two.{Two}
+use Rattle.determinizations.proofs.Theorems.{one-word}
 use Rattle.equality.specs.Verdict.{Equal, Apart}
-use Rattle.equality.proofs.Exact.{one-word, not-same}
 use Rattle.refusal.specs.Answer.{Answer, given}
 use Rattle.sheets.specs.Sheet.{read}
 use Rattle.verdict_line.specs.Line.{VerdictLine, same, differs, sameLine, differLine}
@@ -31,7 +32,7 @@ equal-4 = record { words = agree; number = 3; counted = three; joined = refl }
         ⊎-elim (λ (t : eqb (acceptAfter DA w) (acceptAfter DB w) ≡ true). eqb-true _ _ t)
         (λ (t : eqb (acceptAfter DA w) (acceptAfter DB w) ≡ false).
         let one = one-word 0 lastSymbol (read A) (read B) well-a well-b DA DB (determinized .0) (determinized .1) w v (eqb-false _ _ t) in
-        absurd (not-same 0 lastSymbol (read A) (read B) well-a well-b DA DB (determinized .0) (determinized .1) w one v same-ab))
+        absurd (not-same 0 lastSymbol (read A) (read B) w one v same-ab))
         (test (eqb (acceptAfter DA w) (acceptAfter DB w)))
 
 abbrev others : Two

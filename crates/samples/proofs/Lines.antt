@@ -1,24 +1,22 @@
 -- The program `verdict` on the texts of A, B and C: its contract allows the line of document 01 and no other.
 use Prim.Native.Nat.{ℕ}
 use mathlib.Core.List.{List, [], _∷_, _++_, flatMap}
-use mathlib.Core.Path.{_≡_, _∙_, ap, subst}
+use mathlib.Core.Path.{_≡_, ap, subst}
 use native.Mathlib.Omega.{arith}
 use Rattle.lists.specs.Lists.{any}
-use Rattle.automata.specs.Automaton.{Automaton}
 use Rattle.automata.specs.Ordered.{insert, inOrder}
 use Rattle.automata.specs.Records.{readRecords}
 use Rattle.automata.specs.WellFormed.{WellFormed, lastSymbol}
-use Rattle.decimal.specs.Decimal.{valueAfter}
-use Rattle.determinize.specs.Determinize.{determinize}
-use Rattle.equality.specs.Equality.{withSecond, withFirst, determinized as both-determinized}
-use Rattle.equality.specs.Forced.{Two}
+use Rattle.automata.proofs.SameWords.{not-same}
+use Rattle.decimal.specs.Decimal.{isDigit, valueAfter}
+use Rattle.determinizations.specs.Two.{Two}
+use Rattle.determinizations.proofs.Theorems.{determinized-both, same-words, one-word}
 use Rattle.equality.specs.Verdict.{Equal, Apart}
-use Rattle.equality.proofs.Exact.{same-words, one-word, not-same}
 use Rattle.equality.proofs.Theorems.{classes-number}
 use Rattle.labels.specs.Labels.{sameLabel}
-use Rattle.grammar.specs.Bytes.{isSpace, isLetter, isDigit, isNameByte}
+use Rattle.grammar.specs.Bytes.{isSpace, isLetter, isNameByte}
 use Rattle.grammar.specs.Grammar.{follow, run, space, neededSpace, begins, token, name, number, ends, range, target, transition, initial, nextName, many, transitions, nextNames, accepting, heading, ending, wholeText}
-use Rattle.parser.specs.Pattern.{namesOf, statesOf, acceptWord, automatonOf, patternOf, fewTransitions, meant, parseAnswer}
+use Rattle.parser.specs.Pattern.{namesOf, statesOf, acceptWord, automatonOf, patternOf, fewTransitions, meant, readingAnswer}
 use Rattle.syntax.specs.Examples.{text-a, text-b, text-c}
 use Rattle.syntax.specs.Spelled.{spell}
 use Rattle.refusal.specs.Answer.{Answer, given}
@@ -44,11 +42,11 @@ are-compared :
     × (verdictAnswer 0 lastSymbol (text-a ++ 32 ∷ text-c) ≡ given apart)
 unfolding follow isSpace isLetter isDigit isNameByte run space neededSpace begins token name valueAfter number ends range target transition initial
     nextName many transitions nextNames accepting heading ending wholeText spell sameLabel index add meet flatMap namesOf statesOf any acceptWord automatonOf
-    patternOf fewTransitions meant statesFirst transitionsFirst parseAnswer insert inOrder readRecords withSecond withFirst both-determinized twoTexts withSecondText withFirstText
+    patternOf fewTransitions meant statesFirst transitionsFirst readingAnswer insert inOrder readRecords twoTexts withSecondText withFirstText
     verdictAnswer
 are-compared = (
-  ap (λ (x : Answer Automaton). withFirst 0 lastSymbol x (determinize 0 lastSymbol (read B))) (determinized .0) ∙ ap (withSecond 0 lastSymbol DA) (determinized .1),
-  ap (λ (x : Answer Automaton). withFirst 0 lastSymbol x (determinize 0 lastSymbol (read C))) (determinized .0) ∙ ap (withSecond 0 lastSymbol DA) (determinized .2),
+  determinized-both 0 lastSymbol (read A) (read B) DA DB (determinized .0) (determinized .1),
+  determinized-both 0 lastSymbol (read A) (read C) DA DC (determinized .0) (determinized .2),
 )
 
 well-c : WellFormed (read C)
@@ -76,7 +74,7 @@ by-both x bytes e (differs t w h) =
     let z : t ≡ both = cc in
     let q = subst (λ (u : Two). Apart u w) z h in
     let one = one-word 0 lastSymbol (read A) (read B) well-a well-b DA DB (determinized .0) (determinized .1) w (q .word) (q .differ) in
-    absurd (not-same 0 lastSymbol (read A) (read B) well-a well-b DA DB (determinized .0) (determinized .1) w one (q .word) same-ab)
+    absurd (not-same 0 lastSymbol (read A) (read B) w one (q .word) same-ab)
 
 by-apart : (x : Answer Two) (bytes : List ℕ) → x ≡ given apart → VerdictLine x bytes → bytes ≡ differLine (9 ∷ [])
 by-apart x bytes e (refuses n) = absurd (let z : _≡_ {A = ℕ} 0 1 = cc in omega arith)

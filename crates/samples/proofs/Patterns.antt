@@ -6,7 +6,7 @@ use Rattle.automata.specs.Automaton.{Automaton, holds}
 use Rattle.automata.specs.Records.{readRecords}
 use Rattle.automata.specs.WellFormed.{lastSymbol}
 use Rattle.determinize.specs.Partition.{partOf, partition}
-use Rattle.determinize.specs.Determinize.{targets, someOf, subsets, table, setsAndSink, transitionOf, transitionsOf, transitionsFrom, subsetAutomaton, subsetsAnswer, determinize}
+use Rattle.determinize.specs.Determinize.{setTargets, nonemptyOf, subsets, setTable, setsAndSink, setTransition, setTransitions, setTransitionsFrom, subsetAutomaton, subsetsAnswer, determinize}
 use Rattle.output.specs.Output.{transitionsFirst}
 use Rattle.ranges.specs.Cuts.{nearer, nextCut, spans, cutAll}
 use Rattle.ranges.specs.Missing.{covered}
@@ -30,7 +30,7 @@ DC = record {
 }
 
 pub determinized : (determinize 0 lastSymbol (read A) ≡ given DA) × (determinize 0 lastSymbol (read B) ≡ given DB) × (determinize 0 lastSymbol (read C) ≡ given DC)
-unfolding any filter tabulate holds readRecords has pickFrom same index through closed isEpsilon epsilonRow closures closure outgoing step startSet least kindOf nearer nextCut spans cutAll covered partOf partition targets isEmpty someOf subsets Search.add Search.meet Search.explore Search.table table setsAndSink transitionOf transitionsOf transitionsFrom subsetAutomaton transitionsFirst subsetsAnswer determinize
+unfolding any filter tabulate holds readRecords has pickFrom same index through closed isEpsilon epsilonRow closures closure outgoing step startSet least kindOf nearer nextCut spans cutAll covered partOf partition setTargets isEmpty nonemptyOf subsets Search.add Search.meet Search.explore Search.table setTable setsAndSink setTransition setTransitions setTransitionsFrom subsetAutomaton transitionsFirst subsetsAnswer determinize
 determinized = (refl, refl, refl)
 
 pub no-fault : (fault A ≡ 0) × (fault B ≡ 0) × (fault C ≡ 0)

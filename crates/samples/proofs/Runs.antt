@@ -10,11 +10,12 @@ use Rattle.automata.specs.Automaton as runs
 use Rattle.automata.specs.Ordered.{inOrder, insert}
 use Rattle.automata.specs.Records.{readRecords}
 use Rattle.automata.specs.WellFormed.{lastSymbol}
-use Rattle.ranges.specs.Span.{startsBelow, overlapping}
+use Rattle.nondeterminism.specs.Nondeterminism.{holesOf, isNfaAt, isNfaIn, isNfa}
+use Rattle.ranges.specs.Span.{overlapsFrom, overlapping}
 use Rattle.ranges.specs.Cuts.{nearer, nextCut, spans, cutAll}
 use Rattle.ranges.specs.Missing.{covered, missing}
 use Rattle.sheets.specs.Sheet.{read}
-use Rattle.totality.specs.Totality.{holesOf, isNfaAt, isNfaIn, isNfa, filled, filledIn, totalized, flipped, complemented}
+use Rattle.totality.specs.Totality.{filled, filledIn, totalized, flipped, complemented}
 use Rattle.samples.specs.Samples.{range, A, O}
 use Rattle.samples.proofs.Single.{a-single}
 
@@ -34,5 +35,5 @@ overlap-accepts-5 = (1, runs.read (range 0 0 9 1) (List·Memᴰ·head refl) refl
 
 -- 0 leads to 2, which accepts in the complement
 pub complement-accepts-5 : Accepts (complemented 0 lastSymbol (read O)) (5 ∷ [])
-unfolding any filter tabulate flatMap map holds leaving rangesOf inOrder insert readRecords nearer nextCut spans cutAll covered missing startsBelow overlapping states holesOf hasEpsilon isNfaAt isNfaIn isNfa filled filledIn totalized flipped complemented
+unfolding any filter tabulate flatMap map holds leaving rangesOf inOrder insert readRecords nearer nextCut spans cutAll covered missing overlapsFrom overlapping states holesOf hasEpsilon isNfaAt isNfaIn isNfa filled filledIn totalized flipped complemented
 complement-accepts-5 = (2, runs.read (range 0 0 9 2) (List·Memᴰ·tail (List·Memᴰ·head refl)) refl refl (lit≤ tt) (lit≤ tt) stay, lit≤ tt)

@@ -11,12 +11,13 @@ use Rattle.automata.specs.Records.{readRecords}
 use Rattle.automata.specs.WellFormed.{lastSymbol}
 use Rattle.determinize.specs.Partition.{partOf, partition}
 use Rattle.determinize.specs.Determinize.{determinize}
-use Rattle.ranges.specs.Span.{intersectRanges, startsBelow, overlapping}
+use Rattle.determinizations.specs.Two.{totalSize}
+use Rattle.ranges.specs.Span.{intersectRanges, overlapsFrom, overlapping}
 use Rattle.ranges.specs.Cuts.{nearer, nextCut, spans, cutAll}
 use Rattle.ranges.specs.Missing.{covered, missing}
 use Rattle.dsu.specs.Classes.{Classes}
 use Rattle.equality.specs.Equality.{equalityAnswer, Judged}
-use Rattle.equality.specs.Forced.{Forced, totalSize}
+use Rattle.equality.specs.Forced.{Forced}
 use Rattle.equality.specs.declared.Verdict.{Verdict}
 use Rattle.equality.specs.declared.Verdict.the-variants.{Same, Different}
 use Rattle.refusal.specs.Answer.{given}
@@ -80,7 +81,7 @@ pub starred :
     -- the program `verdict` prints `same 4` for the texts of A and B with a blank between, and `differ 9` for those of A and C
     × ((bytes : List ℕ) → VerdictLine (verdictAnswer 0 lastSymbol (text-a ++ 32 ∷ text-b)) bytes → bytes ≡ sameLine 4)
     × ((bytes : List ℕ) → VerdictLine (verdictAnswer 0 lastSymbol (text-a ++ 32 ∷ text-c)) bytes → bytes ≡ differLine (9 ∷ []))
-unfolding any filter tabulate holds readRecords has pickFrom through closed isEpsilon epsilonRow closures closure outgoing step startSet simulate least kindOf kind nearer nextCut spans cutAll covered missing intersectRanges startsBelow overlapping partOf partition isBad recordFault recordsFault transitionsFault statesFault fault sheetFirst acceptsWordsAnswer
+unfolding any filter tabulate holds readRecords has pickFrom through closed isEpsilon epsilonRow closures closure outgoing step startSet simulate least kindOf kind nearer nextCut spans cutAll covered missing intersectRanges overlapsFrom overlapping partOf partition isBad recordFault recordsFault transitionsFault statesFault fault sheetFirst acceptsWordsAnswer
 starred = (
   refl,
   refl,

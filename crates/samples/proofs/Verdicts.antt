@@ -8,8 +8,9 @@ use lib.Dec.{lit≤}
 use lib.ListN.{length, take}
 use Rattle.automata.specs.Automaton.{none, more}
 use Rattle.automata.specs.WellFormed.{lastSymbol}
+use Rattle.automata.specs.SameWords.{SameWords, ExactlyOne}
 use Rattle.sheets.specs.Sheet.{read}
-use Rattle.equality.specs.Equality.{equalityAnswer, Judged, SameWords, ExactlyOne}
+use Rattle.equality.specs.Equality.{equalityAnswer, Judged}
 use Rattle.equality.specs.declared.Verdict.{Verdict}
 use Rattle.equality.specs.declared.Verdict.the-variants.{Same, Different}
 use Rattle.equality.proofs.Theorems.{classes-number, equality-exact}

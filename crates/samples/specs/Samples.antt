@@ -3,8 +3,8 @@ use Prim.Native.Nat.{ℕ}
 use mathlib.Core.List.{List, [], _∷_}
 use Rattle.automata.specs.Automaton.{Transition, Automaton}
 use Rattle.automata.specs.WellFormed.{lastSymbol}
-use Rattle.equality.specs.Forced.{Two}
 use Rattle.determinize.specs.Partition.{Part}
+use Rattle.determinizations.specs.Two.{Two}
 use Rattle.ranges.specs.Span.{Span}
 use Rattle.sets.specs.Sets.{Set}
 
@@ -49,7 +49,7 @@ both = record { one = DA; two = DB; lower = 0; upper = lastSymbol }
 
 -- a span of symbols, and a part with its targets
 abbrev pub span : ℕ → ℕ → Span
-span a b = record { low = a; high = b }
+span a b = record { first = a; last = b }
 
 abbrev pub part : ℕ → ℕ → Set → Part
-part a b S = record { low = a; high = b; targets = S }
+part a b S = record { first = a; last = b; targets = S }

@@ -1,5 +1,5 @@
 -- Tables grow at their end: adding an element, and meeting some one after the other.
-use Prim.Native.Nat.{ℕ, _≤_, _<_}
+use Prim.Native.Nat.{ℕ, _+_, _≤_, _<_}
 use mathlib.Core.Bool.{Bool, true, false, cond}
 use mathlib.Core.List.{List, [], _∷_, _++_, append-assoc, append-nil, List·Memᴰ·head, List·Memᴰ·tail, List·Memᴰ·cases-cons, List·Memᴰ·append-cases, List·Memᴰ·eq-of-singleton, Memᴰ·append-left, Memᴰ·append-right}
 use mathlib.Core.Logic.{_⊎_, inl, inr, ⊎-elim}
@@ -56,6 +56,15 @@ module _ {X : Type 0} (same : X → X → Bool) where
       go : (b : Bool) → Extends T (cond b T (T ++ x ∷ []))
       go true = extends-refl T
       go false = record { rest = x ∷ []; is = refl }
+
+  -- at most one more
+  pub add-length : (x : X) (T : List X) → length (add same x T) ≤ length T + 1
+  unfolding add
+  add-length x T = go (ltb (index same x T) (length T))
+    where
+      go : (b : Bool) → length (cond b T (T ++ x ∷ [])) ≤ length T + 1
+      go true = omega arith
+      go false = omega (arith, length-append T (x ∷ []))
 
   add-out : (y : X) (T : List X) (x : X) → x ∈ add same y T → (x ∈ T) ⊎ (x ≡ y)
   unfolding add

@@ -5,7 +5,7 @@ use mathlib.Core.List.{List, []}
 use mathlib.Core.Path.{_≡_, refl, sym, _∙_, ap}
 use native.Mathlib.Omega.{arith}
 use lib.ListN.{getD, length, replicate}
-use Rattle.lists.proofs.Lists.{tabulate-at, length-tabulate}
+use Rattle.lists.proofs.Lists.{tabulate-at, length-tabulate, blank-at}
 use Rattle.sets.specs.Sets.{has, pick}
 use Rattle.sets.specs.inner.Members.{Canon}
 use Rattle.sets.specs.inner.BitSet.{bit, inWords, setAt, entries}
@@ -57,14 +57,9 @@ unfolding inWords
 zeros-at t o h =
     bits-at t o (λ q. false) (λ q l. ap (λ w. bit w (q % 64)) (h (q / 64) (omega arith)) ∙ bit-nothing (q % 64)) ∙ pick-none 256 _ (λ q l. refl)
 
-zero-at : (n i : ℕ) → getD {A = ℕ} (replicate n 0) i 0 ≡ 0
-zero-at zero i = refl
-zero-at (suc n) zero = refl
-zero-at (suc n) (suc i) = zero-at n i
-
 -- a table as it is made
 pub fresh-at : (n o : ℕ) → setAt (replicate n 0) o ≡ []
-fresh-at n o = zeros-at (replicate n 0) o (λ i l. zero-at n (o + i))
+fresh-at n o = zeros-at (replicate n 0) o (λ i l. blank-at n (o + i))
 
 -- rows of a table
 pub entry-at : (t : List ℕ) (n j : ℕ) → j < n → getD (entries t n) j [] ≡ setAt t (4 * j)

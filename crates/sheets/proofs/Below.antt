@@ -3,7 +3,7 @@ use Prim.Native.Nat.{ℕ, zero, suc, _+_, _-_, _*_, _≤_, _<_}
 use mathlib.Core.Bool.{true, false, cond}
 use mathlib.Core.List.{List, [], _∷_, nil≢cons, head-eq-of-cons-eq}
 use mathlib.Core.Logic.{⊎-elim}
-use mathlib.Core.Path.{_≡_, refl, sym, ap, _∙_}
+use mathlib.Core.Path.{_≡_, sym, ap, _∙_}
 use native.Mathlib.Nat.{eq-or-lt-of-le}
 use native.Mathlib.Numerals.{add-one}
 use native.Mathlib.Omega.{arith}
@@ -13,23 +13,20 @@ use lib.Dec.{leb, ltb, eqb}
 use lib.ListN.{length, getD, take, drop, set, replicate, length-drop, length-set, length-replicate}
 use lib.Seq.{drop-nil, take-nil, getD-set-same, getD-set-other}
 use Rattle.lists.specs.Lists.{_∈_, filter, Ascending, none, more}
-use Rattle.lists.proofs.Lists.{filter-none, length-filter, drop-mem}
+use Rattle.lists.proofs.Lists.{filter-none, length-filter, drop-mem, blank-at}
 use Rattle.lists.proofs.Tests.{test}
 use Rattle.automata.specs.Automaton.{Transition}
 use Rattle.automata.specs.Records.{readRecords}
 use Rattle.automata.specs.inner.Records.{recordAt}
-use Rattle.automata.specs.WellFormed.{here, later, Before}
+use Rattle.automata.specs.WellFormed.{Before}
+use Rattle.automata.proofs.Ordered.{before-from}
 use Rattle.automata.proofs.Records.{records-at, records-end, read-drop}
 use Rattle.sheets.specs.inner.Runs.{below, Rising, Named, Ends}
 
 -- records in order ascend in the states that they leave
 pub rising : {es : List Transition} → Ascending Before es → Rising es
 rising none = none
-rising (more {x} f a) = more (λ y m. front (f y m)) (rising a)
-  where
-    front : {y : Transition} → Before x y → x .from ≤ y .from
-    front (here h) = omega arith
-    front (later h l) = omega arith
+rising (more f a) = more (λ y m. before-from _ y (f y m)) (rising a)
 
 below-none : (q : ℕ) (e : Transition) (es : List Transition) → q ≤ e .from → ((y : Transition) → y ∈ es → e .from ≤ y .from) → below q es ≡ 0
 unfolding below
@@ -62,12 +59,6 @@ below-split q (suc k) (d ∷ ts) (more f a) e r h =
 pub below-length : (q : ℕ) (ts : List Transition) → below q ts ≤ length ts
 unfolding below
 below-length q ts = length-filter _ ts
-
--- belongs to crate lists: what stands in a blank array
-pub blank-at : (n q : ℕ) → _≡_ {A = ℕ} (getD (replicate n 0) q 0) 0
-blank-at zero q = refl
-blank-at (suc n) zero = refl
-blank-at (suc n) (suc q) = blank-at n q
 
 pub ends-begin : (t : List ℕ) → Ends t (replicate 257 0) 0
 ends-begin t = record { long = length-replicate {A = ℕ} 257 0; most = λ q. omega (arith, blank-at 257 q); least = λ j l. absurd (omega arith) }

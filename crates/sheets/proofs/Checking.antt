@@ -1,12 +1,12 @@
 -- The laws by which the check is proved: each says what one more word, record or section does.
 use Prim.Native.Nat.{ℕ, zero, suc, _+_, _-_, _*_, _≤_, _<_}
 use mathlib.Core.Path.{_≡_, refl, sym, ap, _∙_}
-use mathlib.Core.Bool.{Bool, true, false, cond, _&&_, _||_, or-false, and-true, and-assoc}
+use mathlib.Core.Bool.{Bool, true, false, cond, _&&_, _||_, and-true, and-assoc}
 use mathlib.Core.List.{List, [], _∷_}
 use native.Mathlib.Nat.{add-sub-cancel-left}
 use native.Mathlib.Numerals.{add-one, sub-one}
 use native.Mathlib.Omega.{arith}
-use borrow.Author.Tests.{leb-true, le-leb, le-ltb, eq-eqb, ne-eqb}
+use borrow.Author.Tests.{leb-true, le-leb, eq-eqb, ne-eqb}
 use borrow.Author.Needs.{needs}
 use lib.Bits.{bitAnd, bitOr, or-add-and, and-le-l, and-le-r, or-lt}
 use lib.Dec.{leb, ltb, eqb}
@@ -16,6 +16,7 @@ use Rattle.lists.proofs.Tests.{tests, and-both, and-parts, true-same, cond-no}
 use Rattle.automata.specs.Ordered.{less}
 use Rattle.automata.specs.Records.{wordsOf, readRecords}
 use Rattle.automata.specs.inner.Records.{recordAt}
+use Rattle.automata.proofs.Ordered.{less-ended, less-short, less-differs, less-next}
 use Rattle.automata.proofs.Records.{records-at, records-end, part-record}
 use Rattle.refusal.specs.declared.InputRefusal.{InputRefusal}
 use Rattle.refusal.specs.declared.InputRefusal.the-variants.{SheetLength, Start, Counts, AcceptWord, Record, RecordOrder, Epsilon, Grammar, Utf8, Labels}
@@ -58,22 +59,6 @@ pub bad-range : (n f k x y z : ℕ) (b : Bool) → b ≡ isBad n (record { from 
 bad-range n f k x y z b e h = e ∙ ap (λ i. isBad n (record { from = f; kind = i; first = x; last = y; to = z })) (sym h)
 
 pub ruleset kindLaws = (bad-range, needs)
-
--- two lists that are equal up to i are in the order of what is left of them
-module _ (a b : List ℕ) (i : ℕ) (e : less a b ≡ less (drop i a) (drop i b)) where
-  pub less-ended : length b ≤ i → false ≡ less a b
-  less-ended h = sym (e ∙ rw (drop-of-length-le b h))
-
-  pub less-short : i < length b → length a ≤ i → true ≡ less a b
-  less-short hb h = sym (e ∙ rw (drop-of-length-le a h, drop-at b i hb))
-
-  pub less-differs : i < length b → i < length a → (getD a i 0 ≡ getD b i 0 → ⊥) → ltb (getD a i 0) (getD b i 0) ≡ less a b
-  less-differs hb ha p = sym (e ∙ rw (drop-at a i ha, drop-at b i hb, ne-eqb (getD a i 0) (getD b i 0) p) (or-false (ltb (getD a i 0) (getD b i 0))))
-
-  pub less-next : i < length b → i < length a → getD a i 0 ≡ getD b i 0 → less a b ≡ less (drop (i + 1) a) (drop (i + 1) b)
-  less-next hb ha p =
-      e ∙ ap (λ l. less l (drop i b)) (drop-at a i ha) ∙ ap (λ l. less (getD a i 0 ∷ drop (i + 1) a) l) (drop-at b i hb)
-      ∙ rw (le-ltb (getD a i 0) (getD b i 0) (omega arith), eq-eqb (getD a i 0) (getD b i 0) p)
 
 pub ruleset lessLaws = (less-ended, less-short, less-differs, less-next, tests)
 

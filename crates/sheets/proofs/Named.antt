@@ -10,7 +10,7 @@ use Rattle.automata.specs.Automaton.{Transition, leaving}
 use Rattle.automata.specs.Records.{readRecords, writeRecords}
 use Rattle.automata.specs.inner.Records.{recordAt}
 use Rattle.automata.proofs.Leaving.{leaves}
-use Rattle.automata.proofs.Records.{read-write, records-at, part-record}
+use Rattle.automata.proofs.Records.{read-write, records-at, part-in}
 use Rattle.sheets.specs.Sheet.{stateCount, recordsAt, read}
 use Rattle.sheets.specs.inner.Accepted.{Accepted}
 use Rattle.sheets.specs.inner.Runs.{IndexedSheet, Named, RunAt}
@@ -19,14 +19,11 @@ use Rattle.sheets.proofs.Runs.{run-at}
 
 -- the record at a place, as it is handed on, and the records behind it
 module _ (t : List ℕ) (at : ℕ) (n : Named (readRecords (drop at t))) (h : 5 ≤ length t - at) where
-  first-in : recordAt (take (at + 5 - at) (drop at t)) 0 ∈ readRecords (drop at t)
-  first-in = subst (λ (es : List Transition). recordAt (take (at + 5 - at) (drop at t)) 0 ∈ es) (sym (records-at t at h)) (List·Memᴰ·head (part-record t at))
-
   pub named-from : getD (take (at + 5 - at) (drop at t)) 0 0 < 256
-  named-from = n .froms _ first-in
+  named-from = n .froms _ (part-in t at h)
 
   pub named-to : getD (take (at + 5 - at) (drop at t)) 4 0 < 256
-  named-to = n .tos _ first-in
+  named-to = n .tos _ (part-in t at h)
 
   pub named-target : getD t (at + 4) 0 < 256
   named-target = n .tos (recordAt t at) (rw (records-at t at h) (List·Memᴰ·head refl))

@@ -1,21 +1,18 @@
 -- The different labels of a list are entered into a table of names, label by label.
 use Prim.Native.Nat.{ℕ, suc, _+_, _≤_, _<_}
-use mathlib.Core.Bool.{Bool, true, false, cond}
-use mathlib.Core.List.{List, [], _∷_, _++_}
+use mathlib.Core.List.{List, [], _∷_}
 use mathlib.Core.Path.{_≡_, refl, sym, _∙_, ap}
 use native.Mathlib.Nat.{add-sub-cancel-left}
 use native.Mathlib.Numerals.{add-one}
 use native.Mathlib.Omega.{arith}
 use borrow.Author.Needs.{needs}
-use lib.Dec.{ltb}
-use lib.ListN.{length, getD, drop, length-append, drop-of-length-le}
+use lib.ListN.{length, getD, drop, drop-of-length-le}
 use lib.Seq.{drop-cons}
 use Rattle.labels.specs.Labels.{labelsFault, readLabels, sameLabel}
 use Rattle.labels.specs.inner.Places.{labelPlace}
 use Rattle.labels.proofs.Reading.{seek-inside, seek-whole, label-is}
 use Rattle.labels.proofs.Labels.{length-read}
 use Rattle.labels.proofs.Places.{place-first, place-next}
-use Rattle.lists.specs.Index.{index}
 use Rattle.lists.specs.Lists.{tabulate}
 use Rattle.name_table.specs.declared.Added.{Added}
 use Rattle.name_table.specs.declared.Added.the-variants.{Kept, Full}
@@ -23,6 +20,7 @@ use Rattle.name_table.specs.inner.Names.{part, namesIn, Table, Addition}
 use Rattle.name_table.proofs.Adding.{table-none, added-table, added-names, added-full}
 use Rattle.name_table.proofs.Finding.{names-count}
 use Rattle.search.specs.Search.{add, meet}
+use Rattle.search.proofs.Tables.{add-length}
 use Rattle.subautomaton.specs.inner.Tables.{distinctLabels, LabelTable}
 
 -- the first i labels of b are entered, n of them different
@@ -34,15 +32,6 @@ pub record Entered (b t : List ℕ) (n i : ℕ) : Type 0 where
 pub enter-begin : (b t : List ℕ) → length t ≡ 1024 → Entered b t 0 0
 unfolding distinctLabels namesIn tabulate
 enter-begin b t h = record { table = table-none b t h; few = omega arith; rest = refl }
-
--- at most one more
-add-length : (x : List ℕ) (T : List (List ℕ)) → length (add sameLabel x T) ≤ length T + 1
-unfolding add
-add-length x T = go (ltb (index sameLabel x T) (length T))
-  where
-    go : (c : Bool) → length (cond c T (T ++ x ∷ [])) ≤ length T + 1
-    go true = omega arith
-    go false = omega (arith, length-append T (x ∷ []))
 
 module _ (b t : List ℕ) (m n i at : ℕ) (ok : labelsFault m b ≡ 0) (p : at ≡ labelPlace b i) (k : Entered b t n i) where
   pub enter-ended : i ≤ m → m ≤ i → LabelTable b t n
@@ -71,7 +60,7 @@ module _ (b t : List ℕ) (m n i at : ℕ) (ok : labelsFault m b ≡ 0) (p : at 
 
     module _ (u : List ℕ) (r : Added) (a : Addition b (add sameLabel (part b (at + 1) next) (namesIn b t n)) u r) where
       short : length (add sameLabel (part b (at + 1) next) (namesIn b t n)) ≤ i + 1
-      short = omega (arith, add-length (part b (at + 1) next) (namesIn b t n), names-count b t n, k .few)
+      short = omega (arith, add-length sameLabel (part b (at + 1) next) (namesIn b t n), names-count b t n, k .few)
 
       pub enter-next : (v : ℕ) → r ≡ Kept v → Entered b u v (i + 1)
       unfolding meet

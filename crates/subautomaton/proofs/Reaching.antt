@@ -1,23 +1,22 @@
 -- A run from its first record on that reaches far enough, and no further than to one that starts too late: none of the records left out covers d.
 use Prim.Native.Nat.{ℕ, _+_, _-_, _≤_, _<_}
-use mathlib.Core.Bool.{Bool, true, false, cond, _&&_, true≢false}
+use mathlib.Core.Bool.{Bool, true, false, cond, and-false, true≢false}
 use mathlib.Core.List.{List, [], _∷_, List·Memᴰ·head, List·Memᴰ·tail}
 use mathlib.Core.Logic.{⊎-elim}
 use mathlib.Core.Path.{_≡_, refl, sym, _∙_, ap, subst}
 use native.Mathlib.Omega.{arith}
 use borrow.Author.Needs.{needs}
 use borrow.Author.Tests.{ltb-true, lt-ltb, le-ltb, lt-leb}
-use lib.Dec.{eqb, ltb}
+use lib.Dec.{ltb}
 use lib.ListN.{length, getD, take, drop}
 use Rattle.lists.specs.Lists.{_∈_, any, Ascending}
 use Rattle.lists.proofs.Lists.{any-out}
-use Rattle.lists.proofs.Members.{ascending-first, ascending-rest, ascending-by, ascending-filter}
+use Rattle.lists.proofs.Members.{ascending-first, ascending-rest}
 use Rattle.lists.proofs.Tests.{test}
-use Rattle.automata.specs.Automaton.{Transition, Automaton, leaving}
+use Rattle.automata.specs.Automaton.{Transition, leaving}
 use Rattle.automata.specs.Records.{readRecords, writeRecords}
-use Rattle.automata.specs.WellFormed.{Lex, Before, Sound, WellFormed}
 use Rattle.automata.specs.inner.Records.{recordAt}
-use Rattle.automata.proofs.Leaving.{leaves}
+use Rattle.automata.proofs.Leaving.{leaving-rises}
 use Rattle.automata.proofs.Records.{records-at, records-end, read-write}
 use Rattle.sheets.specs.inner.Runs.{IndexedSheet}
 use Rattle.sheets.specs.Sheet.{read}
@@ -47,10 +46,6 @@ module _ (run : List ℕ) (from last at : ℕ) (e : reaching last (readRecords (
 pub ruleset reachLaws = (reach-begin, reach-ended, reach-found, reach-next, needs)
 
 -- a record that ends too early or starts too late doesn't cover d
-and-false : (a : Bool) → (a && false) ≡ false
-and-false true = refl
-and-false false = refl
-
 module _ (cb : List ℕ) (to : ℕ) (d : Transition) where
   fits-short : (e : Transition) → e .last < d .last → fits cb to d e ≡ false
   unfolding fits
@@ -137,20 +132,6 @@ module _ (d run cb : List ℕ) (to : ℕ) where
         → any (fits cb to (recordAt d 0)) (readRecords run) ≡ any (fits cb to (recordAt d 0)) (readRecords (drop r run))
     covers-next b g t r q =
         record-next (fits cb to (recordAt d 0)) run at e h b g t ∙ sym (ap (any (fits cb to (recordAt d 0))) q ∙ reach-any cb to (recordAt d 0) (readRecords (drop (at + 5) run)))
-
--- belongs to crate automata: an epsilon, whose symbols are 0, stands before the ranges of its state
-starts-below : (d e : Transition) → d .from ≡ e .from → Sound d → Sound e → Before d e → d .first ≤ e .first
-starts-below d e f s u (Lex.here h) = absurd (omega arith)
-starts-below d e f s u (Lex.later p (Lex.here h)) = let z : d .kind ≡ 0 = omega (arith, u .known) in let b = s .blank z in omega (arith, b .0)
-starts-below d e f s u (Lex.later p (Lex.later q (Lex.here h))) = omega arith
-starts-below d e f s u (Lex.later p (Lex.later q (Lex.later r h))) = omega arith
-
-leaving-rises : (A : Automaton) (q : ℕ) → WellFormed A → Ascending (λ d e. d .first ≤ e .first) (leaving A q)
-unfolding leaving
-leaving-rises A q w =
-    let out : (e : Transition) → e ∈ leaving A q → e ∈ A .transitions × (e .from ≡ q) = λ e m. leaves A q e m in
-    ascending-by (λ d e m n. starts-below d e (out d m .1 ∙ sym (out e n .1)) (w .sound d (out d m .0)) (w .sound e (out e n .0)))
-    (ascending-filter (λ e. eqb (e .from) q) (w .ascends))
 
 -- the run of a state
 pub ready-ordered : (s starts : List ℕ) (r : IndexedSheet s starts) (q : ℕ) (run : List ℕ) → run ≡ writeRecords (leaving (read s) q) → Ordered (readRecords run)

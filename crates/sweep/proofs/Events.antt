@@ -1,23 +1,21 @@
 -- The events of all ranges in order are a timeline of those that leave any set.
 use Prim.Native.Nat.{ℕ, zero, suc, _+_, _*_, _≤_, _<_}
 use mathlib.Core.Bool.{Bool, true, false, cond}
-use mathlib.Core.List.{List, [], _∷_, List·Memᴰ·head, List·Memᴰ·tail, List·Memᴰ·cases-cons, List·Memᴰ·not-nil, List·Memᴰ·append-cases, Memᴰ·append-left, Memᴰ·append-right}
+use mathlib.Core.List.{List, [], _∷_, List·Memᴰ·head, List·Memᴰ·cases-cons, List·Memᴰ·append-cases, Memᴰ·append-left, Memᴰ·append-right}
 use mathlib.Core.Logic.{⊎-elim}
 use mathlib.Core.Path.{_≡_, refl, sym, _∙_, ap, subst}
 use native.Mathlib.Omega.{arith}
 use lib.Dec.{eqb}
-use lib.ListN.{length, getD, drop, length-append}
+use lib.ListN.{length, getD, length-append}
 use Rattle.lists.specs.Lists.{_∈_}
 use Rattle.lists.proofs.Lists.{filter-in, filter-out}
 use Rattle.lists.proofs.Members.{ascending-by}
 use Rattle.lists.proofs.Tests.{and-both, and-parts}
 use Rattle.automata.specs.Automaton.{Transition}
 use Rattle.automata.specs.Ordered.{inOrder}
-use Rattle.automata.specs.Records.{readRecords}
 use Rattle.automata.specs.inner.Records.{recordAt}
-use Rattle.automata.specs.WellFormed.{Lex, Before}
-use Rattle.automata.proofs.Ordered.{inOrder-in, inOrder-out, inOrder-ascending}
-use Rattle.automata.proofs.Records.{records-at, records-end}
+use Rattle.automata.proofs.Ordered.{inOrder-in, inOrder-out, inOrder-ascending, before-from}
+use Rattle.automata.proofs.Records.{record-in, record-out}
 use Rattle.sets.specs.Sets.{Set, has}
 use Rattle.sheets.specs.Sheet.{recordsAt, read}
 use Rattle.sheets.specs.inner.Accepted.{recordCount, Accepted}
@@ -25,25 +23,6 @@ use Rattle.sheets.proofs.Meaning.{read-well}
 use Rattle.words.specs.Simulation.{outgoing}
 use Rattle.sweep.specs.inner.Events.{event, eventAt, eventOf, eventsFrom, events}
 use Rattle.sweep.specs.inner.Sweep.{Timeline}
-
--- the m records from o on
-record-in : (m : ℕ) (s : List ℕ) (o : ℕ) → length s ≡ o + 5 * m → (j : ℕ) → j < m → recordAt s (o + 5 * j) ∈ readRecords (drop o s)
-record-in zero s o l j h = absurd (omega arith)
-record-in (suc m) s o l zero h = let z : o ≡ o + 5 * 0 = omega arith in
-    subst (λ i. recordAt s i ∈ readRecords (drop o s)) z (rw (records-at s o (omega arith)) (List·Memᴰ·head refl))
-record-in (suc m) s o l (suc j) h =
-    let z : o + 5 + 5 * j ≡ o + 5 * suc j = omega arith in
-    rw (records-at s o (omega arith)) (List·Memᴰ·tail (subst (λ i. recordAt s i ∈ readRecords (drop (o + 5) s)) z (record-in m s (o + 5) (omega arith) j (omega arith))))
-
-record-out : (m : ℕ) (s : List ℕ) (o : ℕ) → length s ≡ o + 5 * m → (e : Transition) → e ∈ readRecords (drop o s) → (j : ℕ) × (j < m) × (e ≡ recordAt s (o + 5 * j))
-record-out zero s o l e k = absurd (List·Memᴰ·not-nil (rw (records-end s o (omega arith)) at k))
-record-out (suc m) s o l e k =
-    ⊎-elim (λ (q : e ≡ recordAt s o). (0, omega arith, let z : o + 5 * 0 ≡ o = omega arith in rw z q))
-    (λ i.
-    let r = record-out m s (o + 5) (omega arith) e i in
-    let z : o + 5 + 5 * r .0 ≡ o + 5 * suc (r .0) = omega arith in
-    (suc (r .0), omega (arith, r .1), subst (λ i. e ≡ recordAt s i) z (r .2)))
-    (List·Memᴰ·cases-cons (rw (records-at s o (omega arith)) at k))
 
 -- record i of the sheet is a range
 abbrev IsRange : List ℕ → ℕ → Type 0
@@ -88,10 +67,6 @@ unfolding eventsFrom
 length-events k s zero i = omega arith
 length-events k s (suc m) i = omega (arith, length-append (eventOf k s i) (eventsFrom k s m (suc i)), length-events k s m (suc i), one-event k s i)
 
-later : (v w : Transition) → Before v w → v .from ≤ w .from
-later v w (Lex.here h) = omega arith
-later v w (Lex.later p h) = omega arith
-
 pub timeline : (k : ℕ) (s : List ℕ) → Accepted s → (S : Set) → Timeline k (outgoing (read s) S) S (inOrder (events k s))
 unfolding outgoing events eventAt event
 timeline k s a S =
@@ -104,7 +79,7 @@ timeline k s a S =
     let there : (v : Transition) (m : v ∈ inOrder (events k s)) → recordAt s (recordsAt s + 5 * of v m .0) ∈ ts =
     λ v m. record-in (recordCount s) s (recordsAt s) (a .whole) (of v m .0) (omega (arith, of v m .1)) in
     record {
-      rises = ascending-by (λ v w m n. later v w) (inOrder-ascending (events k s));
+      rises = ascending-by (λ v w m n. before-from v w) (inOrder-ascending (events k s));
       mine = λ e m. out e m .2;
       has-all = λ e m.
           let r = record-out (recordCount s) s (recordsAt s) (a .whole) e (out e m .0) in

@@ -16,13 +16,15 @@ use Rattle.sets.specs.inner.BitSet.{setAt}
 use Rattle.sets.specs.inner.Words.{putAt}
 use Rattle.sets.proofs.BitSet.{fresh-at}
 use Rattle.sets.proofs.Stores.{put-same}
-use Rattle.sheets.specs.Sheet.{read}
+use Rattle.sheets.specs.Sheet.{recordsAt, read}
 use Rattle.sheets.specs.inner.Accepted.{recordCount}
+use Rattle.sheets.proofs.Meaning.{read-well}
 use Rattle.words.specs.Simulation.{outgoing}
 use Rattle.sweep.specs.inner.Events.{RangeAt, event, eventAt, eventsAt, Numbers}
 use Rattle.sweep.specs.inner.Tree.{Tree, leaf, LeafSet}
 use Rattle.sweep.specs.inner.Sweep.{Passes}
 use Rattle.sweep.specs.inner.Passing.{row, Passing, Stopped, Noted, over, known, longer, begun, Closes, held, empty, cutAt}
+use Rattle.automata.proofs.Records.{record-in}
 use Rattle.sweep.proofs.Sweep.{opening-past, opening-noted, ending-other, ending-held, ending-gone}
 
 -- `fill`, `open` and `close`
@@ -62,6 +64,12 @@ module _ (s c opens ends : List ℕ) (S : Set) (i j a : ℕ) (r t : List ℕ) (p
 
       pub opening-target : d < 256
       opening-target = p .passes .opening .targets _ opening-in
+
+      -- the table of closures has a row for it
+      pub opening-row : 4 * d + 4 ≤ length c
+      opening-row =
+          let a = p .closed .accepted in
+          omega (arith, e .is-to, p .closed .long, read-well s a .states .tos _ (record-in (recordCount s) s (recordsAt s) (a .whole) (getD opens i 0) opening-number))
 
       after : {u v : List ℕ} → length u ≡ 256 → Tree v
           → Passes (outgoing (read s) S) S (eventsAt 0 s opens) (eventsAt 1 s ends) (eventsAt 0 s (drop (i + 1) opens)) (eventsAt 1 s (drop j ends)) a u (row c) (leaf v)
@@ -143,7 +151,7 @@ module _ (s c opens ends : List ℕ) (S : Set) (i j a : ℕ) (r t : List ℕ) (p
 pub stop-end : (k : ℕ) (s ev : List ℕ) (S : Set) (at a : ℕ) → length ev ≤ at → Stopped k s ev S at a
 stop-end k s ev S at a l = record { mine = λ h. absurd (omega arith); above = λ h. absurd (omega arith) }
 
-pub ruleset openLaws = (opening-number, opening-state, opening-target, open-other, open-noted, stop-opening, stop-end, needs)
+pub ruleset openLaws = (opening-number, opening-state, opening-target, opening-row, open-other, open-noted, stop-opening, stop-end, needs)
 
 pub ruleset endLaws = (ending-number, ending-state, ending-target, end-other, end-noted, stop-ending, stop-end, needs)
 

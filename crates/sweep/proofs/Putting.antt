@@ -10,11 +10,11 @@ use lib.Dec.{eqb}
 use lib.ListN.{length, getD, take, drop, replicate, length-map, length-replicate}
 use lib.Seq.{sets-eq, take-append-seam}
 use Rattle.lists.specs.Lists.{_∈_}
-use Rattle.lists.specs.Written.{Written}
+use Rattle.stores.specs.Written.{Written}
 use Rattle.lists.proofs.Lists.{map-at, map-ext}
-use Rattle.lists.proofs.Left.{Left, left-start, left-done, left-room, left-next}
+use Rattle.stores.proofs.Left.{Left, left-start, left-done, left-room, left-next}
 use Rattle.lists.proofs.Members.{at-in}
-use Rattle.lists.proofs.Written.{written-none, written-length}
+use Rattle.stores.proofs.Written.{written-none, written-length}
 use Rattle.automata.specs.Automaton.{Transition}
 use Rattle.automata.specs.Ordered.{inOrder}
 use Rattle.automata.specs.Records.{readRecords, writeRecords}

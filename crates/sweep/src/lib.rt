@@ -29,7 +29,7 @@ pub struct Turn {
 
 // The leaf of the target becomes its closure.
 fn fill(tree: &mut [u64], closures: &[u64], target: usize)
-    requires { ⌜ Tree (now tree) × (target < 256) × (length (now closures) ≡ 1024) ⌝ }
+    requires { ⌜ Tree (now tree) × (target < 256) × (4 * target + 4 ≤ length (now closures)) ⌝ }
     ensures { λ u. ⌜ LeafSet (now (tree .entry)) (now (tree .exit)) target (setAt (now (closures .entry)) (4 * target)) ⌝ }
 {
     let mut row = [0u64; 4];
@@ -39,7 +39,7 @@ fn fill(tree: &mut [u64], closures: &[u64], target: usize)
 
 // Notes that a range to the target has opened, whose last symbol is last.
 fn open(closures: &[u64], to: u32, last: u32, symbol: u32, reach: &mut [u64], tree: &mut [u64])
-    requires { ⌜ (to < 256) × (length (now closures) ≡ 1024) × (length (now reach) ≡ 256) × Tree (now tree) ⌝ }
+    requires { ⌜ (to < 256) × (4 * to + 4 ≤ length (now closures)) × (length (now reach) ≡ 256) × Tree (now tree) ⌝ }
     ensures { λ u. ⌜ Noted (now (closures .entry)) symbol last to (now (reach .entry)) (now (tree .entry)) (now (reach .exit)) (now (tree .exit)) ⌝ }
 {
     if last < symbol {

@@ -4,7 +4,7 @@ ghost use mathlib.Core.Path.{_≡_};
 ghost use Prim.Native.Nat.{_+_, _*_, _≤_, _<_};
 ghost use lib.Dec.{eqb};
 ghost use lib.ListN.{length, getD};
-ghost use Rattle.lists.specs.Written.{Written};
+ghost use Rattle.stores.specs.Written.{Written};
 ghost use Rattle.automata.specs.Records.{readRecords, writeRecords};
 ghost use Rattle.sheets.specs.Sheet.{recordsAt};
 ghost use Rattle.sheets.specs.inner.Accepted.{recordCount, Accepted};
@@ -92,7 +92,7 @@ fn put_numbers(records: &[u32], out: &mut [u32]) -> usize
     let mut end: usize = 0;
     let mut at: usize = 0;
     while 5 <= records.len() - at {
-        end = output::put_word(out, end, records[at + 1]);
+        end = stores::put_word(out, end, records[at + 1]);
         at += 5;
     }
     end

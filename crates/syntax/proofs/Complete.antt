@@ -9,8 +9,8 @@ use borrow.Author.Tests.{lt-ltb, le-leb, eq-eqb, ne-eqb}
 use lib.Dec.{leb}
 use lib.ListN.{length, getD, drop, length-drop, length-append}
 use lib.Seq.{drop-drop, drop-append-seam, take-append-seam, getD-drop}
-use Rattle.decimal.specs.Decimal.{value}
-use Rattle.grammar.specs.Bytes.{isSpace, isLetter, isDigit, isNameByte}
+use Rattle.decimal.specs.Decimal.{isDigit, value}
+use Rattle.grammar.specs.Bytes.{isSpace, isLetter, isNameByte}
 use Rattle.grammar.specs.Grammar.{ReadResult, nothing, found, follow, mark, run, space, neededSpace, begins, token, name, number, Ends, ends, range, target, transition, initial, nextName, Items, transitions, nextNames, accepting, heading, ending, wholeText}
 use Rattle.grammar.specs.Places.{spelled}
 use Rattle.grammar.proofs.Letters.{letter-named}

@@ -2,8 +2,8 @@
 -- wherever it is optional.
 use mathlib.Core.List.{[], _∷_, List}
 use mathlib.Core.Path.{refl}
-use Rattle.decimal.specs.Decimal.{valueAfter}
-use Rattle.grammar.specs.Bytes.{isSpace, isLetter, isDigit, isNameByte}
+use Rattle.decimal.specs.Decimal.{isDigit, valueAfter}
+use Rattle.grammar.specs.Bytes.{isSpace, isLetter, isNameByte}
 use Rattle.grammar.specs.Words.{acceptingWord}
 use Rattle.grammar.proofs.Examples.{loose}
 use Rattle.grammar.specs.Grammar.{follow, run, space, neededSpace, begins, token, name, number, ends, range, target, transition, initial, nextName, many, transitions, nextNames, accepting, heading, ending, wholeText}

@@ -5,8 +5,8 @@ use mathlib.Core.Bool.{Bool, true}
 use mathlib.Core.List.{List, [], _∷_, _++_}
 use mathlib.Core.Path.{_≡_}
 use lib.ListN.{length}
-use Rattle.decimal.specs.Decimal.{value}
-use Rattle.grammar.specs.Bytes.{isSpace, isLetter, isDigit, isNameByte}
+use Rattle.decimal.specs.Decimal.{isDigit, value}
+use Rattle.grammar.specs.Bytes.{isSpace, isLetter, isNameByte}
 use Rattle.grammar.specs.Words.{automatonWord, initWord, acceptingWord, arrowSign, leftBrace, rightBrace, leftBracket, rightBracket, comma, semicolon}
 
 infixr 66 _⨾_

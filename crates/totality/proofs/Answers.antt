@@ -1,6 +1,6 @@
 -- The answers of the calls, by the check of the inputs and by the limits of the result.
 use Prim.Native.Nat.{ℕ, _≤_, _<_}
-use mathlib.Core.Bool.{Bool, false}
+use mathlib.Core.Bool.{false}
 use mathlib.Core.List.{List}
 use mathlib.Core.Path.{_≡_, sym, _∙_, ap}
 use borrow.Author.Needs.{needs}
@@ -11,24 +11,15 @@ use Rattle.labels.proofs.Labels.{label-list}
 use Rattle.output.specs.declared.Made.{Made}
 use Rattle.output.specs.declared.Made.the-variants.{Refused}
 use Rattle.output.specs.Made.{outputOf}
-use Rattle.output.specs.Output.{Pattern, outputs, roomFirst, statesFirst, transitionsFirst}
+use Rattle.output.specs.Output.{Pattern, outputs, statesFirst, transitionsFirst}
 use Rattle.refusal.specs.Answer.{refused, given}
-use Rattle.refusal.specs.declared.InputRefusal.{InputRefusal}
 use Rattle.refusal.specs.declared.Refusal.{Refusal}
-use Rattle.refusal.specs.Number.{inputNumber}
-use Rattle.sheets.specs.declared.Checked as sheets
-use Rattle.sheets.specs.declared.Checked.the-variants as sheet
-use Rattle.sheets.specs.Checked.{checkedNumber}
-use Rattle.sheets.specs.Fault.{fault}
-use Rattle.sheets.proofs.Checking.{sheet-passed, sheet-refused}
-use Rattle.sheets.proofs.Accepted.{check-accepted}
 use Rattle.sheets.specs.inner.Accepted.{Accepted}
 use Rattle.sheets.specs.Sheet.{stateCount, read}
-use Rattle.totality.specs.Answers.{limited, totalPattern, complementPattern, totalizeAnswer, complementAnswer, isNfaAnswer}
-use Rattle.totality.specs.inner.Answers.{inputsFirst, inputsOf, passed, turnedPattern}
+use Rattle.totality.specs.Answers.{limited, totalPattern, complementPattern, totalizeAnswer, complementAnswer}
+use Rattle.totality.specs.inner.Answers.{inputsFirst, inputsOf, passed, totalPatternFlippedIf}
 use Rattle.totality.specs.declared.Inputs as inputs
 use Rattle.totality.specs.declared.Inputs.the-variants as input
-use Rattle.totality.specs.Totality.{isNfa}
 use Rattle.totality.proofs.Passing.{passed-inputs, refused-inputs}
 
 -- the limits of a pattern
@@ -51,34 +42,22 @@ module _ (s b o l : List ℕ) (r : inputs.Inputs) (e : inputsOf r ≡ inputsFirs
   inputs-accepted h = let p = passed-inputs s b o l passed r e h .0 in (p .sheet, p .label-list, p .words, p .bytes)
 
   module _ (lower upper : ℕ) where
-    pub totalize-made : r ≡ input.Good → (m : Made) (o′ l′ : List ℕ) → outputOf m o′ l′ ≡ outputs o l (limited (turnedPattern false lower upper (read s) (readLabels b))) → outputOf m o′ l′ ≡ outputs o l (roomFirst o l (totalizeAnswer lower upper s b))
-    unfolding totalizeAnswer inputsFirst totalPattern turnedPattern
+    pub totalize-made : r ≡ input.Good → (m : Made) (o′ l′ : List ℕ) → outputOf m o′ l′ ≡ outputs o l (limited (totalPatternFlippedIf false lower upper (read s) (readLabels b))) → outputOf m o′ l′ ≡ outputs o l (totalizeAnswer lower upper s b o l)
+    unfolding totalizeAnswer inputsFirst totalPattern totalPatternFlippedIf
     totalize-made h m o′ l′ f = f ∙ ap (outputs o l) (sym (passed-inputs s b o l (limited (totalPattern lower upper (read s) (readLabels b))) r e h .1))
 
-    pub totalize-refused : (x : Refusal) → r ≡ input.Refused x → outputOf (Refused x) o l ≡ outputs o l (roomFirst o l (totalizeAnswer lower upper s b))
+    pub totalize-refused : (x : Refusal) → r ≡ input.Refused x → outputOf (Refused x) o l ≡ outputs o l (totalizeAnswer lower upper s b o l)
     unfolding totalizeAnswer inputsFirst outputs
     totalize-refused x h = ap (outputs o l) (sym (refused-inputs s b o l (limited (totalPattern lower upper (read s) (readLabels b))) r e x h))
 
-    pub complement-made : r ≡ input.Good → (m : Made) (o′ l′ : List ℕ) → outputOf m o′ l′ ≡ outputs o l (limited (complementPattern lower upper (read s) (readLabels b))) → outputOf m o′ l′ ≡ outputs o l (roomFirst o l (complementAnswer lower upper s b))
+    pub complement-made : r ≡ input.Good → (m : Made) (o′ l′ : List ℕ) → outputOf m o′ l′ ≡ outputs o l (limited (complementPattern lower upper (read s) (readLabels b))) → outputOf m o′ l′ ≡ outputs o l (complementAnswer lower upper s b o l)
     unfolding complementAnswer inputsFirst
     complement-made h m o′ l′ f = f ∙ ap (outputs o l) (sym (passed-inputs s b o l (limited (complementPattern lower upper (read s) (readLabels b))) r e h .1))
 
-    pub complement-refused : (x : Refusal) → r ≡ input.Refused x → outputOf (Refused x) o l ≡ outputs o l (roomFirst o l (complementAnswer lower upper s b))
+    pub complement-refused : (x : Refusal) → r ≡ input.Refused x → outputOf (Refused x) o l ≡ outputs o l (complementAnswer lower upper s b o l)
     unfolding complementAnswer inputsFirst outputs
     complement-refused x h = ap (outputs o l) (sym (refused-inputs s b o l (limited (complementPattern lower upper (read s) (readLabels b))) r e x h))
 
 pub ruleset totalizeLaws = (inputs-accepted, totalize-made, totalize-refused, needs)
 
 pub ruleset complementedLaws = (inputs-accepted, complement-made, complement-refused, needs)
-
--- the answer of `is_nfa`
-module _ (lower upper : ℕ) (s : List ℕ) (r : sheets.Checked) (e : checkedNumber r ≡ fault s) where
-  pub nfa-given : r ≡ sheet.Accepted → (b : Bool) → b ≡ isNfa lower upper (read s) → given b ≡ isNfaAnswer lower upper s
-  unfolding isNfaAnswer
-  nfa-given h b f = ap given f ∙ sym (sheet-passed s _ r e h)
-
-  pub nfa-refused : (i : InputRefusal) → r ≡ sheet.Refused i → refused (inputNumber i) ≡ isNfaAnswer lower upper s
-  unfolding isNfaAnswer
-  nfa-refused i h = sym (sheet-refused s _ r e i h)
-
-pub ruleset isNfaLaws = (check-accepted, nfa-given, nfa-refused, needs)

@@ -12,6 +12,7 @@ use Rattle.labels.specs.Forms.{sinkLabel}
 use Rattle.labels.specs.Labels.{AllLabels, none, more, labelsFault, readLabels}
 use Rattle.labels.proofs.Labels.{labels-read, length-read}
 use Rattle.labels.proofs.Listing.{labels-append}
+use Rattle.nondeterminism.specs.Nondeterminism.{isNfa}
 use Rattle.output.specs.Left.{madeNumber, Room, Leaves}
 use Rattle.output.specs.Made.{outputOf}
 use Rattle.output.specs.Output.{Pattern, outputs, roomFirst, labelsFirst, transitionsFirst}
@@ -27,7 +28,7 @@ use Rattle.sheets.proofs.Decisions.{given-not}
 use Rattle.sheets.proofs.Accepted.{accepted}
 use Rattle.sheets.proofs.Meaning.{read-well, read-fits}
 use Rattle.totality.specs.Answers.{limited, totalPattern, complementPattern}
-use Rattle.totality.specs.Totality.{isNfa, totalized, transitionCount, flipped, complemented}
+use Rattle.totality.specs.Totality.{totalized, transitionCount, flipped, complemented}
 use Rattle.totality.proofs.Answers.{limited-given}
 use Rattle.totality.proofs.Rows.{length-totalized}
 use Rattle.totality.proofs.Totalized.{totalized-well, complemented-well}

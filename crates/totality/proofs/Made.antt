@@ -7,11 +7,11 @@ use native.Mathlib.Omega.{arith}
 use mir.Syntax.{w64}
 use mir.Val.{Fits}
 use borrow.Author.Needs.{needs}
-use lib.ListN.{length, take, drop, replicate, length-drop, length-replicate}
-use lib.Seq.{drop-at, sets}
-use Rattle.lists.specs.Written.{Written}
+use lib.ListN.{length, take, drop, length-drop}
+use lib.Seq.{drop-at}
+use Rattle.stores.specs.Written.{Written}
 use Rattle.lists.proofs.Parts.{part-all}
-use Rattle.lists.proofs.Written.{written-append, written-length}
+use Rattle.stores.proofs.Written.{written-append, written-length}
 use Rattle.automata.specs.Automaton.{Automaton, states}
 use Rattle.automata.specs.Records.{writeRecords}
 use Rattle.automata.proofs.Records.{length-read}
@@ -19,6 +19,9 @@ use Rattle.labels.specs.Labels.{labelsFault, labelCount, writeLabels}
 use Rattle.labels.specs.Forms.{sinkLabel}
 use Rattle.labels.proofs.Labels.{label-list}
 use Rattle.labels.proofs.Places.{few-count}
+use Rattle.nondeterminism.specs.Nondeterminism.{isNfa, holesIn}
+use Rattle.nondeterminism.specs.inner.Holes.{HolesInputs}
+use Rattle.nondeterminism.proofs.States.{holes-bound, inputs-after}
 use Rattle.output.specs.declared.Made.{Made}
 use Rattle.output.specs.declared.Made.the-variants.{Lengths, Refused}
 use Rattle.output.specs.Made.{outputOf}
@@ -27,35 +30,28 @@ use Rattle.output.proofs.Answers.{made-given}
 use Rattle.refusal.specs.declared.Refusal.the-variants.{State}
 use Rattle.refusal.specs.declared.StateRefusal.the-variants.{States, Transitions}
 use Rattle.refusal.specs.Answer.{given}
-use Rattle.sheets.specs.inner.Runs.{startsOf}
-use Rattle.sheets.proofs.Runs.{starts-indexed}
 use Rattle.sheets.proofs.Accepted.{accepted}
 use Rattle.sheets.specs.inner.Accepted.{Accepted, recordCount}
 use Rattle.sheets.specs.Sheet.{stateCount, recordsAt, read, write}
 use Rattle.sheets.proofs.Meaning.{read-well, read-fits, write-read-sheet}
 use Rattle.totality.specs.Answers.{limited, complementPattern}
-use Rattle.totality.specs.inner.Answers.{turnedPattern, flippedPattern}
-use Rattle.totality.specs.inner.Merging.{turned, headWords, Small, HolesInputs}
-use Rattle.totality.specs.Totality.{isNfa, flipped, totalized, complemented, holesIn, transitionCount}
+use Rattle.totality.specs.inner.Answers.{totalPatternFlippedIf, flippedPattern}
+use Rattle.totality.specs.inner.Merging.{flippedIf, headWords, TotalizedRoom}
+use Rattle.totality.specs.Totality.{flipped, totalized, complemented, transitionCount}
 use Rattle.totality.proofs.Rows.{length-totalized}
-use Rattle.totality.proofs.States.{holes-bound}
 use Rattle.totality.proofs.Writing.{head-length}
 use Rattle.totality.proofs.Answers.{limited-states, limited-transitions, limited-given}
 
 -- flipping keeps states and transitions
-turned-size : (b : Bool) (A : Automaton) → turned b A .size ≡ A .size
+flipped-if-size : (b : Bool) (A : Automaton) → flippedIf b A .size ≡ A .size
 unfolding flipped
-turned-size true A = refl
-turned-size false A = refl
+flipped-if-size true A = refl
+flipped-if-size false A = refl
 
-turned-transitions : (b : Bool) (A : Automaton) → turned b A .transitions ≡ A .transitions
+flipped-if-transitions : (b : Bool) (A : Automaton) → flippedIf b A .transitions ≡ A .transitions
 unfolding flipped
-turned-transitions true A = refl
-turned-transitions false A = refl
-
--- a table of holes that was written to is one still
-pub ready-again : (s starts h h′ : List ℕ) → HolesInputs s starts h → length h′ ≡ length h → HolesInputs s starts h′
-ready-again s starts h h′ r e = record { accepted = r .accepted; indexed = r .indexed; long = e ∙ r .long }
+flipped-if-transitions true A = refl
+flipped-if-transitions false A = refl
 
 -- the count of the totalized sheet's transitions
 module _ (lower upper : ℕ) (s starts holes : List ℕ) (r : HolesInputs s starts holes) (k : ℕ) (e : k ≡ length (holesIn lower upper (read s) (states (stateCount s)))) where
@@ -69,37 +65,37 @@ module _ (lower upper : ℕ) (s starts holes : List ℕ) (r : HolesInputs s star
   pub total-fits : Fits w64 (recordCount s + k + 1)
   total-fits = record { fits = omega (arith, e, holes-bound lower upper s starts holes r, r .accepted .few-records) }
 
-  pub total-small : (o : List ℕ) → stateCount s ≤ 255 → recordCount s + k + 1 ≤ 2048 → 10500 ≤ length o → Small lower upper s o (recordCount s + k + 1)
-  total-small o h m g = record { few-states = omega arith; few-transitions = m; counted = count-is; room = g }
+  pub totalized-room : (o : List ℕ) → stateCount s ≤ 255 → recordCount s + k + 1 ≤ 2048 → 10500 ≤ length o → TotalizedRoom lower upper s o (recordCount s + k + 1)
+  totalized-room o h m g = record { few-states = omega arith; few-transitions = m; counted = count-is; room = g }
 
 -- the totalized sheet
 module _ (b : Bool) (lower upper : ℕ) (s : List ℕ) (ls : List (List ℕ)) (o l : List ℕ) where
-  size-is : turnedPattern b lower upper (read s) ls .automaton .size ≡ stateCount s + 1
-  unfolding turnedPattern totalized
-  size-is = turned-size b (totalized lower upper (read s))
+  size-is : totalPatternFlippedIf b lower upper (read s) ls .automaton .size ≡ stateCount s + 1
+  unfolding totalPatternFlippedIf totalized
+  size-is = flipped-if-size b (totalized lower upper (read s))
 
-  pub total-states : 255 < stateCount s → outputOf (Refused (State States)) o l ≡ outputs o l (limited (turnedPattern b lower upper (read s) ls))
+  pub total-states : 255 < stateCount s → outputOf (Refused (State States)) o l ≡ outputs o l (limited (totalPatternFlippedIf b lower upper (read s) ls))
   unfolding outputs
-  total-states h = ap (outputs o l) (sym (limited-states (turnedPattern b lower upper (read s) ls) (rw size-is (omega arith))))
+  total-states h = ap (outputs o l) (sym (limited-states (totalPatternFlippedIf b lower upper (read s) ls) (rw size-is (omega arith))))
 
   module _ (starts holes : List ℕ) (r : HolesInputs s starts holes) (k : ℕ) (e : k ≡ length (holesIn lower upper (read s) (states (stateCount s)))) (h : stateCount s ≤ 255) where
-    transitions-are : length (turnedPattern b lower upper (read s) ls .automaton .transitions) ≡ recordCount s + k + 1
-    unfolding turnedPattern transitionCount
+    transitions-are : length (totalPatternFlippedIf b lower upper (read s) ls .automaton .transitions) ≡ recordCount s + k + 1
+    unfolding totalPatternFlippedIf transitionCount
     transitions-are =
-        ap length (turned-transitions b (totalized lower upper (read s))) ∙ length-totalized lower upper (read s) (read-well s (r .accepted)) ∙ sym (count-is lower upper s starts holes r k e)
+        ap length (flipped-if-transitions b (totalized lower upper (read s))) ∙ length-totalized lower upper (read s) (read-well s (r .accepted)) ∙ sym (count-is lower upper s starts holes r k e)
 
-    pub total-transitions : 2048 < recordCount s + k + 1 → outputOf (Refused (State Transitions)) o l ≡ outputs o l (limited (turnedPattern b lower upper (read s) ls))
+    pub total-transitions : 2048 < recordCount s + k + 1 → outputOf (Refused (State Transitions)) o l ≡ outputs o l (limited (totalPatternFlippedIf b lower upper (read s) ls))
     unfolding outputs
-    total-transitions g = ap (outputs o l) (sym (limited-transitions (turnedPattern b lower upper (read s) ls) (rw size-is (omega arith)) (rw transitions-are g)))
+    total-transitions g = ap (outputs o l) (sym (limited-transitions (totalPatternFlippedIf b lower upper (read s) ls) (rw size-is (omega arith)) (rw transitions-are g)))
 
-    pub total-given : recordCount s + k + 1 ≤ 2048 → (o′ l′ : List ℕ) (w y : ℕ) → Written o 0 (write (turned b (totalized lower upper (read s)))) o′ w → Written l 0 (writeLabels (ls ++ sinkLabel ∷ [])) l′ y
-        → outputOf (Lengths w y) o′ l′ ≡ outputs o l (limited (turnedPattern b lower upper (read s) ls))
-    unfolding turnedPattern
+    pub total-given : recordCount s + k + 1 ≤ 2048 → (o′ l′ : List ℕ) (w y : ℕ) → Written o 0 (write (flippedIf b (totalized lower upper (read s)))) o′ w → Written l 0 (writeLabels (ls ++ sinkLabel ∷ [])) l′ y
+        → outputOf (Lengths w y) o′ l′ ≡ outputs o l (limited (totalPatternFlippedIf b lower upper (read s) ls))
+    unfolding totalPatternFlippedIf
     total-given g o′ l′ w y p q =
-        made-given o l o′ l′ w y (turnedPattern b lower upper (read s) ls) p q
-        ∙ ap (outputs o l) (sym (limited-given (turnedPattern b lower upper (read s) ls) (rw size-is (omega arith)) (rw transitions-are g)))
+        made-given o l o′ l′ w y (totalPatternFlippedIf b lower upper (read s) ls) p q
+        ∙ ap (outputs o l) (sym (limited-given (totalPatternFlippedIf b lower upper (read s) ls) (rw size-is (omega arith)) (rw transitions-are g)))
 
-pub ruleset totalMadeLaws = (total-states, count-fits, total-fits, total-small, total-transitions, total-given, ready-again, needs)
+pub ruleset totalMadeLaws = (total-states, count-fits, total-fits, totalized-room, total-transitions, total-given, inputs-after, needs)
 
 -- what stands behind the accept words of a sheet
 behind-accepts : (s : List ℕ) → Accepted s → drop (stateCount s + 3) s ≡ length (read s .transitions) ∷ writeRecords (read s .transitions)
@@ -129,19 +125,11 @@ labels-few s b a h = few-count (stateCount s) b h (a .few-states)
 
 pub ruleset flippedLaws = (rest-room, flipped-given, labels-few, label-list, needs)
 
--- the tables of a sheet
-pub tables-ready : (s old starts holes : List ℕ) → Accepted s → starts ≡ sets old 0 (startsOf s) → length old ≡ 257 → length holes ≡ 4098 → HolesInputs s starts holes
-tables-ready s old starts holes a e l m = record { accepted = a; indexed = starts-indexed s old starts e (omega (arith, a .few-states)); long = m }
-
--- fresh ones
-pub fresh-ready : (s starts : List ℕ) → Accepted s → starts ≡ sets (replicate 257 0) 0 (startsOf s) → HolesInputs s starts (replicate 4098 0)
-fresh-ready s starts a e = tables-ready s (replicate 257 0) starts (replicate 4098 0) a e (length-replicate {A = ℕ} 257 0) (length-replicate {A = ℕ} 4098 0)
-
 -- the results in the terms of the operations
 module _ (m : Made) (o l o′ l′ : List ℕ) (lower upper : ℕ) (s : List ℕ) (ls : List (List ℕ)) where
   module _ (b : Bool) (f : b ≡ isNfa lower upper (read s)) where
-    pub complement-totalized : b ≡ true → outputOf m o′ l′ ≡ outputs o l (limited (turnedPattern true lower upper (read s) ls)) → outputOf m o′ l′ ≡ outputs o l (limited (complementPattern lower upper (read s) ls))
-    unfolding turnedPattern complementPattern complemented
+    pub complement-totalized : b ≡ true → outputOf m o′ l′ ≡ outputs o l (limited (totalPatternFlippedIf true lower upper (read s) ls)) → outputOf m o′ l′ ≡ outputs o l (limited (complementPattern lower upper (read s) ls))
+    unfolding totalPatternFlippedIf complementPattern complemented
     complement-totalized h e = rw (← f, h) e
 
     pub complement-flipped : b ≡ false → Accepted s → outputOf m o′ l′ ≡ outputs o l (given (flippedPattern (read s) ls)) → outputOf m o′ l′ ≡ outputs o l (limited (complementPattern lower upper (read s) ls))
@@ -149,7 +137,5 @@ module _ (m : Made) (o l o′ l′ : List ℕ) (lower upper : ℕ) (s : List ℕ
     complement-flipped h a e =
         let r = read-fits s a in
         rw (← f, h) (e ∙ ap (outputs o l) (sym (limited-given (flippedPattern (read s) ls) (r .few-states) (r .few-transitions))))
-
-pub ruleset readyLaws = (fresh-ready, needs)
 
 pub ruleset complementLaws = (complement-totalized, complement-flipped, needs)

@@ -11,7 +11,7 @@ use lib.Dec.{leb}
 use lib.ListN.{length, getD, take, drop, length-drop}
 use lib.Seq.{drop-drop, getD-drop, length-take-le}
 use Rattle.lists.specs.Lists.{_∈_, more}
-use Rattle.lists.specs.Written.{Written}
+use Rattle.stores.specs.Written.{Written}
 use Rattle.lists.proofs.Parts.{part-all}
 use Rattle.automata.specs.Automaton.{Transition}
 use Rattle.automata.specs.Ordered.{inOrder}
@@ -21,25 +21,25 @@ use Rattle.automata.proofs.Ordered.{lex-trans, inOrder-in, inOrder-out, inOrder
 use Rattle.automata.proofs.Records.{records-at, records-end, read-drop, read-take, write-read, write-append}
 use Rattle.ranges.specs.Span.{Span}
 use Rattle.totality.specs.Totality.{holeTo}
-use Rattle.totality.specs.inner.Merging.{readSpans, leading, Mergeable, merged, Whole}
-use Rattle.lists.proofs.Left.{Left, left-start, left-done, left-room, left-next}
+use Rattle.totality.specs.inner.Merging.{readSpans, leading, Mergeable, merged, WholeRecords}
+use Rattle.stores.proofs.Left.{Left, left-start, left-done, left-room, left-next}
 use Rattle.lists.proofs.Members.{ascending-first, ascending-rest}
 
 -- the search for the records before a hole stands at k
-module _ (run : List ℕ) (i low k : ℕ) (e : i + 5 * leading low (readRecords (drop i run)) ≡ k + 5 * leading low (readRecords (drop k run))) where
-  pub leading-ended : length run - k < 5 → k ≡ i + 5 * leading low (readRecords (drop i run))
+module _ (run : List ℕ) (i first k : ℕ) (e : i + 5 * leading first (readRecords (drop i run)) ≡ k + 5 * leading first (readRecords (drop k run))) where
+  pub leading-ended : length run - k < 5 → k ≡ i + 5 * leading first (readRecords (drop i run))
   unfolding leading
-  leading-ended h = let z : leading low (readRecords (drop k run)) ≡ 0 = rw (records-end run k h) in omega arith
+  leading-ended h = let z : leading first (readRecords (drop k run)) ≡ 0 = rw (records-end run k h) in omega arith
 
   module _ (h : 5 ≤ length run - k) where
-    pub leading-stopped : low < getD run (k + 2) 0 → k ≡ i + 5 * leading low (readRecords (drop i run))
+    pub leading-stopped : first < getD run (k + 2) 0 → k ≡ i + 5 * leading first (readRecords (drop i run))
     unfolding leading
-    leading-stopped l = let z : leading low (readRecords (drop k run)) ≡ 0 = rw (records-at run k h, lt-leb (getD run (k + 2) 0) low l) in omega arith
+    leading-stopped l = let z : leading first (readRecords (drop k run)) ≡ 0 = rw (records-at run k h, lt-leb (getD run (k + 2) 0) first l) in omega arith
 
-    pub leading-next : getD run (k + 2) 0 ≤ low → i + 5 * leading low (readRecords (drop i run)) ≡ k + 5 + 5 * leading low (readRecords (drop (k + 5) run))
+    pub leading-next : getD run (k + 2) 0 ≤ first → i + 5 * leading first (readRecords (drop i run)) ≡ k + 5 + 5 * leading first (readRecords (drop (k + 5) run))
     unfolding leading
     leading-next l =
-        let z : leading low (readRecords (drop k run)) ≡ suc (leading low (readRecords (drop (k + 5) run))) = rw (records-at run k h, le-leb (getD run (k + 2) 0) low l) in
+        let z : leading first (readRecords (drop k run)) ≡ suc (leading first (readRecords (drop (k + 5) run))) = rw (records-at run k h, le-leb (getD run (k + 2) 0) first l) in
         omega arith
 
 pub ruleset leadingLaws = (leading-ended, leading-stopped, leading-next, needs)
@@ -86,10 +86,10 @@ module _ (sink q : ℕ) where
 
   -- the transitions before a hole, the hole, and what is left of both
   pub merge-hole : (es : List Transition) (h : Span) (hs : List Span) → Mergeable sink q es (h ∷ hs)
-      → inOrder (es ++ map (holeTo sink q) (h ∷ hs)) ≡ take (leading (h .low) es) es ++ holeTo sink q h ∷ inOrder (drop (leading (h .low) es) es ++ map (holeTo sink q) hs)
+      → inOrder (es ++ map (holeTo sink q) (h ∷ hs)) ≡ take (leading (h .first) es) es ++ holeTo sink q h ∷ inOrder (drop (leading (h .first) es) es ++ map (holeTo sink q) hs)
   unfolding leading
   merge-hole [] h hs m = inOrder-first (holeTo sink q h) [] (map (holeTo sink q) hs) (ascending-first (m .holes))
-  merge-hole (e ∷ es) h hs m = go (leb (e .first) (h .low)) refl (merge-hole es h hs (less-records m))
+  merge-hole (e ∷ es) h hs m = go (leb (e .first) (h .first)) refl (merge-hole es h hs (less-records m))
     where
       before : Before e (holeTo sink q h) → (y : Transition) → y ∈ (es ++ (holeTo sink q h) ∷ map (holeTo sink q) hs) → Before e y
       before l y k =
@@ -103,21 +103,21 @@ module _ (sink q : ℕ) where
           (λ i. ascending-first (m .holes) y i)
           (List·Memᴰ·append-cases (e ∷ es) k)
 
-      go : (b : Bool) → leb (e .first) (h .low) ≡ b
-          → inOrder (es ++ map (holeTo sink q) (h ∷ hs)) ≡ take (leading (h .low) es) es ++ holeTo sink q h ∷ inOrder (drop (leading (h .low) es) es ++ map (holeTo sink q) hs)
-          → inOrder ((e ∷ es) ++ map (holeTo sink q) (h ∷ hs)) ≡ take (cond b (suc (leading (h .low) es)) 0) (e ∷ es) ++ holeTo sink q h ∷ inOrder (drop (cond b (suc (leading (h .low) es)) 0) (e ∷ es) ++ map (holeTo sink q) hs)
+      go : (b : Bool) → leb (e .first) (h .first) ≡ b
+          → inOrder (es ++ map (holeTo sink q) (h ∷ hs)) ≡ take (leading (h .first) es) es ++ holeTo sink q h ∷ inOrder (drop (leading (h .first) es) es ++ map (holeTo sink q) hs)
+          → inOrder ((e ∷ es) ++ map (holeTo sink q) (h ∷ hs)) ≡ take (cond b (suc (leading (h .first) es)) 0) (e ∷ es) ++ holeTo sink q h ∷ inOrder (drop (cond b (suc (leading (h .first) es)) 0) (e ∷ es) ++ map (holeTo sink q) hs)
       go true c ih = inOrder-first e [] (es ++ map (holeTo sink q) (h ∷ hs)) (before (m .sooner e h (List·Memᴰ·head refl) (List·Memᴰ·head refl) (leb-true _ _ c))) ∙ ap (λ l. e ∷ l) ih
       go false c ih = inOrder-first (holeTo sink q h) (e ∷ es) (map (holeTo sink q) hs) (behind (m .later e h (List·Memᴰ·head refl) (List·Memᴰ·head refl) (leb-false _ _ c)))
 
 -- spans by their place
-spans-at : (s : List ℕ) (j : ℕ) → 2 ≤ length s - j → readSpans (drop j s) ≡ record { low = getD s j 0; high = getD s (j + 1) 0 } ∷ readSpans (drop (j + 2) s)
+spans-at : (s : List ℕ) (j : ℕ) → 2 ≤ length s - j → readSpans (drop j s) ≡ record { first = getD s j 0; last = getD s (j + 1) 0 } ∷ readSpans (drop (j + 2) s)
 unfolding readSpans
 spans-at s j h = front (drop j s) (simp length-drop h) ∙ rw (drop-drop 2 j s, getD-drop j s 0 0, getD-drop j s 1 0, here)
   where
     here : j + 0 ≡ j
     here = omega arith
 
-    front : (s : List ℕ) → 2 ≤ length s → readSpans s ≡ record { low = getD s 0 0; high = getD s 1 0 } ∷ readSpans (drop 2 s)
+    front : (s : List ℕ) → 2 ≤ length s → readSpans s ≡ record { first = getD s 0 0; last = getD s 1 0 } ∷ readSpans (drop 2 s)
     front [] h = absurd (omega arith)
     front (a ∷ []) h = absurd (omega arith)
     front (a ∷ b ∷ s) h = refl
@@ -136,7 +136,7 @@ front-words : (k : ℕ) (s : List ℕ) → 5 * k ≤ length s → take (5 * k) s
 front-words k s h = sym (write-read k (take (5 * k) s) (length-take-le (5 * k) s h)) ∙ ap writeRecords (read-take k s)
 
 -- a state's records from i on and its holes from j on are left to write
-module _ (sink q : ℕ) (run holes : List ℕ) (i j : ℕ) (w : Whole (drop i run)) (m : Mergeable sink q (readRecords (drop i run)) (readSpans (drop j holes))) where
+module _ (sink q : ℕ) (run holes : List ℕ) (i j : ℕ) (w : WholeRecords (drop i run)) (m : Mergeable sink q (readRecords (drop i run)) (readSpans (drop j holes))) where
   -- no hole is left
   module _ (h : length holes - j < 2) where
     merged-end : writeRecords (merged sink q (drop i run) (drop j holes)) ≡ take (length run - i) (drop i run) ++ []
@@ -154,7 +154,7 @@ module _ (sink q : ℕ) (run holes : List ℕ) (i j : ℕ) (w : Whole (drop i ru
     unfolding n
     rest-records = rw e (ap readRecords (sym (drop-drop (5 * n) i run)) ∙ read-drop n (drop i run))
 
-    pub merge-whole : Whole (drop k run)
+    pub merge-whole : WholeRecords (drop k run)
     unfolding n
     merge-whole = omega (arith, ap length rest-records, length-drop n (readRecords (drop i run)), length-drop k run, length-drop i run, w)
 
@@ -165,14 +165,14 @@ module _ (sink q : ℕ) (run holes : List ℕ) (i j : ℕ) (w : Whole (drop i ru
     unfolding merged n writeRecords
     merged-at =
         let es = readRecords (drop i run) in
-        let s : Span = record { low = getD holes j 0; high = getD holes (j + 1) 0 } in
+        let s : Span = record { first = getD holes j 0; last = getD holes (j + 1) 0 } in
         let hs = readSpans (drop (j + 2) holes) in
         let d : k - i ≡ 5 * n = omega arith in
         let r : Mergeable sink q es (s ∷ hs) = rw (spans-at holes j h) at m in
         rw (spans-at holes j h, merge-hole sink q es s hs r, write-append (take n es) (holeTo sink q s ∷ inOrder (drop n es ++ map (holeTo sink q) hs)), rest-records, d)
         (ap (λ l. l ++ writeRecords (holeTo sink q s ∷ inOrder (drop n es ++ map (holeTo sink q) hs))) (sym (front-words n (drop i run) (omega (arith, length-drop i run)))))
 
-module _ (o₀ : List ℕ) (at : ℕ) (all o : List ℕ) (end : ℕ) (sink q : ℕ) (run holes : List ℕ) (i j : ℕ) (l : Left o₀ at all o end (writeRecords (merged sink q (drop i run) (drop j holes)))) (w : Whole (drop i run)) (m : Mergeable sink q (readRecords (drop i run)) (readSpans (drop j holes))) where
+module _ (o₀ : List ℕ) (at : ℕ) (all o : List ℕ) (end : ℕ) (sink q : ℕ) (run holes : List ℕ) (i j : ℕ) (l : Left o₀ at all o end (writeRecords (merged sink q (drop i run) (drop j holes)))) (w : WholeRecords (drop i run)) (m : Mergeable sink q (readRecords (drop i run)) (readSpans (drop j holes))) where
   module _ (h : length holes - j < 2) where
     pub rest-room : at + length all ≤ length o₀ → end + length (take (length run - i) (drop i run)) ≤ length o
     rest-room r = left-room o₀ at all o end _ l (take (length run - i) (drop i run)) [] (merged-end sink q run holes i j w m h) r

@@ -57,7 +57,7 @@ module _ (s b o l : List ℕ) (r : Bool) (e : r ≡ (ltb (length o) 10500 || ltb
 pub ruleset checkLaws = (inputs-short, inputs-sheet, inputs-labels, inputs-good, check-accepted, needs)
 
 -- inputs without a refusal
-pub record Passed (s b o l : List ℕ) : Type 0 where
+pub record AcceptedInputs (s b o l : List ℕ) : Type 0 where
   pub sheet : Accepted s
   pub label-list : labelsFault (stateCount s) b ≡ 0
   pub words : 10500 ≤ length o
@@ -66,7 +66,7 @@ pub record Passed (s b o l : List ℕ) : Type 0 where
 -- the inputs pass, and any answer stands; or they have a refusal, and it comes first
 module _ {X : Type 0} (s b o l : List ℕ) (a : Answer X) where
   inputs-cases :
-      (Passed s b o l × (inputsFirst s b o l passed ≡ passed) × (inputsFirst s b o l a ≡ a))
+      (AcceptedInputs s b o l × (inputsFirst s b o l passed ≡ passed) × (inputsFirst s b o l a ≡ a))
       ⊎ ((n : ℕ) × (inputsFirst s b o l passed ≡ refused n) × (inputsFirst s b o l a ≡ refused n))
   unfolding inputsFirst sheetFirst labelsFirst
   inputs-cases =
@@ -95,7 +95,7 @@ module _ {X : Type 0} (s b o l : List ℕ) (a : Answer X) where
       (test r)
 
   module _ (r : inputs.Inputs) (e : inputsOf r ≡ inputsFirst s b o l passed) where
-    pub passed-inputs : r ≡ input.Good → Passed s b o l × (inputsFirst s b o l a ≡ a)
+    pub passed-inputs : r ≡ input.Good → AcceptedInputs s b o l × (inputsFirst s b o l a ≡ a)
     passed-inputs h =
         ⊎-elim (λ c. (c .0, c .2))
         (λ c.

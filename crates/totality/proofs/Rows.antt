@@ -11,90 +11,84 @@ use borrow.Author.Tests.{ltb-true, ltb-false, eqb-true, eqb-false, ne-eqb, lt-lt
 use lib.Dec.{ltb, eqb}
 use lib.ListN.{length, take, drop, length-append, take-append-drop}
 use Rattle.lists.specs.Lists.{_∈_, filter, tabulate, Ascending, none, more}
-use Rattle.lists.specs.Written.{Written}
+use Rattle.stores.specs.Written.{Written}
 use Rattle.lists.proofs.Tests.{test}
 use Rattle.lists.proofs.Lists.{filter-all, filter-none, tabulate-end}
 use Rattle.lists.proofs.Members.{ascending-filter}
-use Rattle.automata.specs.Automaton.{Transition, Automaton, leaving, rangesOf, states}
+use Rattle.automata.specs.Automaton.{Transition, Automaton, leaving, states}
 use Rattle.automata.specs.Ordered.{inOrder}
 use Rattle.automata.specs.Records.{readRecords, writeRecords}
 use Rattle.automata.specs.WellFormed.{here, later, Before, WellFormed}
 use Rattle.automata.proofs.Leaving.{leaves, leaving-range}
 use Rattle.automata.proofs.Ordered.{inOrder-same}
 use Rattle.automata.proofs.Records.{read-write, length-write, write-append}
-use Rattle.ranges.specs.Missing.{Holes, SpansApart}
+use Rattle.nondeterminism.specs.Nondeterminism.{holesOf, holesIn}
+use Rattle.nondeterminism.specs.inner.Holes.{HolesInputs}
+use Rattle.nondeterminism.proofs.Holes.{state-holes}
+use Rattle.nondeterminism.proofs.States.{run-records, run-sorted, run-room, state-run}
+use Rattle.ranges.specs.Missing.{SpansApart}
 use Rattle.ranges.specs.Span.{Span}
-use Rattle.ranges.proofs.Missing.{missing-holes}
 use Rattle.ranges.proofs.Held.{held}
-use Rattle.ranges.proofs.Sorting.{leaving-sorted}
 use Rattle.sheets.specs.Sheet.{stateCount, read}
 use Rattle.sheets.proofs.Meaning.{read-well}
-use Rattle.totality.specs.inner.Merging.{leading, Mergeable, Fillable, HolesInputs}
-use Rattle.totality.specs.Totality.{holesOf, holeTo, filled, filledIn, totalized, holesIn}
-use Rattle.lists.proofs.Left.{Left, left-start, left-done, left-room, left-next}
+use Rattle.totality.specs.inner.Merging.{leading, Mergeable, Fillable}
+use Rattle.totality.specs.Totality.{holeTo, filled, filledIn, totalized}
+use Rattle.stores.proofs.Left.{Left, left-start, left-done, left-room, left-next}
 use Rattle.totality.proofs.Merging.{merge-hole, drop-records, less-holes}
 use Rattle.automata.proofs.States.{states-at, states-end}
-use Rattle.totality.proofs.States.{run-records, run-sorted, run-room, ready-run}
 
 -- the transitions of one state
-module _ (A : Automaton) (w : WellFormed A) (q : ℕ) where
-  module _ (lower upper : ℕ) where
-    -- its holes are the maximal runs of symbols that none of its ranges holds
-    pub state-holes : Holes lower upper (rangesOf (leaving A q)) (holesOf lower upper (leaving A q))
-    unfolding holesOf
-    state-holes = missing-holes lower upper (rangesOf (leaving A q)) (leaving-sorted A q w .full)
+module _ (A : Automaton) (w : WellFormed A) (q lower upper sink : ℕ) where
+  holes-ascend : {hs : List Span} → Ascending SpansApart hs → ((h : Span) → h ∈ hs → h .first ≤ h .last) → Ascending Before (map (holeTo sink q) hs)
+  holes-ascend none f = none
+  holes-ascend (more {x = s} {l = hs} g a) f =
+      more
+      (λ y m.
+      let (h, k, e) = Memᴰ·of-map (holeTo sink q) hs m in
+      let l : s .first < h .first = omega (arith, g h k, f s (List·Memᴰ·head refl)) in
+      subst (Before (holeTo sink q s)) e (later refl (later refl (here l))))
+      (holes-ascend a (λ h m. f h (List·Memᴰ·tail m)))
 
-    module _ (sink : ℕ) where
-      holes-ascend : {hs : List Span} → Ascending SpansApart hs → ((h : Span) → h ∈ hs → h .low ≤ h .high) → Ascending Before (map (holeTo sink q) hs)
-      holes-ascend none f = none
-      holes-ascend (more {x = s} {l = hs} g a) f =
-          more
-          (λ y m.
-          let (h, k, e) = Memᴰ·of-map (holeTo sink q) hs m in
-          let l : s .low < h .low = omega (arith, g h k, f s (List·Memᴰ·head refl)) in
-          subst (Before (holeTo sink q s)) e (later refl (later refl (here l))))
-          (holes-ascend a (λ h m. f h (List·Memᴰ·tail m)))
+  -- the holes of a state can be merged with its transitions
+  pub state-mergeable : Mergeable sink q (leaving A q) (holesOf lower upper (leaving A q))
+  state-mergeable =
+      record {
+        records = unfold leaving in ascending-filter (λ e. eqb (e .from) q) (w .ascends);
+        holes = holes-ascend (state-holes A w q lower upper .ascends) (state-holes A w q lower upper .full);
+        later = λ e h m n l. hole-first e h m l (range-kind e m l);
+        sooner = λ e h m n l. ⊎-elim (λ k. epsilon-first e h m k) (λ k. range-first e h m k (first-below e h m n l k)) (kinds e m);
+      }
+    where
+      kinds : (e : Transition) → e ∈ leaving A q → (e .kind ≡ 0) ⊎ (e .kind ≡ 1)
+      kinds e m =
+          let k = w .sound e (leaves A q e m .0) .known in
+          ⊎-elim (λ c. inr c) (λ (c : e .kind < 1). inl (omega arith)) (eq-or-lt-of-le k)
 
-      -- and they can be merged with its transitions
-      pub state-mergeable : Mergeable sink q (leaving A q) (holesOf lower upper (leaving A q))
-      state-mergeable =
-          record {
-            records = unfold leaving in ascending-filter (λ e. eqb (e .from) q) (w .ascends);
-            holes = holes-ascend (state-holes .ascends) (state-holes .full);
-            later = λ e h m n l. hole-first e h m l (range-kind e m l);
-            sooner = λ e h m n l. ⊎-elim (λ k. epsilon-first e h m k) (λ k. range-first e h m k (below-low e h m n l k)) (kinds e m);
-          }
-        where
-          kinds : (e : Transition) → e ∈ leaving A q → (e .kind ≡ 0) ⊎ (e .kind ≡ 1)
-          kinds e m =
-              let k = w .sound e (leaves A q e m .0) .known in
-              ⊎-elim (λ c. inr c) (λ (c : e .kind < 1). inl (omega arith)) (eq-or-lt-of-le k)
+      range-kind : (e : Transition) → e ∈ leaving A q → {x : ℕ} → x < e .first → e .kind ≡ 1
+      range-kind e m l = ⊎-elim (λ k. absurd (omega (arith, w .sound e (leaves A q e m .0) .blank k .0))) (λ k. k) (kinds e m)
 
-          range-kind : (e : Transition) → e ∈ leaving A q → {x : ℕ} → x < e .first → e .kind ≡ 1
-          range-kind e m l = ⊎-elim (λ k. absurd (omega (arith, w .sound e (leaves A q e m .0) .blank k .0))) (λ k. k) (kinds e m)
+      hole-first : (e : Transition) (h : Span) → e ∈ leaving A q → h .first < e .first → e .kind ≡ 1 → Before (holeTo sink q h) e
+      hole-first e h m l k = later (sym (leaves A q e m .1)) (later (sym k) (here l))
 
-          hole-first : (e : Transition) (h : Span) → e ∈ leaving A q → h .low < e .first → e .kind ≡ 1 → Before (holeTo sink q h) e
-          hole-first e h m l k = later (sym (leaves A q e m .1)) (later (sym k) (here l))
+      epsilon-first : (e : Transition) (h : Span) → e ∈ leaving A q → e .kind ≡ 0 → Before e (holeTo sink q h)
+      epsilon-first e h m k = let l : e .kind < 1 = omega arith in later (leaves A q e m .1) (here l)
 
-          epsilon-first : (e : Transition) (h : Span) → e ∈ leaving A q → e .kind ≡ 0 → Before e (holeTo sink q h)
-          epsilon-first e h m k = let l : e .kind < 1 = omega arith in later (leaves A q e m .1) (here l)
+      first-below : (e : Transition) (h : Span) → e ∈ leaving A q → h ∈ holesOf lower upper (leaving A q) → e .first ≤ h .first → e .kind ≡ 1 → e .first < h .first
+      first-below e h m n l k =
+          let free = state-holes A w q lower upper .exact (h .first) .0 (h, n, record { above = omega arith; below = state-holes A w q lower upper .full h n }) .2 in
+          ⊎-elim
+          (λ (c : e .first ≡ h .first).
+          absurd (false≢true (sym (free e (leaving-range A q e m k)) ∙ held (h .first) e (omega arith) (let f = w .sound e (leaves A q e m .0) .full in omega arith))))
+          (λ c. c) (eq-or-lt-of-le l)
 
-          below-low : (e : Transition) (h : Span) → e ∈ leaving A q → h ∈ holesOf lower upper (leaving A q) → e .first ≤ h .low → e .kind ≡ 1 → e .first < h .low
-          below-low e h m n l k =
-              let free = state-holes .exact (h .low) .0 (h, n, record { above = omega arith; below = state-holes .full h n }) .2 in
-              ⊎-elim
-              (λ (c : e .first ≡ h .low).
-              absurd (false≢true (sym (free e (leaving-range A q e m k)) ∙ held (h .low) e (omega arith) (let f = w .sound e (leaves A q e m .0) .full in omega arith))))
-              (λ c. c) (eq-or-lt-of-le l)
-
-          range-first : (e : Transition) (h : Span) → e ∈ leaving A q → e .kind ≡ 1 → e .first < h .low → Before e (holeTo sink q h)
-          range-first e h m k l = later (leaves A q e m .1) (later k (here l))
+      range-first : (e : Transition) (h : Span) → e ∈ leaving A q → e .kind ≡ 1 → e .first < h .first → Before e (holeTo sink q h)
+      range-first e h m k l = later (leaves A q e m .1) (later k (here l))
 
 -- merging loses nothing
 pub length-merged : (sink q : ℕ) (es : List Transition) (hs : List Span) → Mergeable sink q es hs → length (inOrder (es ++ map (holeTo sink q) hs)) ≡ length es + length hs
 length-merged sink q es [] m = ap length (ap inOrder (append-nil es) ∙ inOrder-same es (m .records)) ∙ omega arith
 length-merged sink q es (h ∷ hs) m =
-    let n = leading (h .low) es in
+    let n = leading (h .first) es in
     let rest = inOrder (drop n es ++ map (holeTo sink q) hs) in
     let ih : length rest ≡ length (drop n es) + length hs = length-merged sink q (drop n es) hs (drop-records sink q n es (less-holes sink q m)) in
     omega
@@ -184,4 +178,4 @@ module _ (o₀ : List ℕ) (at : ℕ) (all o : List ℕ) (end lower upper : ℕ)
         → Left o₀ at all o′ end′ (writeRecords (filledIn lower upper (read s) (drop (q + 1) (states (stateCount s)))))
     rows-next o′ end′ v = left-next o₀ at all o end _ l (writeRecords (filled lower upper (stateCount s) q (readRecords run))) _ rows-at o′ end′ v
 
-pub ruleset rowsLaws = (left-start, rows-done, rows-room, rows-next, run-fillable, ready-run, needs)
+pub ruleset rowsLaws = (left-start, rows-done, rows-room, rows-next, run-fillable, state-run, needs)

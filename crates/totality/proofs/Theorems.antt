@@ -1,16 +1,9 @@
--- What is proved of `is_nfa`, `totalize` and `complement` (document 01, "Product, totality, complement, emptiness").
+-- What is proved of `totalize` and `complement` (document 01, "Product, totality, complement, emptiness").
 --
 -- Of a well-formed automaton, as an accepted sheet reads; `lower` and `upper` are the least and the greatest symbol:
---   nfa-settled            `is_nfa` is false exactly where no state has an epsilon, an overlap or a hole
---   nfa-unsettled          and true exactly where there is one of them
---   nfa-exact              it is false exactly where every symbol has one transition in every state and no epsilon stands
---   nfa-sheet              the same of a sheet of 32-bit words
 --   totalize-words         totalizing keeps the words
 --   totalize-total         and then every symbol has a transition in every state
 --   complement-words       where no epsilon and no overlap stood, the complement accepts the other words
--- Of the call of `is_nfa` on the sheet s, from its contract:
---   is-nfa-yes, is-nfa-no, is-nfa-deterministic, is-nfa-refused
---                          where each answer is given, exactly
 -- Of the call of `totalize` on the sheet s with the labels b, from its contract:
 --   totalize-left          where lengths are answered, the totalized automaton and its labels stand in the outputs
 --   totalize-left-words    the sheet left accepts the words that s accepts
@@ -27,113 +20,48 @@
 --                          where each number is answered, exactly
 --   complement-unchanged   a refusal leaves both outputs as they were
 use Prim.Native.Nat.{ℕ, _≤_, _<_}
-use mathlib.Core.Bool.{Bool, true, false, cond}
+use mathlib.Core.Bool.{true, cond}
 use mathlib.Core.List.{List, [], _∷_, _++_}
 use mathlib.Core.Logic.{_↔_}
-use mathlib.Core.Path.{_≡_, sym, _∙_, ap, subst}
+use mathlib.Core.Path.{_≡_, sym, subst}
 use native.Mathlib.Omega.{arith}
-use lib.ListN.{getD, take}
-use Rattle.lists.specs.Lists.{_∈_}
-use Rattle.automata.specs.Automaton.{Transition, Automaton, Accepts, Word, leaving, EpsilonFree}
-use Rattle.automata.specs.Deterministic.{Deterministic}
+use lib.ListN.{take}
+use Rattle.automata.specs.Automaton.{Automaton, Accepts, Word, EpsilonFree}
 use Rattle.automata.specs.WellFormed.{WellFormed, Fits, lastSymbol}
 use Rattle.labels.specs.Forms.{sinkLabel}
 use Rattle.labels.specs.Labels.{labelsFault, readLabels}
+use Rattle.nondeterminism.specs.Nondeterminism.{isNfa, CompleteAutomaton}
 use Rattle.output.specs.declared.Made.{Made}
 use Rattle.output.specs.declared.Made.the-variants.{Lengths}
 use Rattle.output.specs.Left.{madeNumber, Room, Leaves, Unchanged}
 use Rattle.output.specs.Made.{outputOf}
-use Rattle.output.specs.Output.{Pattern, outputs, roomFirst}
+use Rattle.output.specs.Output.{Pattern, outputs}
 use Rattle.output.proofs.Left.{call-refused}
 use Rattle.ranges.specs.Span.{OverlapFree}
-use Rattle.refusal.specs.Answer.{refused, given}
-use Rattle.refusal.specs.Decision.{decisionOf}
-use Rattle.refusal.specs.declared.Decision.{Decision}
-use Rattle.refusal.specs.declared.Decision.the-variants.{Is}
 use Rattle.sheets.specs.Fault.{fault}
 use Rattle.sheets.specs.Sheet.{stateCount, read}
-use Rattle.sheets.proofs.Decisions.{call-is, given-not}
 use Rattle.sheets.proofs.Accepted.{accepted}
 use Rattle.sheets.proofs.Meaning.{read-well}
-use Rattle.sheets.proofs.Numbers.{sheet-given, sheet-fault}
-use Rattle.totality.specs.Answers.{totalPattern, complementPattern, isNfaAnswer, totalizeAnswer, complementAnswer}
-use Rattle.totality.specs.Totality.{isNfa, Settled, Unsettled, Complete, totalized, transitionCount, complemented}
-use Rattle.totality.proofs.Deterministic.{settled-exact, unsettled-exact, deterministic-exact, other-words, read-within}
+use Rattle.totality.specs.Answers.{totalPattern, complementPattern, totalizeAnswer, complementAnswer}
+use Rattle.totality.specs.Totality.{totalized, transitionCount, complemented}
 use Rattle.totality.proofs.Limits.{made-lengths, made-20, made-fault, made-10, made-limit, made-accepted, made-leaves, total-21, total-22, complemented-21, complemented-22, total-writable, complement-writable}
-use Rattle.totality.proofs.Words.{words-kept, total-complete}
+use Rattle.totality.proofs.Words.{words-kept, total-complete, other-words}
 
-module _ (lower upper : ℕ) (A : Automaton) where
-  -- `is_nfa` is false exactly where no state has an epsilon, an overlap or a hole
-  pub nfa-settled : (isNfa lower upper A ≡ false) ↔ ((q : ℕ) → q < A .size → Settled lower upper (leaving A q))
-  nfa-settled = settled-exact lower upper A
+module _ (lower upper : ℕ) (A : Automaton) (v : WellFormed A) where
+  -- totalizing keeps the words
+  pub totalize-words : (w : List ℕ) → Accepts (totalized lower upper A) w ↔ Accepts A w
+  totalize-words = words-kept lower upper A v
 
-  module _ (v : WellFormed A) where
-    -- and true exactly where there is one of them
-    pub nfa-unsettled : (isNfa lower upper A ≡ true) ↔ Unsettled lower upper A
-    nfa-unsettled = unsettled-exact lower upper A v
+  -- and then every symbol has a transition in every state
+  pub totalize-total : CompleteAutomaton lower upper (totalized lower upper A)
+  totalize-total = total-complete lower upper A v
 
-    -- it is false exactly where every symbol has one transition in every state and no epsilon stands
-    pub nfa-exact : ((e : Transition) → e ∈ A .transitions → e .kind ≡ 1 → (lower ≤ e .first) × (e .last ≤ upper)) → (isNfa lower upper A ≡ false) ↔ Deterministic lower upper A
-    nfa-exact = deterministic-exact lower upper A v
-
-    -- totalizing keeps the words
-    pub totalize-words : (w : List ℕ) → Accepts (totalized lower upper A) w ↔ Accepts A w
-    totalize-words = words-kept lower upper A v
-
-    -- and then every symbol has a transition in every state
-    pub totalize-total : Complete lower upper (totalized lower upper A)
-    totalize-total = total-complete lower upper A v
-
-    -- where no epsilon and no overlap stood, the complement accepts the other words
-    pub complement-words : lower ≤ upper → EpsilonFree A → OverlapFree A → (w : List ℕ) → Word lower upper w → Accepts (complemented lower upper A) w ↔ (Accepts A w → ⊥)
-    complement-words = other-words lower upper A v
-
--- of a sheet of 32-bit words `is_nfa` is false exactly where every symbol has one transition in every state and no epsilon stands
-pub nfa-sheet : (s : List ℕ) → fault s ≡ 0 → ((i : ℕ) → getD s i 0 ≤ lastSymbol) → (isNfa 0 lastSymbol (read s) ≡ false) ↔ Deterministic 0 lastSymbol (read s)
-nfa-sheet s f h = nfa-exact 0 lastSymbol (read s) (read-well s (accepted s f)) (read-within s h)
-
--- the call of `is_nfa` on the sheet s: r is its answer
-module _ (s : List ℕ) (r : Decision) (call : decisionOf r ≡ isNfaAnswer 0 lastSymbol s) where
-  decided : (t : Bool) → (r ≡ Is t) ↔ ((fault s ≡ 0) × (isNfa 0 lastSymbol (read s) ≡ t))
-  unfolding isNfaAnswer
-  decided t =
-      let c = call-is r (isNfaAnswer 0 lastSymbol s) call t in
-      let p = sheet-given s (given (isNfa 0 lastSymbol (read s))) t in
-      (λ e. let (f, g) = p .0 (c .0 e) in (f, same g), λ (f, g). c .1 (p .1 (f, ap given g)))
-    where
-      same : {x y : Bool} → given x ≡ given y → x ≡ y
-      same e = cc
-
-  -- the answer is yes exactly where the sheet has no fault, and an epsilon, an overlap or a hole
-  pub is-nfa-yes : (r ≡ Is true) ↔ ((fault s ≡ 0) × Unsettled 0 lastSymbol (read s))
-  is-nfa-yes = (
-    λ e. let (f, t) = decided true .0 e in (f, nfa-unsettled 0 lastSymbol (read s) (read-well s (accepted s f)) .0 t),
-    λ (f, u). decided true .1 (f, nfa-unsettled 0 lastSymbol (read s) (read-well s (accepted s f)) .1 u),
-  )
-
-  -- it is no exactly where the sheet has no fault, and no state has an epsilon, an overlap or a hole
-  pub is-nfa-no : (r ≡ Is false) ↔ ((fault s ≡ 0) × ((q : ℕ) → q < stateCount s → Settled 0 lastSymbol (leaving (read s) q)))
-  is-nfa-no = (
-    λ e. let (f, t) = decided false .0 e in (f, nfa-settled 0 lastSymbol (read s) .0 t),
-    λ (f, u). decided false .1 (f, nfa-settled 0 lastSymbol (read s) .1 u),
-  )
-
-  -- on a sheet of 32-bit words it is no exactly where every symbol has one transition in every state and no epsilon stands
-  pub is-nfa-deterministic : ((i : ℕ) → getD s i 0 ≤ lastSymbol) → (r ≡ Is false) ↔ ((fault s ≡ 0) × Deterministic 0 lastSymbol (read s))
-  is-nfa-deterministic h = (
-    λ e. let (f, t) = decided false .0 e in (f, nfa-sheet s f h .0 t),
-    λ (f, d). decided false .1 (f, nfa-sheet s f h .1 d),
-  )
-
-  -- it is refused with a number exactly where the sheet has that fault
-  pub is-nfa-refused : (m : ℕ) → 0 < m → (decisionOf r ≡ refused m) ↔ (fault s ≡ m)
-  unfolding isNfaAnswer
-  is-nfa-refused m l =
-      let p = sheet-fault s (given (isNfa 0 lastSymbol (read s))) m l (given-not _ _) in
-      (λ e. p .0 (sym call ∙ e), λ f. call ∙ p .1 f)
+  -- where no epsilon and no overlap stood, the complement accepts the other words
+  pub complement-words : lower ≤ upper → EpsilonFree A → OverlapFree A → (w : List ℕ) → Word lower upper w → Accepts (complemented lower upper A) w ↔ (Accepts A w → ⊥)
+  complement-words = other-words lower upper A v
 
 -- the call of `totalize` on the sheet s with the labels b: r is its answer, o and l are the outputs before it, o′ and l′ after it
-module _ (s b o l o′ l′ : List ℕ) (r : Made) (call : outputOf r o′ l′ ≡ outputs o l (roomFirst o l (totalizeAnswer 0 lastSymbol s b))) where
+module _ (s b o l o′ l′ : List ℕ) (r : Made) (call : outputOf r o′ l′ ≡ outputs o l (totalizeAnswer 0 lastSymbol s b o l)) where
   abbrev total : Pattern
   total = totalPattern 0 lastSymbol (read s) (readLabels b)
 
@@ -152,8 +80,8 @@ module _ (s b o l o′ l′ : List ℕ) (r : Made) (call : outputOf r o′ l′ 
     totalize-left-words v = subst (λ (A : Automaton). Accepts A v ↔ Accepts (read s) v) (sym (totalize-left .reads)) (totalize-words 0 lastSymbol (read s) well-read v)
 
     -- in it every symbol has a transition in every state
-    pub totalize-left-total : Complete 0 lastSymbol (read (take w o′))
-    totalize-left-total = subst (Complete 0 lastSymbol) (sym (totalize-left .reads)) (totalize-total 0 lastSymbol (read s) well-read)
+    pub totalize-left-total : CompleteAutomaton 0 lastSymbol (read (take w o′))
+    totalize-left-total = subst (CompleteAutomaton 0 lastSymbol) (sym (totalize-left .reads)) (totalize-total 0 lastSymbol (read s) well-read)
 
   -- nothing is refused exactly where there is room, nothing has a fault and the result is within the limits
   pub totalize-lengths : (madeNumber r ≡ 0) ↔ (Room o l × (fault s ≡ 0) × (labelsFault (stateCount s) b ≡ 0) × Fits (totalized 0 lastSymbol (read s)))
@@ -189,51 +117,52 @@ module _ (s b o l o′ l′ : List ℕ) (r : Made) (call : outputOf r o′ l′ 
 
   -- a refusal leaves both outputs as they were
   pub totalize-unchanged : (madeNumber r ≡ 0 → ⊥) → Unchanged o l o′ l′
-  totalize-unchanged = call-refused o l o′ l′ r (totalizeAnswer 0 lastSymbol s b) call
+  unfolding totalizeAnswer
+  totalize-unchanged = call-refused o l o′ l′ r _ call
 
 -- the call of `complement` likewise
-module _ (s b o l o′ l′ : List ℕ) (r : Made) (call : outputOf r o′ l′ ≡ outputs o l (roomFirst o l (complementAnswer 0 lastSymbol s b))) where
-  abbrev turned : Pattern
-  turned = complementPattern 0 lastSymbol (read s) (readLabels b)
+module _ (s b o l o′ l′ : List ℕ) (r : Made) (call : outputOf r o′ l′ ≡ outputs o l (complementAnswer 0 lastSymbol s b o l)) where
+  abbrev complement-pattern : Pattern
+  complement-pattern = complementPattern 0 lastSymbol (read s) (readLabels b)
 
   module _ (w n : ℕ) (lengths : r ≡ Lengths w n) where
     -- the complement stands in the one output, and the labels of the input in the other, with `sink` where it totalizes
     pub complement-left : Leaves o l o′ l′ w n (complemented 0 lastSymbol (read s)) (cond (isNfa 0 lastSymbol (read s)) (readLabels b ++ sinkLabel ∷ []) (readLabels b))
     unfolding complementAnswer complementPattern
-    complement-left = made-leaves s b turned o l o′ l′ r call w n lengths (λ f. complement-writable 0 lastSymbol s b f (omega arith))
+    complement-left = made-leaves s b complement-pattern o l o′ l′ r call w n lengths (λ f. complement-writable 0 lastSymbol s b f (omega arith))
 
     -- where the input has no epsilon and no overlap, the sheet left accepts the other words
     pub complement-left-words : EpsilonFree (read s) → OverlapFree (read s) → (v : List ℕ) → Word 0 lastSymbol v → Accepts (read (take w o′)) v ↔ (Accepts (read s) v → ⊥)
     unfolding complementAnswer
     complement-left-words ranges apart v i =
-        let well = read-well s (accepted s (made-accepted s b turned o l o′ l′ r call w n lengths)) in
+        let well = read-well s (accepted s (made-accepted s b complement-pattern o l o′ l′ r call w n lengths)) in
         subst (λ (A : Automaton). Accepts A v ↔ (Accepts (read s) v → ⊥)) (sym (complement-left .reads)) (complement-words 0 lastSymbol (read s) well (omega arith) ranges apart v i)
 
   -- nothing is refused exactly where there is room, nothing has a fault and the result is within the limits
   pub complement-lengths : (madeNumber r ≡ 0) ↔ (Room o l × (fault s ≡ 0) × (labelsFault (stateCount s) b ≡ 0) × Fits (complemented 0 lastSymbol (read s)))
   unfolding complementAnswer complementPattern
-  complement-lengths = made-lengths s b turned o l o′ l′ r call
+  complement-lengths = made-lengths s b complement-pattern o l o′ l′ r call
 
   -- 20 exactly where an output is too short
   pub complement-20 : (madeNumber r ≡ 20) ↔ (Room o l → ⊥)
   unfolding complementAnswer
-  complement-20 = made-20 s b turned o l o′ l′ r call
+  complement-20 = made-20 s b complement-pattern o l o′ l′ r call
 
   -- 1 to 6 exactly where there is room and the sheet has that fault
   pub complement-fault : (m : ℕ) → 1 ≤ m → m ≤ 6 → (madeNumber r ≡ m) ↔ (Room o l × (fault s ≡ m))
   unfolding complementAnswer
-  complement-fault = made-fault s b turned o l o′ l′ r call
+  complement-fault = made-fault s b complement-pattern o l o′ l′ r call
 
   -- 10 exactly where there is room, the sheet has no fault and the labels have one
   pub complement-10 : (madeNumber r ≡ 10) ↔ (Room o l × (fault s ≡ 0) × (labelsFault (stateCount s) b ≡ 10))
   unfolding complementAnswer
-  complement-10 = made-10 s b turned o l o′ l′ r call
+  complement-10 = made-10 s b complement-pattern o l o′ l′ r call
 
   -- 21 exactly where there is room, nothing has a fault, `is_nfa` is true and there are 256 states
   pub complement-21 : (madeNumber r ≡ 21) ↔ (Room o l × (fault s ≡ 0) × (labelsFault (stateCount s) b ≡ 0) × (isNfa 0 lastSymbol (read s) ≡ true) × (stateCount s ≡ 256))
   unfolding complementAnswer
   complement-21 =
-      let c = made-limit s b turned o l o′ l′ r call 21 (omega arith) ((isNfa 0 lastSymbol (read s) ≡ true) × (stateCount s ≡ 256)) (complemented-21 0 lastSymbol s b) in
+      let c = made-limit s b complement-pattern o l o′ l′ r call 21 (omega arith) ((isNfa 0 lastSymbol (read s) ≡ true) × (stateCount s ≡ 256)) (complemented-21 0 lastSymbol s b) in
       (λ h. let (k, f, g, x) = c .0 h in (k, f, g, x .0, x .1), λ (k, f, g, i, j). c .1 (k, f, g, (i, j)))
 
   -- 22 exactly where there is room, nothing has a fault, `is_nfa` is true, and there are fewer than 256 states and over 2,048 transitions
@@ -241,9 +170,10 @@ module _ (s b o l o′ l′ : List ℕ) (r : Made) (call : outputOf r o′ l′ 
       ↔ (Room o l × (fault s ≡ 0) × (labelsFault (stateCount s) b ≡ 0) × (isNfa 0 lastSymbol (read s) ≡ true) × (stateCount s < 256) × (2048 < transitionCount 0 lastSymbol (read s)))
   unfolding complementAnswer
   complement-22 =
-      let c = made-limit s b turned o l o′ l′ r call 22 (omega arith) ((isNfa 0 lastSymbol (read s) ≡ true) × (stateCount s < 256) × (2048 < transitionCount 0 lastSymbol (read s))) (complemented-22 0 lastSymbol s b) in
+      let c = made-limit s b complement-pattern o l o′ l′ r call 22 (omega arith) ((isNfa 0 lastSymbol (read s) ≡ true) × (stateCount s < 256) × (2048 < transitionCount 0 lastSymbol (read s))) (complemented-22 0 lastSymbol s b) in
       (λ h. let (k, f, g, x) = c .0 h in (k, f, g, x .0, x .1, x .2), λ (k, f, g, i, j, m). c .1 (k, f, g, (i, j, m)))
 
   -- a refusal leaves both outputs as they were
   pub complement-unchanged : (madeNumber r ≡ 0 → ⊥) → Unchanged o l o′ l′
-  complement-unchanged = call-refused o l o′ l′ r (complementAnswer 0 lastSymbol s b) call
+  unfolding complementAnswer
+  complement-unchanged = call-refused o l o′ l′ r _ call

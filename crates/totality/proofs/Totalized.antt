@@ -14,25 +14,26 @@ use Rattle.automata.specs.Automaton.{Transition, Automaton, leaving, states}
 use Rattle.automata.specs.WellFormed.{here, Before, Sound, WellFormed}
 use Rattle.automata.proofs.Ordered.{inOrder-in, inOrder-out, inOrder-ascending}
 use Rattle.ranges.specs.Span.{Span}
-use Rattle.totality.specs.Totality.{holesOf, holeTo, filled, filledIn, loopOn, totalized, otherWord, flipped, complemented, isNfa}
+use Rattle.nondeterminism.specs.Nondeterminism.{holesOf, isNfa}
+use Rattle.nondeterminism.proofs.Holes.{state-holes}
+use Rattle.totality.specs.Totality.{holeTo, filled, filledIn, loopOn, totalized, otherWord, flipped, complemented}
 use Rattle.automata.proofs.Leaving.{leaves, leaving-in}
-use Rattle.totality.proofs.Rows.{state-holes}
 use Rattle.lists.proofs.Every.{flat-in, flat-out}
 use Rattle.lists.proofs.Members.{ascending-append}
 use Rattle.automata.proofs.States.{states-in, states-out, states-ascend}
 
 -- a transition of the totalized automaton is one that was there, a hole that is led to the sink, or the sink's loop
-pub data Origin (lower upper : ℕ) (A : Automaton) (e : Transition) : Type 0 where
-  kept : e ∈ A .transitions → Origin lower upper A e
-  hole : (q : ℕ) (h : Span) → q < A .size → h ∈ holesOf lower upper (leaving A q) → e ≡ holeTo (A .size) q h → Origin lower upper A e
-  loop : e ≡ loopOn lower upper (A .size) → Origin lower upper A e
+pub data TotalizedTransition (lower upper : ℕ) (A : Automaton) (e : Transition) : Type 0 where
+  kept : e ∈ A .transitions → TotalizedTransition lower upper A e
+  hole : (q : ℕ) (h : Span) → q < A .size → h ∈ holesOf lower upper (leaving A q) → e ≡ holeTo (A .size) q h → TotalizedTransition lower upper A e
+  loop : e ≡ loopOn lower upper (A .size) → TotalizedTransition lower upper A e
 
 module _ (lower upper : ℕ) (A : Automaton) (w : WellFormed A) where
-  pub origin : (e : Transition) → e ∈ totalized lower upper A .transitions → Origin lower upper A e
+  pub origin : (e : Transition) → e ∈ totalized lower upper A .transitions → TotalizedTransition lower upper A e
   unfolding totalized filledIn filled
   origin e m = ⊎-elim inside (λ k. loop (List·Memᴰ·eq-of-singleton k)) (List·Memᴰ·append-cases (filledIn lower upper A (states (A .size))) m)
     where
-      inside : e ∈ filledIn lower upper A (states (A .size)) → Origin lower upper A e
+      inside : e ∈ filledIn lower upper A (states (A .size)) → TotalizedTransition lower upper A e
       inside k =
           let (q, i, j) = flat-out (λ q. filled lower upper (A .size) q (leaving A q)) e (states (A .size)) k in
           ⊎-elim (λ l. kept (leaves A q e l .0)) (λ l. let (h, n, c) = Memᴰ·of-map (holeTo (A .size) q) (holesOf lower upper (leaving A q)) l in hole q h (states-out (A .size) q i) n (sym c))
@@ -90,17 +91,17 @@ module _ (lower upper : ℕ) (A : Automaton) (w : WellFormed A) (c : lower ≤ u
         ascends = rises;
       }
     where
-      from-in : (e : Transition) → Origin lower upper A e → e .from < totalized lower upper A .size
+      from-in : (e : Transition) → TotalizedTransition lower upper A e → e .from < totalized lower upper A .size
       from-in e (kept m) = omega (arith, w .states .froms e m)
       from-in e (hole q h l m c) = rw c (omega arith)
       from-in e (loop c) = rw c (omega arith)
 
-      to-in : (e : Transition) → Origin lower upper A e → e .to < totalized lower upper A .size
+      to-in : (e : Transition) → TotalizedTransition lower upper A e → e .to < totalized lower upper A .size
       to-in e (kept m) = omega (arith, w .states .tos e m)
       to-in e (hole q h l m c) = rw c (omega arith)
       to-in e (loop c) = rw c (omega arith)
 
-      is-sound : (e : Transition) → Origin lower upper A e → Sound e
+      is-sound : (e : Transition) → TotalizedTransition lower upper A e → Sound e
       is-sound e (kept m) = w .sound e m
       is-sound e (hole q h l m c) = rw c (record { known = omega arith; full = state-holes A w q lower upper .full h m; blank = λ z. absurd (omega arith) })
       is-sound e (loop d) = rw d (record { known = omega arith; full = c; blank = λ z. absurd (omega arith) })

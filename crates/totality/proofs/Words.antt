@@ -1,28 +1,27 @@
 -- The words of totalized and of complemented automata, against runs.
 use Prim.Native.Nat.{ℕ, _≤_, _<_}
-use mathlib.Core.Bool.{true, false, false≢true}
+use mathlib.Core.Bool.{Bool, true, false, cond, false≢true}
 use mathlib.Core.List.{List, _∷_}
 use mathlib.Core.Logic.{_⊎_, inl, inr, ⊎-elim, _↔_}
 use mathlib.Core.Path.{_≡_, refl, sym, _∙_, ap, subst}
 use native.Mathlib.Nat.{eq-or-lt-of-le}
 use native.Mathlib.Omega.{arith}
-use borrow.Author.Tests.{eqb-true, eqb-false, ltb-true, ltb-false, ne-eqb}
+use borrow.Author.Tests.{eqb-false, ltb-true, ltb-false, ne-eqb}
 use lib.Dec.{ltb, eqb}
 use lib.ListN.{length, getD, List·getD-eq-default}
-use Rattle.lists.specs.Lists.{_∈_, any}
+use Rattle.lists.specs.Lists.{_∈_}
 use Rattle.lists.proofs.Tests.{test}
-use Rattle.lists.proofs.Lists.{any-out, filter-out}
-use Rattle.automata.specs.Automaton.{Transition, Automaton, Run, stay, skip, read, Accepts, Word, none, more, holds, leaving, rangesOf, EpsilonFree}
+use Rattle.automata.specs.Automaton.{Transition, Automaton, Run, stay, skip, read, Accepts, Word, none, more, holds, leaving, EpsilonFree}
 use Rattle.automata.specs.WellFormed.{WellFormed}
-use Rattle.automata.proofs.Leaving.{leaves, leaving-in, leaving-range}
-use Rattle.ranges.specs.Missing.{InSomeSpan}
+use Rattle.automata.proofs.Leaving.{leaving-in, leaving-range}
+use Rattle.nondeterminism.specs.Nondeterminism.{holesOf, isNfa, CompleteAutomaton}
+use Rattle.nondeterminism.proofs.Deterministic.{deterministic-complete}
+use Rattle.nondeterminism.proofs.Holes.{state-holes, held-or-free}
 use Rattle.ranges.specs.Span.{Span, OverlapFree}
 use Rattle.ranges.proofs.Functional.{Functional, overlap-functional}
-use Rattle.lists.proofs.Every.{any-none}
 use Rattle.ranges.proofs.Held.{held, holds-ends}
-use Rattle.totality.specs.Totality.{holesOf, Complete, holeTo, loopOn, totalized, otherWord, flipped}
-use Rattle.totality.proofs.Rows.{state-holes}
-use Rattle.totality.proofs.Totalized.{Origin, kept, hole, loop, origin, kept-in, hole-in, loop-in, accept-same, accept-zero, other-at}
+use Rattle.totality.specs.Totality.{holeTo, loopOn, totalized, otherWord, flipped, complemented}
+use Rattle.totality.proofs.Totalized.{TotalizedTransition, kept, hole, loop, origin, kept-in, hole-in, loop-in, totalized-well, accept-same, accept-zero, other-at}
 
 -- a run goes through in an automaton that has all the transitions
 run-more : {A B : Automaton} → ((e : Transition) → e ∈ A .transitions → e ∈ B .transitions) → {p q : ℕ} {w : List ℕ} → Run A p w q → Run B p w q
@@ -41,7 +40,7 @@ run-in v (skip e m c k r) h = run-in v r (v .states .tos e m)
 run-in v (read e m c k l u r) h = run-in v r (v .states .tos e m)
 
 module _ (lower upper : ℕ) (A : Automaton) (v : WellFormed A) where
-  sink-to : (e : Transition) → Origin lower upper A e → e .from ≡ A .size → e .to ≡ A .size
+  sink-to : (e : Transition) → TotalizedTransition lower upper A e → e .from ≡ A .size → e .to ≡ A .size
   sink-to e (kept m) c = absurd (omega (arith, v .states .froms e m))
   sink-to e (hole q h l m d) c = rw d
   sink-to e (loop d) c = rw d
@@ -52,12 +51,12 @@ module _ (lower upper : ℕ) (A : Automaton) (v : WellFormed A) where
   sink-stays (skip e m c k r) h = sink-stays r (sink-to e (origin lower upper A v e m) (c ∙ h))
   sink-stays (read e m c k l u r) h = sink-stays r (sink-to e (origin lower upper A v e m) (c ∙ h))
 
-  back-skip : {p q : ℕ} {w : List ℕ} (e : Transition) → Origin lower upper A e → e .from ≡ p → e .kind ≡ 0 → (e .to < A .size → Run A (e .to) w q ⊎ (q ≡ A .size)) → Run A p w q ⊎ (q ≡ A .size)
+  back-skip : {p q : ℕ} {w : List ℕ} (e : Transition) → TotalizedTransition lower upper A e → e .from ≡ p → e .kind ≡ 0 → (e .to < A .size → Run A (e .to) w q ⊎ (q ≡ A .size)) → Run A p w q ⊎ (q ≡ A .size)
   back-skip e (kept m) c k ih = ⊎-elim (λ s. inl (skip e m c k s)) inr (ih (v .states .tos e m))
   back-skip e (hole q h l m d) c k ih = absurd (omega (arith, sym k ∙ ap (λ (t : Transition). t .kind) d))
   back-skip e (loop d) c k ih = absurd (omega (arith, sym k ∙ ap (λ (t : Transition). t .kind) d))
 
-  back-read : {p q a : ℕ} {w : List ℕ} (e : Transition) → Origin lower upper A e → p < A .size → e .from ≡ p → e .kind ≡ 1 → e .first ≤ a → a ≤ e .last
+  back-read : {p q a : ℕ} {w : List ℕ} (e : Transition) → TotalizedTransition lower upper A e → p < A .size → e .from ≡ p → e .kind ≡ 1 → e .first ≤ a → a ≤ e .last
       → (e .to < A .size → Run A (e .to) w q ⊎ (q ≡ A .size)) → (e .to ≡ A .size → q ≡ A .size) → Run A p (a ∷ w) q ⊎ (q ≡ A .size)
   back-read e (kept m) h c k l u ih s = ⊎-elim (λ r. inl (read e m c k l u r)) inr (ih (v .states .tos e m))
   back-read e (hole q g n m d) h c k l u ih s = inr (s (ap (λ (t : Transition). t .to) d))
@@ -92,7 +91,7 @@ run-unique {B} f {q′ = q′} (read {a = a} {w = w} e m c k l u r) (read d n b 
     let t : d .to ≡ e .to = f .single d e a n m (b ∙ sym c) (held a d g h) (held a e l u) in
     run-unique f r (subst (λ y. Run B y w q′) t s)
 
-run-exists : {lower upper : ℕ} {B : Automaton} → WellFormed B → Complete lower upper B → {w : List ℕ} → Word lower upper w → (p : ℕ) → p < B .size → (q : ℕ) × Run B p w q × (q < B .size)
+run-exists : {lower upper : ℕ} {B : Automaton} → WellFormed B → CompleteAutomaton lower upper B → {w : List ℕ} → Word lower upper w → (p : ℕ) → p < B .size → (q : ℕ) × Run B p w q × (q < B .size)
 run-exists v c none p h = (p, stay, h)
 run-exists v c (more {a} l u i) p h =
     let (e, m, f, k, x, y) = c .next p a h l u in
@@ -100,7 +99,7 @@ run-exists v c (more {a} l u i) p h =
     (q, read e m f k x y r, g)
 
 -- flipping acceptance gives the other words, where each has one run
-pub flipped-words : (lower upper : ℕ) (B : Automaton) → WellFormed B → Complete lower upper B → Functional B → (w : List ℕ) → Word lower upper w → Accepts (flipped B) w ↔ (Accepts B w → ⊥)
+flipped-words : (lower upper : ℕ) (B : Automaton) → WellFormed B → CompleteAutomaton lower upper B → Functional B → (w : List ℕ) → Word lower upper w → Accepts (flipped B) w ↔ (Accepts B w → ⊥)
 unfolding flipped
 flipped-words lower upper B v c f w i = (
   λ (q, r, a) (q′, r′, a′).
@@ -120,46 +119,29 @@ flipped-words lower upper B v c f w i = (
 )
 
 module _ (lower upper : ℕ) (A : Automaton) (v : WellFormed A) where
-  pub unranged : (q : ℕ) (e : Transition) → e ∈ rangesOf (leaving A q) → e ∈ A .transitions × (e .from ≡ q) × (e .kind ≡ 1)
-  unfolding rangesOf
-  unranged q e m = let k = filter-out (λ e. eqb (e .kind) 1) e (leaving A q) m in let l = leaves A q e (k .0) in (l .0, l .1, eqb-true _ _ (k .1))
-
   -- a symbol of a hole is held by no range of the state
-  free-symbol : (q : ℕ) (h : Span) → h ∈ holesOf lower upper (leaving A q) → (x : ℕ) → h .low ≤ x → x ≤ h .high → (e : Transition) → e ∈ A .transitions → e .from ≡ q → e .kind ≡ 1 → holds x e ≡ false
+  free-symbol : (q : ℕ) (h : Span) → h ∈ holesOf lower upper (leaving A q) → (x : ℕ) → h .first ≤ x → x ≤ h .last → (e : Transition) → e ∈ A .transitions → e .from ≡ q → e .kind ≡ 1 → holds x e ≡ false
   free-symbol q h m x l u e n c k = state-holes A v q lower upper .exact x .0 (h, m, record { above = l; below = u }) .2 e (leaving-range A q e (leaving-in A q e n c) k)
 
-  -- a symbol has a transition in a state, or lies in a hole
-  pub held-or-free : (p x : ℕ) → lower ≤ x → x ≤ upper
-      → ((e : Transition) × e ∈ A .transitions × (e .from ≡ p) × (e .kind ≡ 1) × (e .first ≤ x) × (x ≤ e .last)) ⊎ InSomeSpan x (holesOf lower upper (leaving A p))
-  held-or-free p x l u =
-      ⊎-elim
-      (λ (t : any (holds x) (rangesOf (leaving A p)) ≡ true).
-      let (e, m, k) = any-out (holds x) (rangesOf (leaving A p)) t in
-      let (i, c, j) = unranged p e m in
-      let b = holds-ends x e k in
-      inl (e, i, c, j, b .0, b .1))
-      (λ (t : any (holds x) (rangesOf (leaving A p)) ≡ false). inr (state-holes A v p lower upper .exact x .1 (l, u, any-none (holds x) (rangesOf (leaving A p)) t)))
-      (test (any (holds x) (rangesOf (leaving A p))))
-
-  pub total-complete : Complete lower upper (totalized lower upper A)
+  pub total-complete : CompleteAutomaton lower upper (totalized lower upper A)
   unfolding totalized
   total-complete = record { next = λ p x h l u. ⊎-elim (λ (e : p ≡ A .size). (loopOn lower upper (A .size), loop-in lower upper A v, sym e, refl, l, u)) (λ g. inside p x g l u) (eq-or-lt-of-le {n = p} {m = A .size} (omega arith)) }
     where
       inside : (p x : ℕ) → p < A .size → lower ≤ x → x ≤ upper → (e : Transition) × e ∈ totalized lower upper A .transitions × (e .from ≡ p) × (e .kind ≡ 1) × (e .first ≤ x) × (x ≤ e .last)
       inside p x g l u =
           ⊎-elim (λ (e, m, c, k, f, g). (e, kept-in lower upper A v m, c, k, f, g)) (λ (h, m, i). (holeTo (A .size) p h, hole-in lower upper A v p h g m, refl, refl, i .above, i .below))
-          (held-or-free p x l u)
+          (held-or-free A v p lower upper x l u)
 
   module _ (ranges : EpsilonFree A) (apart : OverlapFree A) where
-    pub total-functional : Functional (totalized lower upper A)
+    total-functional : Functional (totalized lower upper A)
     total-functional = record { ranges = λ e m. one e (origin lower upper A v e m); single = λ d e x m n c h k. same d e x (origin lower upper A v d m) (origin lower upper A v e n) c h k }
       where
-        one : (e : Transition) → Origin lower upper A e → e .kind ≡ 1
+        one : (e : Transition) → TotalizedTransition lower upper A e → e .kind ≡ 1
         one e (kept m) = ranges e m
         one e (hole q h l m c) = rw c
         one e (loop c) = rw c
 
-        mixed : (d e : Transition) (x : ℕ) → d ∈ A .transitions → Origin lower upper A e → ((q : ℕ) (h : Span) → h ∈ holesOf lower upper (leaving A q) → e ≡ holeTo (A .size) q h → d .from ≡ e .from → holds x d ≡ true → holds x e ≡ true → ⊥) → d .from ≡ e .from → holds x d ≡ true → holds x e ≡ true → d .to ≡ e .to
+        mixed : (d e : Transition) (x : ℕ) → d ∈ A .transitions → TotalizedTransition lower upper A e → ((q : ℕ) (h : Span) → h ∈ holesOf lower upper (leaving A q) → e ≡ holeTo (A .size) q h → d .from ≡ e .from → holds x d ≡ true → holds x e ≡ true → ⊥) → d .from ≡ e .from → holds x d ≡ true → holds x e ≡ true → d .to ≡ e .to
         mixed d e x m (kept n) f c h k = overlap-functional A v ranges apart .single d e x m n c h k
         mixed d e x m (hole q g l n b) f c h k = absurd (f q g n b c h k)
         mixed d e x m (loop b) f c h k = absurd (omega (arith, v .states .froms d m, c ∙ ap (λ (t : Transition). t .from) b))
@@ -169,7 +151,7 @@ module _ (lower upper : ℕ) (A : Automaton) (v : WellFormed A) where
             let j = holds-ends x (holeTo (A .size) q h) (rw b at k) in
             false≢true (sym (free-symbol q h n x (j .0) (j .1) d m (c ∙ ap (λ (t : Transition). t .from) b) (ranges d m)) ∙ i)
 
-        same : (d e : Transition) (x : ℕ) → Origin lower upper A d → Origin lower upper A e → d .from ≡ e .from → holds x d ≡ true → holds x e ≡ true → d .to ≡ e .to
+        same : (d e : Transition) (x : ℕ) → TotalizedTransition lower upper A d → TotalizedTransition lower upper A e → d .from ≡ e .from → holds x d ≡ true → holds x e ≡ true → d .to ≡ e .to
         same d e x (kept m) o c h k = mixed d e x m o (clash d e x m) c h k
         same d e x (hole q g l n b) (kept m) c h k = sym (mixed e d x m (hole q g l n b) (clash e d x m) (sym c) k h)
         same d e x (hole q g l n b) (hole p f i j a) c h k = rw (b, a)
@@ -177,3 +159,14 @@ module _ (lower upper : ℕ) (A : Automaton) (v : WellFormed A) where
         same d e x (loop b) (kept m) c h k = sym (mixed e d x m (loop b) (clash e d x m) (sym c) k h)
         same d e x (loop b) (hole p f i j a) c h k = rw (b, a)
         same d e x (loop b) (loop a) c h k = rw (b, a)
+
+  -- where no epsilon and no overlap stood, the complement's words are the others
+  pub other-words : lower ≤ upper → EpsilonFree A → OverlapFree A → (w : List ℕ) → Word lower upper w → Accepts (complemented lower upper A) w ↔ (Accepts A w → ⊥)
+  unfolding complemented
+  other-words c ranges apart w i = go (isNfa lower upper A) refl
+    where
+      go : (b : Bool) → isNfa lower upper A ≡ b → Accepts (flipped (cond b (totalized lower upper A) A)) w ↔ (Accepts A w → ⊥)
+      go true e =
+          let f = flipped-words lower upper (totalized lower upper A) (totalized-well lower upper A v c) total-complete (total-functional ranges apart) w i in
+          (λ a n. f .0 a (words-kept lower upper A v w .1 n), λ n. f .1 (λ a. n (words-kept lower upper A v w .0 a)))
+      go false e = flipped-words lower upper A v (deterministic-complete lower upper A v e) (overlap-functional A v ranges apart) w i

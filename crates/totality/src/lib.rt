@@ -1,25 +1,22 @@
-// `is_nfa`, `totalize` and `complement`: the checks, the limits and the answers. `nfa` tests the states of a sheet, `total` writes the totalized one.
+// `totalize` and `complement`: the checks, the limits and the answers. `total` writes the totalized sheet.
 ghost use mathlib.Core.Path.{_≡_};
 ghost use Prim.Native.Nat.{_+_, _≤_, _<_};
 ghost use lib.ListN.{length};
 ghost use Rattle.labels.specs.Checked.{checkedNumber};
 ghost use Rattle.labels.specs.Labels.{labelsFault, readLabels};
+ghost use Rattle.nondeterminism.specs.inner.Holes.{HolesInputs};
 ghost use Rattle.output.specs.Made.{outputOf};
-ghost use Rattle.output.specs.Output.{outputs, roomFirst};
+ghost use Rattle.output.specs.Output.{outputs, labelsSize, sheetSize};
 ghost use Rattle.refusal.specs.Answer.{given};
-ghost use Rattle.refusal.specs.Decision.{decisionOf};
 ghost use Rattle.sheets.specs.inner.Accepted.{Accepted};
 ghost use Rattle.sheets.specs.Sheet.{stateCount, read};
-ghost use Rattle.totality.specs.Totality.{isNfa};
-ghost use Rattle.totality.specs.inner.Merging.{HolesInputs};
-ghost use Rattle.totality.specs.Answers.{isNfaAnswer, limited, complementPattern, totalizeAnswer, complementAnswer};
-ghost use Rattle.totality.specs.inner.Answers.{inputsFirst, inputsOf, passed, turnedPattern, flippedPattern};
+ghost use Rattle.totality.specs.Answers.{limited, complementPattern, totalizeAnswer, complementAnswer};
+ghost use Rattle.totality.specs.inner.Answers.{inputsFirst, inputsOf, passed, totalPatternFlippedIf, flippedPattern};
+ghost use Rattle.automata.specs.WellFormed.{lastSymbol};
 use output::Made;
-use refusal::Decision;
 use refusal::Refusal;
 use refusal::StateRefusal;
 
-mod nfa;
 mod total;
 
 // What the inputs and outputs of an operation are before it begins.
@@ -29,7 +26,7 @@ pub enum Inputs {
 }
 
 // The totalized sheet, with its acceptance flipped or not, and its labels, unless it is too large.
-fn make_total(
+fn make_total_with_tables(
     s: &[u32],
     labels: &[u8],
     starts: &[u32],
@@ -41,14 +38,14 @@ fn make_total(
     names: &mut [u8],
 ) -> Made
     requires { ⌜ HolesInputs (now s) (now starts) (now holes) ⌝ }
-    requires { ⌜ (labelsFault (stateCount (now s)) (now labels) ≡ 0) × (10500 ≤ length (now out)) × (16642 ≤ length (now names)) ⌝ }
-    ensures { λ r. ⌜ outputOf r (now (out .exit)) (now (names .exit)) ≡ outputs (now (out .entry)) (now (names .entry)) (limited (turnedPattern flip lower upper (read (now (s .entry))) (readLabels (now (labels .entry))))) ⌝ }
+    requires { ⌜ (labelsFault (stateCount (now s)) (now labels) ≡ 0) × (sheetSize ≤ length (now out)) × (labelsSize ≤ length (now names)) ⌝ }
+    ensures { λ r. ⌜ outputOf r (now (out .exit)) (now (names .exit)) ≡ outputs (now (out .entry)) (now (names .entry)) (limited (totalPatternFlippedIf flip lower upper (read (now (s .entry))) (readLabels (now (labels .entry))))) ⌝ }
 {
     let n = s[2] as usize;
     if 255 < n {
         return Made::Refused(Refusal::State(StateRefusal::States));
     }
-    let count = s[n + 3] as usize + nfa::count_holes(s, starts, lower, upper, holes) + 1;
+    let count = s[n + 3] as usize + nondeterminism::count_holes(s, starts, lower, upper, holes) + 1;
     if 2048 < count {
         return Made::Refused(Refusal::State(StateRefusal::Transitions));
     }
@@ -58,7 +55,7 @@ fn make_total(
 }
 
 // The same, with the tables that it needs.
-fn make_turned(
+fn make_total(
     s: &[u32],
     labels: &[u8],
     flip: bool,
@@ -67,13 +64,13 @@ fn make_turned(
     out: &mut [u32],
     names: &mut [u8],
 ) -> Made
-    requires { ⌜ Accepted (now s) × (labelsFault (stateCount (now s)) (now labels) ≡ 0) × (10500 ≤ length (now out)) × (16642 ≤ length (now names)) ⌝ }
-    ensures { λ r. ⌜ outputOf r (now (out .exit)) (now (names .exit)) ≡ outputs (now (out .entry)) (now (names .entry)) (limited (turnedPattern flip lower upper (read (now (s .entry))) (readLabels (now (labels .entry))))) ⌝ }
+    requires { ⌜ Accepted (now s) × (labelsFault (stateCount (now s)) (now labels) ≡ 0) × (sheetSize ≤ length (now out)) × (labelsSize ≤ length (now names)) ⌝ }
+    ensures { λ r. ⌜ outputOf r (now (out .exit)) (now (names .exit)) ≡ outputs (now (out .entry)) (now (names .entry)) (limited (totalPatternFlippedIf flip lower upper (read (now (s .entry))) (readLabels (now (labels .entry))))) ⌝ }
 {
     let mut starts = [0u32; 257];
     let mut holes = [0u32; 4098];
     sheets::run_starts(s, &mut starts);
-    make_total(
+    make_total_with_tables(
         s,
         labels,
         &starts,
@@ -88,12 +85,12 @@ fn make_turned(
 
 // The sheet with its acceptance flipped, and its labels.
 fn make_flipped(s: &[u32], labels: &[u8], out: &mut [u32], names: &mut [u8]) -> Made
-    requires { ⌜ Accepted (now s) × (labelsFault (stateCount (now s)) (now labels) ≡ 0) × (10500 ≤ length (now out)) × (16642 ≤ length (now names)) ⌝ }
+    requires { ⌜ Accepted (now s) × (labelsFault (stateCount (now s)) (now labels) ≡ 0) × (sheetSize ≤ length (now out)) × (labelsSize ≤ length (now names)) ⌝ }
     ensures { λ r. ⌜ outputOf r (now (out .exit)) (now (names .exit)) ≡ outputs (now (out .entry)) (now (names .entry)) (given (flippedPattern (read (now (s .entry))) (readLabels (now (labels .entry))))) ⌝ }
 {
     let n = s[2];
     let counted = total::put_head(s, true, n, out);
-    let words = output::put_words(out, counted, &s[n as usize + 3..]);
+    let words = stores::put_words(out, counted, &s[n as usize + 3..]);
     let bytes = labels::copy_all(names, labels);
     Made::Lengths(words, bytes)
 }
@@ -122,17 +119,6 @@ fn check_inputs(s: &[u32], b: &[u8], out: &[u32], names: &[u8]) -> Inputs
     }
 }
 
-// Whether some state of an accepted sheet has an epsilon, an overlap or a hole from lower to upper.
-fn decide_nfa(s: &[u32], lower: u32, upper: u32) -> bool
-    requires { ⌜ Accepted (now s) ⌝ }
-    ensures { λ r. ⌜ r ≡ isNfa lower upper (read (now (s .entry))) ⌝ }
-{
-    let mut starts = [0u32; 257];
-    let mut holes = [0u32; 4098];
-    sheets::run_starts(s, &mut starts);
-    nfa::is_nfa_sheet(s, &starts, lower, upper, &mut holes)
-}
-
 // The complement and its labels, unless it is too large.
 fn make_complement(
     s: &[u32],
@@ -142,38 +128,28 @@ fn make_complement(
     out: &mut [u32],
     names: &mut [u8],
 ) -> Made
-    requires { ⌜ Accepted (now s) × (labelsFault (stateCount (now s)) (now labels) ≡ 0) × (10500 ≤ length (now out)) × (16642 ≤ length (now names)) ⌝ }
+    requires { ⌜ Accepted (now s) × (labelsFault (stateCount (now s)) (now labels) ≡ 0) × (sheetSize ≤ length (now out)) × (labelsSize ≤ length (now names)) ⌝ }
     ensures { λ r. ⌜ outputOf r (now (out .exit)) (now (names .exit)) ≡ outputs (now (out .entry)) (now (names .entry)) (limited (complementPattern lower upper (read (now (s .entry))) (readLabels (now (labels .entry))))) ⌝ }
 {
-    if decide_nfa(s, lower, upper) {
-        return make_turned(s, labels, true, lower, upper, out, names);
+    if nondeterminism::is_nfa_between(s, lower, upper) {
+        return make_total(s, labels, true, lower, upper, out, names);
     }
     make_flipped(s, labels, out, names)
 }
 
-// Whether a sheet has an epsilon, an overlap or a hole.
-pub fn is_nfa(s: &[u32]) -> Decision
-    ensures { λ r. ⌜ decisionOf r ≡ isNfaAnswer 0 4294967295 (now (s .entry)) ⌝ }
-{
-    match sheets::check(s) {
-        sheets::Checked::Accepted => Decision::Is(decide_nfa(s, 0, 4294967295)),
-        sheets::Checked::Refused(r) => Decision::Refused(r),
-    }
-}
-
 // Adds the sink and sends each state's holes there.
 pub fn totalize(s: &[u32], labels: &[u8], out: &mut [u32], names: &mut [u8]) -> Made
-    ensures { λ r. ⌜ outputOf r (now (out .exit)) (now (names .exit)) ≡ outputs (now (out .entry)) (now (names .entry)) (roomFirst (now (out .entry)) (now (names .entry)) (totalizeAnswer 0 4294967295 (now (s .entry)) (now (labels .entry)))) ⌝ }
+    ensures { λ r. ⌜ outputOf r (now (out .exit)) (now (names .exit)) ≡ outputs (now (out .entry)) (now (names .entry)) (totalizeAnswer 0 lastSymbol (now (s .entry)) (now (labels .entry)) (now (out .entry)) (now (names .entry))) ⌝ }
 {
     match check_inputs(s, labels, out, names) {
-        Inputs::Good => make_turned(s, labels, false, 0, 4294967295, out, names),
+        Inputs::Good => make_total(s, labels, false, 0, 4294967295, out, names),
         Inputs::Refused(r) => Made::Refused(r),
     }
 }
 
 // Flips acceptance, after totalizing where the sheet has an epsilon, an overlap or a hole.
 pub fn complement(s: &[u32], labels: &[u8], out: &mut [u32], names: &mut [u8]) -> Made
-    ensures { λ r. ⌜ outputOf r (now (out .exit)) (now (names .exit)) ≡ outputs (now (out .entry)) (now (names .entry)) (roomFirst (now (out .entry)) (now (names .entry)) (complementAnswer 0 4294967295 (now (s .entry)) (now (labels .entry)))) ⌝ }
+    ensures { λ r. ⌜ outputOf r (now (out .exit)) (now (names .exit)) ≡ outputs (now (out .entry)) (now (names .entry)) (complementAnswer 0 lastSymbol (now (s .entry)) (now (labels .entry)) (now (out .entry)) (now (names .entry))) ⌝ }
 {
     match check_inputs(s, labels, out, names) {
         Inputs::Good => make_complement(s, labels, 0, 4294967295, out, names),

@@ -3,22 +3,24 @@ ghost use mathlib.Core.List.{map};
 ghost use mathlib.Core.Path.{_≡_};
 ghost use Prim.Native.Nat.{_+_, _*_, _≤_, _<_};
 ghost use lib.ListN.{length, drop};
-ghost use Rattle.lists.specs.Written.{Written};
+ghost use Rattle.stores.specs.Written.{Written};
 ghost use Rattle.automata.specs.Automaton.{states};
 ghost use Rattle.automata.specs.Records.{readRecords, writeRecords};
+ghost use Rattle.nondeterminism.specs.inner.Holes.{HolesInputs};
 ghost use Rattle.sheets.specs.inner.Accepted.{Accepted};
 ghost use Rattle.sheets.specs.Sheet.{stateCount, read, write};
 ghost use Rattle.totality.specs.Totality.{filled, filledIn, totalized};
-ghost use Rattle.totality.specs.inner.Merging.{readSpans, leading, Mergeable, merged, Whole, Fillable, acceptWord, turned, headWords, frontWords, Small, HolesInputs};
+ghost use Rattle.totality.specs.inner.Merging.{readSpans, leading, Mergeable, merged, WholeRecords, Fillable, flippedWordIf, flippedIf, headWords, frontWords, TotalizedRoom};
+ghost use Rattle.output.specs.Output.{sheetSize};
 
-// The place behind the records from i on that come before a hole that begins at low.
-fn records_before(run: &[u32], i: usize, low: u32) -> usize
+// The place behind the records from i on that come before a hole that begins at `first`.
+fn records_before(run: &[u32], i: usize, first: u32) -> usize
     requires { ⌜ i ≤ length (now run) ⌝ }
-    ensures { λ r. ⌜ (r ≡ i + 5 * leading low (readRecords (drop i (now (run .entry))))) × (r ≤ length (now (run .entry))) ⌝ }
+    ensures { λ r. ⌜ (r ≡ i + 5 * leading first (readRecords (drop i (now (run .entry))))) × (r ≤ length (now (run .entry))) ⌝ }
 {
     let mut k = i;
     while 5 <= run.len() - k {
-        if low < run[k + 2] {
+        if first < run[k + 2] {
             return k;
         }
         k += 5;
@@ -29,7 +31,7 @@ fn records_before(run: &[u32], i: usize, low: u32) -> usize
 // Writes the records of the run and the holes of its state q, led to the sink, in order: the records before each hole, and then the hole.
 // Like the functions below it answers the place behind what it wrote.
 fn put_merged(run: &[u32], holes: &[u32], q: u32, sink: u32, out: &mut [u32], at: usize) -> usize
-    requires { ⌜ Mergeable sink q (readRecords (now run)) (readSpans (now holes)) × Whole (now run) ⌝ }
+    requires { ⌜ Mergeable sink q (readRecords (now run)) (readSpans (now holes)) × WholeRecords (now run) ⌝ }
     requires { ⌜ at + length (writeRecords (merged sink q (now run) (now holes))) ≤ length (now out) ⌝ }
     ensures { λ r. ⌜ Written (now (out .entry)) at (writeRecords (merged sink q (now (run .entry)) (now (holes .entry)))) (now (out .exit)) r ⌝ }
 {
@@ -38,12 +40,12 @@ fn put_merged(run: &[u32], holes: &[u32], q: u32, sink: u32, out: &mut [u32], at
     let mut j: usize = 0;
     while 2 <= holes.len() - j {
         let k = records_before(run, i, holes[j]);
-        end = output::put_words(out, end, &run[i..k]);
+        end = stores::put_words(out, end, &run[i..k]);
         end = output::put_record(out, end, q, 1, holes[j], holes[j + 1], sink);
         i = k;
         j += 2;
     }
-    output::put_words(out, end, &run[i..])
+    stores::put_words(out, end, &run[i..])
 }
 
 // Writes the records of the run of the state q with its holes from lower to upper.
@@ -91,8 +93,8 @@ fn put_rows(
 }
 
 // The accept word that is written for x: 1 for 0 and 0 for others where acceptance is flipped.
-fn accept_word(flip: bool, x: u32) -> u32
-    ensures { λ r. ⌜ r ≡ acceptWord flip x ⌝ }
+fn flipped_word_if(flip: bool, x: u32) -> u32
+    ensures { λ r. ⌜ r ≡ flippedWordIf flip x ⌝ }
 {
     if flip {
         if x == 0 {
@@ -106,12 +108,12 @@ fn accept_word(flip: bool, x: u32) -> u32
 // Writes accept words, flipped or not.
 fn put_accepts(words: &[u32], flip: bool, out: &mut [u32], at: usize) -> usize
     requires { ⌜ at + length (now words) ≤ length (now out) ⌝ }
-    ensures { λ r. ⌜ Written (now (out .entry)) at (map (acceptWord flip) (now (words .entry))) (now (out .exit)) r ⌝ }
+    ensures { λ r. ⌜ Written (now (out .entry)) at (map (flippedWordIf flip) (now (words .entry))) (now (out .exit)) r ⌝ }
 {
     let mut end = at;
     let mut i = 0;
     while i < words.len() {
-        out[end] = accept_word(flip, words[i]);
+        out[end] = flipped_word_if(flip, words[i]);
         end += 1;
         i += 1;
     }
@@ -120,7 +122,7 @@ fn put_accepts(words: &[u32], flip: bool, out: &mut [u32], at: usize) -> usize
 
 // Writes the front of a sheet of that many states up to the accept words of s, flipped or not.
 pub fn put_head(s: &[u32], flip: bool, states: u32, out: &mut [u32]) -> usize
-    requires { ⌜ Accepted (now s) × (10500 ≤ length (now out)) ⌝ }
+    requires { ⌜ Accepted (now s) × (sheetSize ≤ length (now out)) ⌝ }
     ensures { λ r. ⌜ Written (now (out .entry)) 0 (headWords flip (now (s .entry)) states) (now (out .exit)) r ⌝ }
 {
     let n = s[2] as usize;
@@ -130,12 +132,12 @@ pub fn put_head(s: &[u32], flip: bool, states: u32, out: &mut [u32]) -> usize
 
 // Writes the front of the totalized sheet, which has count transitions, up to that count.
 fn put_front(s: &[u32], flip: bool, count: u32, out: &mut [u32]) -> usize
-    requires { ⌜ Accepted (now s) × (stateCount (now s) < 256) × (10500 ≤ length (now out)) ⌝ }
+    requires { ⌜ Accepted (now s) × (stateCount (now s) < 256) × (sheetSize ≤ length (now out)) ⌝ }
     ensures { λ r. ⌜ Written (now (out .entry)) 0 (frontWords flip (now (s .entry)) count) (now (out .exit)) r ⌝ }
 {
     let sink = put_head(s, flip, s[2] + 1, out);
-    let at = output::put_word(out, sink, accept_word(flip, 0));
-    output::put_word(out, at, count)
+    let at = stores::put_word(out, sink, flipped_word_if(flip, 0));
+    stores::put_word(out, at, count)
 }
 
 // Writes the totalized sheet, which has count transitions, with its acceptance flipped or not.
@@ -149,8 +151,8 @@ pub fn put_total(
     holes: &mut [u32],
     out: &mut [u32],
 ) -> usize
-    requires { ⌜ HolesInputs (now s) (now starts) (now holes) × Small lower upper (now s) (now out) count ⌝ }
-    ensures { λ r. ⌜ Written (now (out .entry)) 0 (write (turned flip (totalized lower upper (read (now (s .entry)))))) (now (out .exit)) r ⌝ }
+    requires { ⌜ HolesInputs (now s) (now starts) (now holes) × TotalizedRoom lower upper (now s) (now out) count ⌝ }
+    ensures { λ r. ⌜ Written (now (out .entry)) 0 (write (flippedIf flip (totalized lower upper (read (now (s .entry)))))) (now (out .exit)) r ⌝ }
 {
     let n = s[2];
     let rows = put_front(s, flip, count, out);

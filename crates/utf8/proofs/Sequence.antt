@@ -1,6 +1,6 @@
 -- What the sequence of two, three or four bytes at a place stands for, in the order of the code's tests.
 use Prim.Native.Nat.{ℕ, zero, suc, _+_, _-_, _*_, _%_, _≤_, _<_}
-use mathlib.Core.Bool.{Bool, true, false, not, cond, _&&_}
+use mathlib.Core.Bool.{Bool, true, false, not, cond, _&&_, and-false}
 use mathlib.Core.List.{List, [], _∷_}
 use mathlib.Core.Path.{_≡_, refl, sym, _∙_, ap}
 use native.Mathlib.Omega.{arith}
@@ -15,23 +15,19 @@ use Rattle.utf8.specs.inner.Steps.{placed}
 use Rattle.utf8.specs.declared.Step.{Step}
 use Rattle.utf8.specs.declared.Step.the-variants.{Point, Malformed}
 
-and-false : (a b : Bool) → b ≡ false → (a && b) ≡ false
-and-false true b e = e
-and-false false b e = refl
-
 -- continuation bytes that are not all there, and another byte among them
 continued-cut : (k : ℕ) (l : List ℕ) → length l < k → continued k l ≡ false
 unfolding continued
 continued-cut zero l h = absurd (omega arith)
 continued-cut (suc k) [] h = refl
-continued-cut (suc k) (b ∷ l) h = and-false (isContinuation b) _ (continued-cut k l (omega arith))
+continued-cut (suc k) (b ∷ l) h = ap (λ (c : Bool). isContinuation b && c) (continued-cut k l (omega arith)) ∙ and-false (isContinuation b)
 
 continued-broken : (k i : ℕ) (l : List ℕ) → i < k → isContinuation (getD l i 0) ≡ false → continued k l ≡ false
 unfolding continued
 continued-broken zero i l h e = absurd (omega arith)
 continued-broken (suc k) i [] h e = refl
 continued-broken (suc k) zero (b ∷ l) h e = rw e
-continued-broken (suc k) (suc i) (b ∷ l) h e = and-false (isContinuation b) _ (continued-broken k i l (omega arith) e)
+continued-broken (suc k) (suc i) (b ∷ l) h e = ap (λ (c : Bool). isContinuation b && c) (continued-broken k i l (omega arith) e) ∙ and-false (isContinuation b)
 
 -- either fault is one of the sequence
 faulty : (n a : ℕ) (rest : List ℕ) → continued (n - 1) rest ≡ false → sequence n a rest ≡ fault

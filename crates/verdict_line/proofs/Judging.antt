@@ -11,9 +11,9 @@ use lib.ListN.{length, take, drop}
 use lib.Seq.{length-take-le}
 use Rattle.automata.specs.Automaton.{Automaton}
 use Rattle.grammar.specs.Grammar.{ReadResult, nothing, found, Mark}
-use Rattle.lists.specs.Written.{Written}
+use Rattle.stores.specs.Written.{Written}
 use Rattle.lists.proofs.Parts.{part-all}
-use Rattle.lists.proofs.Written.{written-length}
+use Rattle.stores.proofs.Written.{written-length}
 use Rattle.refusal.specs.Answer.{Answer, refused, given}
 use Rattle.refusal.specs.Number.{numberOf}
 use Rattle.refusal.specs.declared.InputRefusal.the-variants.{Grammar}
@@ -22,15 +22,15 @@ use Rattle.refusal.specs.declared.Refusal.the-variants.{Input}
 use Rattle.sheets.specs.Checked.{sheetFirst}
 use Rattle.sheets.specs.Fault.{fault}
 use Rattle.sheets.specs.Sheet.{read}
-use Rattle.determinize.specs.Determinize.{determinize}
-use Rattle.determinize.proofs.Theorems.{determinize-fits}
-use Rattle.parser.specs.Pattern.{Reading, parseAnswer}
+use Rattle.parser.specs.Pattern.{Reading, readingAnswer}
 use Rattle.parser.specs.declared.Parsed.{Parsed}
 use Rattle.parser.specs.declared.Parsed.the-variants.{Read}
 use Rattle.parser.proofs.Outcomes.{answers-given}
-use Rattle.equality.specs.Forced.{Two, totalSize}
+use Rattle.determinizations.specs.Two.{Two, totalSize}
+use Rattle.determinizations.specs.Determinizations.{determinized}
+use Rattle.determinizations.proofs.Theorems.{total-few}
 use Rattle.equality.specs.Verdict.{Decided}
-use Rattle.equality.specs.Equality.{withSecond, withFirst, determinized, equalityAnswer, Judged}
+use Rattle.equality.specs.Equality.{equalityAnswer, Judged}
 use Rattle.equality.specs.declared.Verdict.{Verdict}
 use Rattle.equality.specs.declared.Verdict.the-variants.{Same, Different, Refused}
 use Rattle.verdict_line.specs.declared.Second.{Second}
@@ -48,27 +48,27 @@ judged-refused a o r e = subst (λ (x : Answer Two). Judged x o o (Refused r)) (
 module _ (lower upper : ℕ) (o : List ℕ) where
   -- the second text
   module _ (a t : List ℕ) where
-    pub second-refuses : (r : Refusal) → parseAnswer t ≡ refused (numberOf r) → Judged (withSecondText lower upper (read a) (parseAnswer t)) o o (Refused r)
+    pub second-refuses : (r : Refusal) → readingAnswer t ≡ refused (numberOf r) → Judged (withSecondText lower upper (read a) (readingAnswer t)) o o (Refused r)
     unfolding withSecondText
     second-refuses r e = judged-refused _ o r (ap (withSecondText lower upper (read a)) e)
 
-    pub second-judged : (b : List ℕ) → fault a ≡ 0 → IsSheet t b → 510 ≤ length o → (o′ : List ℕ) (v : Verdict) → Judged (equalityAnswer lower upper a b o) o o′ v → Judged (withSecondText lower upper (read a) (parseAnswer t)) o o′ v
+    pub second-judged : (b : List ℕ) → fault a ≡ 0 → IsSheet t b → 510 ≤ length o → (o′ : List ℕ) (v : Verdict) → Judged (equalityAnswer lower upper a b o) o o′ v → Judged (withSecondText lower upper (read a) (readingAnswer t)) o o′ v
     unfolding withSecondText equalityAnswer sheetFirst
     second-judged b f s room o′ v j =
         let z : equalityAnswer lower upper a b o ≡ determinized lower upper (read a) (read b) = rw (le-ltb (length o) 510 room, f, s .accepted) refl in
-        let y : withSecondText lower upper (read a) (parseAnswer t) ≡ determinized lower upper (read a) (read b) = ap (withSecondText lower upper (read a)) (s .is-reading) ∙ ap (determinized lower upper (read a)) (sym (s .is)) in
+        let y : withSecondText lower upper (read a) (readingAnswer t) ≡ determinized lower upper (read a) (read b) = ap (withSecondText lower upper (read a)) (s .is-reading) ∙ ap (determinized lower upper (read a)) (sym (s .is)) in
         subst (λ (x : Answer Two). Judged x o o′ v) (z ∙ sym y) j
 
   -- the first text
   module _ (t : List ℕ) (b : Answer Reading) where
-    pub first-refuses : (r : Refusal) → parseAnswer t ≡ refused (numberOf r) → Judged (withFirstText lower upper (parseAnswer t) b) o o (Refused r)
+    pub first-refuses : (r : Refusal) → readingAnswer t ≡ refused (numberOf r) → Judged (withFirstText lower upper (readingAnswer t) b) o o (Refused r)
     unfolding withFirstText
     first-refuses r e = judged-refused _ o r (ap (λ (x : Answer Reading). withFirstText lower upper x b) e)
 
-    pub first-judged : (a : List ℕ) → IsSheet t a → (o′ : List ℕ) (v : Verdict) → Judged (withSecondText lower upper (read a) b) o o′ v → Judged (withFirstText lower upper (parseAnswer t) b) o o′ v
+    pub first-judged : (a : List ℕ) → IsSheet t a → (o′ : List ℕ) (v : Verdict) → Judged (withSecondText lower upper (read a) b) o o′ v → Judged (withFirstText lower upper (readingAnswer t) b) o o′ v
     unfolding withFirstText
     first-judged a s o′ v j =
-        let y : withFirstText lower upper (parseAnswer t) b ≡ withSecondText lower upper (read a) b = ap (λ (x : Answer Reading). withFirstText lower upper x b) (s .is-reading) ∙ ap (λ (A : Automaton). withSecondText lower upper A b) (sym (s .is)) in
+        let y : withFirstText lower upper (readingAnswer t) b ≡ withSecondText lower upper (read a) b = ap (λ (x : Answer Reading). withFirstText lower upper x b) (s .is-reading) ∙ ap (λ (A : Automaton). withSecondText lower upper A b) (sym (s .is)) in
         subst (λ (x : Answer Two). Judged x o o′ v) (sym y) j
 
   -- the input
@@ -85,13 +85,13 @@ module _ (lower upper : ℕ) (o : List ℕ) where
       pub input-outside : s ≡ Outside → Judged (verdictAnswer lower upper t) o o (Refused (Input Grammar))
       input-outside f = judged-refused _ o (Input Grammar) (is-compared ∙ ap (λ (x : Second). onTexts lower upper t (secondOf x)) f)
 
-      pub input-judged : (at : ℕ) → s ≡ At at → (o′ : List ℕ) (v : Verdict) → Judged (withFirstText lower upper (parseAnswer t) (parseAnswer (take (length t - at) (drop at t)))) o o′ v → Judged (verdictAnswer lower upper t) o o′ v
+      pub input-judged : (at : ℕ) → s ≡ At at → (o′ : List ℕ) (v : Verdict) → Judged (withFirstText lower upper (readingAnswer t) (readingAnswer (take (length t - at) (drop at t)))) o o′ v → Judged (verdictAnswer lower upper t) o o′ v
       input-judged at f o′ v j =
-          let z : verdictAnswer lower upper t ≡ withFirstText lower upper (parseAnswer t) (parseAnswer (take (length t - at) (drop at t))) = is-compared ∙ ap (λ (x : Second). onTexts lower upper t (secondOf x)) f ∙ ap (λ (x : List ℕ). withFirstText lower upper (parseAnswer t) (parseAnswer x)) (sym (part-all at t)) in
+          let z : verdictAnswer lower upper t ≡ withFirstText lower upper (readingAnswer t) (readingAnswer (take (length t - at) (drop at t))) = is-compared ∙ ap (λ (x : Second). onTexts lower upper t (secondOf x)) f ∙ ap (λ (x : List ℕ). withFirstText lower upper (readingAnswer t) (readingAnswer x)) (sym (part-all at t)) in
           subst (λ (x : Answer Two). Judged x o o′ v) (sym z) j
 
 -- the sheet of a text has no fault
-pub sheet-accepted : (t o : List ℕ) (p : Parsed) (m n b : ℕ) → SheetRead (parseAnswer t) o p → p ≡ Read m n b → fault (take (n - 0) o) ≡ 0
+pub sheet-accepted : (t o : List ℕ) (p : Parsed) (m n b : ℕ) → SheetRead (readingAnswer t) o p → p ≡ Read m n b → fault (take (n - 0) o) ≡ 0
 sheet-accepted t o p m n b s e = sheet-is t o p m n b s e .accepted
 
 pub at-inside : (t : List ℕ) (s : Second) (at : ℕ) → secondOf s ≡ twoTexts t → s ≡ At at → at ≤ length t
@@ -103,25 +103,15 @@ pub ruleset inputLaws = (input-long, input-outside, input-judged, at-inside, nee
 
 -- both determinizations have at most 256 states
 module _ (lower upper : ℕ) where
-  two-few : (x y : Answer Automaton) (w : Two) → ((D : Automaton) → x ≡ given D → D .size ≤ 256) → ((E : Automaton) → y ≡ given E → E .size ≤ 256) → withFirst lower upper x y ≡ given w → totalSize w ≤ 512
-  unfolding withFirst withSecond
-  two-few (refused n) y w f g e = absurd (let z : _≡_ {A = ℕ} 0 1 = cc in omega arith)
-  two-few (given D) (refused n) w f g e = absurd (let z : _≡_ {A = ℕ} 0 1 = cc in omega arith)
-  two-few (given D) (given E) w f g e =
-      let z : _≡_ {A = Two} (record { one = D; two = E; lower = lower; upper = upper }) w = cc in
-      omega (arith, f D refl, g E refl, ap (λ (x : Two). x .one .size) z, ap (λ (x : Two). x .two .size) z)
-
-  texts-few : (t s : List ℕ) (w : Two) → withFirstText lower upper (parseAnswer t) (parseAnswer s) ≡ given w → totalSize w ≤ 512
-  unfolding withFirstText withSecondText determinized
-  texts-few t s w e = by-answers (parseAnswer t) (parseAnswer s) refl refl e
+  texts-few : (t s : List ℕ) (w : Two) → withFirstText lower upper (readingAnswer t) (readingAnswer s) ≡ given w → totalSize w ≤ 512
+  unfolding withFirstText withSecondText
+  texts-few t s w e = by-answers (readingAnswer t) (readingAnswer s) refl refl e
     where
-      by-answers : (x y : Answer Reading) → parseAnswer t ≡ x → parseAnswer s ≡ y → withFirstText lower upper x y ≡ given w → totalSize w ≤ 512
+      by-answers : (x y : Answer Reading) → readingAnswer t ≡ x → readingAnswer s ≡ y → withFirstText lower upper x y ≡ given w → totalSize w ≤ 512
       by-answers (refused n) y p q h = absurd (let z : _≡_ {A = ℕ} 0 1 = cc in omega arith)
       by-answers (given R) (refused n) p q h = absurd (let z : _≡_ {A = ℕ} 0 1 = cc in omega arith)
       by-answers (given R) (given S) p q h =
-          two-few (determinize lower upper (R .pattern .automaton)) (determinize lower upper (S .pattern .automaton)) w
-          (λ D d. determinize-fits lower upper _ (answers-given t R p .writable .well .states) D d .few-states)
-          (λ E d. determinize-fits lower upper _ (answers-given s S q .writable .well .states) E d .few-states) h
+          total-few lower upper (R .pattern .automaton) (S .pattern .automaton) (answers-given t R p .writable .well .states) (answers-given s S q .writable .well .states) w h
 
   compared-few : (t : List ℕ) (w : Two) → verdictAnswer lower upper t ≡ given w → totalSize w ≤ 512
   unfolding verdictAnswer

@@ -10,9 +10,9 @@ use lib.ListN.{length, getD, take}
 use lib.Seq.{take-all, length-take-le}
 use Rattle.decimal.specs.Decimal.{digits}
 use Rattle.decimal.proofs.Decimal.{length-word}
-use Rattle.lists.specs.Written.{Written}
+use Rattle.stores.specs.Written.{Written}
 use Rattle.lists.proofs.Parts.{take-more}
-use Rattle.lists.proofs.Written.{written-none, written-append, written-cons, written-length}
+use Rattle.stores.proofs.Written.{written-none, written-append, written-cons, written-length}
 use Rattle.refusal.specs.Number.{numberOf}
 use Rattle.refusal.specs.declared.Refusal.{Refusal}
 use Rattle.equality.specs.declared.Verdict.{Verdict}

@@ -20,7 +20,6 @@ use Rattle.grammar.specs.declared.text.TextPiece.{TextPiece}
 use Rattle.grammar.specs.declared.text.TextPiece.the-variants.{Read as TextRead, Nothing as NoText}
 use Rattle.grammar.proofs.Progress.{Holds, holds-found, holds-follow, text-inside}
 use Rattle.grammar.proofs.Runs.{space-inside}
-use Rattle.labels.specs.Labels.{writeLabels}
 use Rattle.lists.proofs.Parts.{part-all}
 use Rattle.refusal.specs.Answer.{Answer, refused, given}
 use Rattle.refusal.specs.Number.{numberOf}
@@ -29,8 +28,8 @@ use Rattle.output.specs.Output.{roomFirst}
 use Rattle.sheets.specs.Fault.{fault}
 use Rattle.sheets.specs.Sheet.{read, write}
 use Rattle.sheets.proofs.Meaning.{read-write-sheet, write-accepted, write-room}
-use Rattle.parser.specs.Parsed.{Lengths, Output, parsed, parsedOf}
-use Rattle.parser.specs.Pattern.{Reading, parseAnswer}
+use Rattle.parser.specs.Parsed.{ReadLengths, readLengthsOf, parsed, parsedOf}
+use Rattle.parser.specs.Pattern.{Reading, readingAnswer, parseAnswer}
 use Rattle.parser.specs.declared.Parsed.{Parsed}
 use Rattle.parser.specs.declared.Parsed.the-variants.{Read, Refused}
 use Rattle.parser.proofs.Outcomes.{answers-given}
@@ -104,41 +103,41 @@ two-inside t at e = holds-found (λ (_ : Mark) (b : ℕ). b ≤ length t) holds 
 -- s is the sheet of the automaton of the text t
 pub record IsSheet (t s : List ℕ) : Type 0 where
   pub reading : Reading
-  pub is-reading : parseAnswer t ≡ given reading
+  pub is-reading : readingAnswer t ≡ given reading
   pub accepted : fault s ≡ 0
   pub is : read s ≡ reading .pattern .automaton
 
 -- the answer p of `parse_automaton` on buffers that have room
-module _ (t o n o′ n′ : List ℕ) (p : Parsed) (e : parsedOf p o′ n′ ≡ parsed o n (roomFirst o n (parseAnswer t))) (long : length o ≡ 10500) (longer : length n ≡ 16642) where
-  is-parsed : parsedOf p o′ n′ ≡ parsed o n (parseAnswer t)
-  unfolding roomFirst
+module _ (t o n o′ n′ : List ℕ) (p : Parsed) (e : parsedOf p o′ n′ ≡ parsed o n (parseAnswer t o n)) (long : length o ≡ 10500) (longer : length n ≡ 16642) where
+  is-parsed : parsedOf p o′ n′ ≡ parsed o n (readingAnswer t)
+  unfolding parseAnswer roomFirst
   is-parsed = e ∙ ap (parsed o n) (rw (le-ltb (length o) 10500 (omega arith), le-ltb (length n) 16642 (omega arith)) refl)
 
-  pub sheet-read : SheetRead (parseAnswer t) o′ p
+  pub sheet-read : SheetRead (readingAnswer t) o′ p
   unfolding parsed
-  sheet-read = by-answer (parseAnswer t) p refl refl
+  sheet-read = by-answer (readingAnswer t) p refl refl
     where
-      by-answer : (a : Answer Reading) (q : Parsed) → parseAnswer t ≡ a → p ≡ q → SheetRead a o′ q
+      by-answer : (a : Answer Reading) (q : Parsed) → readingAnswer t ≡ a → p ≡ q → SheetRead a o′ q
       by-answer (refused k) (Refused r) h g =
           let z : parsedOf (Refused r) o′ n′ ≡ parsed o n (refused k) = ap (λ (x : Parsed). parsedOf x o′ n′) (sym g) ∙ is-parsed ∙ ap (parsed o n) h in
-          let y = ap (λ (x : Output). x .answer) z in
+          let y = ap (λ x. x .answer) z in
           let w : numberOf r ≡ k = cc in
           subst (λ (x : ℕ). SheetRead (refused x) o′ (Refused r)) w (refuses {o = o′} r)
       by-answer (refused k) (Read m w b) h g =
           let z : parsedOf (Read m w b) o′ n′ ≡ parsed o n (refused k) = ap (λ (x : Parsed). parsedOf x o′ n′) (sym g) ∙ is-parsed ∙ ap (parsed o n) h in
-          let y = ap (λ (x : Output). x .answer) z in
+          let y = ap (λ x. x .answer) z in
           absurd (let w : _≡_ {A = ℕ} 0 1 = cc in omega arith)
       by-answer (given R) (Refused r) h g =
           let z : parsedOf (Refused r) o′ n′ ≡ parsed o n (given R) = ap (λ (x : Parsed). parsedOf x o′ n′) (sym g) ∙ is-parsed ∙ ap (parsed o n) h in
-          let y = ap (λ (x : Output). x .answer) z in
+          let y = ap (λ x. x .answer) z in
           absurd (let w : _≡_ {A = ℕ} 0 1 = cc in omega arith)
       by-answer (given R) (Read m w b) h g =
           let A = R .pattern .automaton in
           let z : parsedOf (Read m w b) o′ n′ ≡ parsed o n (given R) = ap (λ (x : Parsed). parsedOf x o′ n′) (sym g) ∙ is-parsed ∙ ap (parsed o n) h in
-          let y = ap (λ (x : Output). x .answer) z in
-          let v : _≡_ {A = Lengths} (record { read = m; words = w; bytes = b }) (record { read = R .read; words = length (write A); bytes = length (writeLabels (R .pattern .labels)) }) = cc in
-          let is-w : w ≡ length (write A) = ap (λ (x : Lengths). x .words) v in
-          let is-o : o′ ≡ sets o 0 (write A) = ap (λ (x : Output). x .sheet) z in
+          let y = ap (λ x. x .answer) z in
+          let v : _≡_ {A = ReadLengths} (record { read = m; outputs = record { words = w; bytes = b } }) (readLengthsOf R) = cc in
+          let is-w : w ≡ length (write A) = ap (λ (x : ReadLengths). x .outputs .words) v in
+          let is-o : o′ ≡ sets o 0 (write A) = ap (λ x. x .memory .sheet) z in
           let right = answers-given t R h .writable in
           let l = write-room A (right .well .accepts) (right .fits) in
           reads {o = o′} R m w b (omega (arith, ap length is-o, length-sets o 0 (write A)))
@@ -148,25 +147,25 @@ pub ruleset readLaws = (sheet-read, needs)
 
 -- what the answer of `read_sheet` says
 module _ (t o : List ℕ) (p : Parsed) where
-  pub sheet-refused : (r : Refusal) → SheetRead (parseAnswer t) o p → p ≡ Refused r → parseAnswer t ≡ refused (numberOf r)
-  sheet-refused r s e = by-case (parseAnswer t) p s e
+  pub sheet-refused : (r : Refusal) → SheetRead (readingAnswer t) o p → p ≡ Refused r → readingAnswer t ≡ refused (numberOf r)
+  sheet-refused r s e = by-case (readingAnswer t) p s e
     where
       by-case : (a : Answer Reading) (q : Parsed) → SheetRead a o q → q ≡ Refused r → a ≡ refused (numberOf r)
       by-case a q (refuses x) h = let z : x ≡ r = cc in ap (λ (y : Refusal). refused (numberOf y)) z
       by-case a q (reads R m w b i g) h = absurd (let z : _≡_ {A = ℕ} 0 1 = cc in omega arith)
 
-  module _ (m n b : ℕ) (s : SheetRead (parseAnswer t) o p) (e : p ≡ Read m n b) where
+  module _ (m n b : ℕ) (s : SheetRead (readingAnswer t) o p) (e : p ≡ Read m n b) where
     pub sheet-inside : n ≤ length o
-    sheet-inside = by-case (parseAnswer t) p s e
+    sheet-inside = by-case (readingAnswer t) p s e
       where
         by-case : (a : Answer Reading) (q : Parsed) → SheetRead a o q → q ≡ Read m n b → n ≤ length o
         by-case a q (refuses x) h = absurd (let z : _≡_ {A = ℕ} 0 1 = cc in omega arith)
         by-case a q (reads R k w c i g) h = let z : w ≡ n = cc in omega arith
 
     pub sheet-is : IsSheet t (take (n - 0) o)
-    sheet-is = by-case (parseAnswer t) p refl s e
+    sheet-is = by-case (readingAnswer t) p refl s e
       where
-        by-case : (a : Answer Reading) (q : Parsed) → parseAnswer t ≡ a → SheetRead a o q → q ≡ Read m n b → IsSheet t (take (n - 0) o)
+        by-case : (a : Answer Reading) (q : Parsed) → readingAnswer t ≡ a → SheetRead a o q → q ≡ Read m n b → IsSheet t (take (n - 0) o)
         by-case a q f (refuses x) h = absurd (let z : _≡_ {A = ℕ} 0 1 = cc in omega arith)
         by-case a q f (reads R k w c i g) h =
             let z : w ≡ n - 0 = let y : w ≡ n = cc in omega arith in

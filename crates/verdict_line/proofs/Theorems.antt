@@ -9,15 +9,15 @@ use borrow.Author.Tests.{le-ltb}
 use lib.ListN.{length, drop}
 use Rattle.automata.specs.Automaton.{Automaton}
 use Rattle.automata.specs.WellFormed.{WellFormed}
+use Rattle.automata.proofs.SameWords.{not-same}
 use Rattle.grammar.specs.Grammar.{found, mark}
 use Rattle.refusal.specs.Answer.{Answer, given}
 use Rattle.determinize.specs.Determinize.{determinize}
-use Rattle.parser.specs.Pattern.{Reading, parseAnswer}
+use Rattle.determinizations.specs.Two.{Two, totalSize}
+use Rattle.determinizations.proofs.Theorems.{determinized-both, same-words, one-word}
+use Rattle.parser.specs.Pattern.{Reading, readingAnswer}
 use Rattle.parser.proofs.Outcomes.{answers-given}
-use Rattle.equality.specs.Forced.{Two, totalSize}
 use Rattle.equality.specs.Verdict.{Equal, Apart}
-use Rattle.equality.specs.Equality.{withFirst, withSecond, determinized}
-use Rattle.equality.proofs.Exact.{same-words, one-word, not-same}
 use Rattle.verdict_line.specs.Texts.{twoTexts, withFirstText, withSecondText, onTexts, verdictAnswer}
 use Rattle.verdict_line.specs.Line.{VerdictLine, refuses, same, differs, sameLine, differLine}
 use Rattle.verdict_line.specs.Says.{Says}
@@ -35,7 +35,7 @@ module _ (lower upper : ℕ) (A B : Automaton) (well-a : WellFormed A) (well-b :
   says-differ w a =
       let one = one-word lower upper A B well-a well-b D E is-d is-e w (a .word) (a .differ) in
       record {
-        alike = (λ e. absurd (let q = e .1 in let z : _≡_ {A = ℕ} 100 115 = cc in omega arith), λ s. absurd (not-same lower upper A B well-a well-b D E is-d is-e w one (a .word) s));
+        alike = (λ e. absurd (let q = e .1 in let z : _≡_ {A = ℕ} 100 115 = cc in omega arith), λ s. absurd (not-same lower upper A B w one (a .word) s));
         different = λ n. (w, refl, a .word, one, a .short);
       }
 
@@ -45,11 +45,11 @@ module _ (lower upper : ℕ) (A B : Automaton) (well-a : WellFormed A) (well-b :
   line-says x bytes e (differs t w h) = let z : t ≡ two = cc in says-differ w (subst (λ (u : Two). Apart u w) z h)
 
 -- an input of two texts that are read as the automata A and B, both within the limits of determinizing
-module _ (lower upper : ℕ) (t : List ℕ) (at : ℕ) (few : length t ≤ 65536) (texts : twoTexts t ≡ found mark at) (R S : Reading) (first : parseAnswer t ≡ given R) (second : parseAnswer (drop at t) ≡ given S)
+module _ (lower upper : ℕ) (t : List ℕ) (at : ℕ) (few : length t ≤ 65536) (texts : twoTexts t ≡ found mark at) (R S : Reading) (first : readingAnswer t ≡ given R) (second : readingAnswer (drop at t) ≡ given S)
     (D E : Automaton) (is-d : determinize lower upper (R .pattern .automaton) ≡ given D) (is-e : determinize lower upper (S .pattern .automaton) ≡ given E) where
   is-two : verdictAnswer lower upper t ≡ given (record { one = D; two = E; lower = lower; upper = upper })
-  unfolding verdictAnswer withFirstText withSecondText determinized withFirst withSecond
-  is-two = rw (le-ltb 65536 (length t) few) (ap (onTexts lower upper t) texts ∙ rw (first, second, is-d, is-e))
+  unfolding verdictAnswer withFirstText withSecondText
+  is-two = rw (le-ltb 65536 (length t) few) (ap (onTexts lower upper t) texts ∙ rw (first, second) (determinized-both lower upper (R .pattern .automaton) (S .pattern .automaton) D E is-d is-e))
 
   pub verdict-says : (bytes : List ℕ) → VerdictLine (verdictAnswer lower upper t) bytes → Says lower upper (R .pattern .automaton) (S .pattern .automaton) (D .size + E .size) bytes
   verdict-says bytes l =

@@ -4,9 +4,9 @@ use mathlib.Core.List.{List, [], _∷_, _++_}
 use mathlib.Core.Path.{_≡_}
 use lib.ListN.{length}
 use Rattle.decimal.specs.Decimal.{digits}
-use Rattle.lists.specs.Written.{Written}
+use Rattle.stores.specs.Written.{Written}
 use Rattle.refusal.specs.Answer.{Answer, refused, given}
-use Rattle.equality.specs.Forced.{Two}
+use Rattle.determinizations.specs.Two.{Two}
 use Rattle.equality.specs.Verdict.{Equal, Apart}
 
 -- `same` and the joins

@@ -5,7 +5,7 @@ use mathlib.Core.Logic.{_↔_}
 use mathlib.Core.Path.{_≡_}
 use lib.ListN.{length}
 use Rattle.automata.specs.Automaton.{Automaton, Word}
-use Rattle.equality.specs.Equality.{SameWords, ExactlyOne}
+use Rattle.automata.specs.SameWords.{SameWords, ExactlyOne}
 use Rattle.verdict_line.specs.Line.{sameLine, differLine}
 
 -- a line on the automata A and B, whose determinizations have `most` states together: `same` just when they accept the same words, and else

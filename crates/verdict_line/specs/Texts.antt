@@ -7,9 +7,9 @@ use lib.ListN.{length, drop}
 use Rattle.automata.specs.Automaton.{Automaton}
 use Rattle.grammar.specs.Grammar.{ReadResult, nothing, found, follow, Mark, mark, space, wholeText}
 use Rattle.refusal.specs.Answer.{Answer, refused, given}
-use Rattle.parser.specs.Pattern.{Reading, parseAnswer}
-use Rattle.equality.specs.Forced.{Two}
-use Rattle.equality.specs.Equality.{determinized}
+use Rattle.parser.specs.Pattern.{Reading, readingAnswer}
+use Rattle.determinizations.specs.Two.{Two}
+use Rattle.determinizations.specs.Determinizations.{determinized}
 
 -- two texts of the grammar with optional space between and after: the place where the second begins
 unfoldable pub twoTexts : List ℕ → ReadResult Mark
@@ -30,7 +30,7 @@ withFirstText lower upper (given r) second = withSecondText lower upper (r .patt
 -- 8 where the input is not two texts
 abbrev pub onTexts : ℕ → ℕ → List ℕ → ReadResult Mark → Answer Two
 onTexts lower upper t nothing = refused 8
-onTexts lower upper t (found _ at) = withFirstText lower upper (parseAnswer t) (parseAnswer (drop at t))
+onTexts lower upper t (found _ at) = withFirstText lower upper (readingAnswer t) (readingAnswer (drop at t))
 
 -- the greatest length of an input
 abbrev pub inputSize : ℕ

@@ -5,11 +5,12 @@ ghost use lib.ListN.{length};
 ghost use Rattle.automata.specs.WellFormed.{lastSymbol};
 ghost use Rattle.sheets.specs.Fault.{fault};
 ghost use Rattle.sheets.specs.Sheet.{read};
-ghost use Rattle.parser.specs.Pattern.{parseAnswer};
-ghost use Rattle.equality.specs.Equality.{Judged};
+ghost use Rattle.parser.specs.Pattern.{readingAnswer};
+ghost use Rattle.equality.specs.Equality.{Judged, wordSize};
 ghost use Rattle.verdict_line.specs.Texts.{twoTexts, withSecondText, withFirstText, verdictAnswer};
 ghost use Rattle.verdict_line.specs.Line.{Printed};
 ghost use Rattle.verdict_line.specs.inner.Code.{secondOf, SheetRead};
+ghost use Rattle.output.specs.Output.{sheetSize};
 use equality::Verdict;
 use grammar::Cursor;
 use grammar::TextPiece;
@@ -46,8 +47,8 @@ fn second_text(input: &[u8]) -> Second
 
 // The sheet of a text at the front of out.
 fn read_sheet(text: &[u8], out: &mut [u32]) -> Parsed
-    requires { ⌜ length (now out) ≡ 10500 ⌝ }
-    ensures { λ r. ⌜ SheetRead (parseAnswer (now (text .entry))) (now (out .exit)) r ⌝ }
+    requires { ⌜ length (now out) ≡ sheetSize ⌝ }
+    ensures { λ r. ⌜ SheetRead (readingAnswer (now (text .entry))) (now (out .exit)) r ⌝ }
 {
     let mut names = [0u8; 16642];
     parser::parse_automaton(text, out, &mut names)
@@ -55,8 +56,8 @@ fn read_sheet(text: &[u8], out: &mut [u32]) -> Parsed
 
 // The sheet a against the second text.
 fn compare_second(a: &[u32], second: &[u8], word: &mut [u32]) -> Verdict
-    requires { ⌜ (fault (now a) ≡ 0) × (510 ≤ length (now word)) ⌝ }
-    ensures { λ r. ⌜ Judged (withSecondText 0 lastSymbol (read (now (a .entry))) (parseAnswer (now (second .entry)))) (now (word .entry)) (now (word .exit)) r ⌝ }
+    requires { ⌜ (fault (now a) ≡ 0) × (wordSize ≤ length (now word)) ⌝ }
+    ensures { λ r. ⌜ Judged (withSecondText 0 lastSymbol (read (now (a .entry))) (readingAnswer (now (second .entry)))) (now (word .entry)) (now (word .exit)) r ⌝ }
 {
     let mut b = [0u32; 10500];
     match read_sheet(second, &mut b) {
@@ -67,8 +68,8 @@ fn compare_second(a: &[u32], second: &[u8], word: &mut [u32]) -> Verdict
 
 // The first text against the second.
 fn compare_texts(first: &[u8], second: &[u8], word: &mut [u32]) -> Verdict
-    requires { ⌜ 510 ≤ length (now word) ⌝ }
-    ensures { λ r. ⌜ Judged (withFirstText 0 lastSymbol (parseAnswer (now (first .entry))) (parseAnswer (now (second .entry)))) (now (word .entry)) (now (word .exit)) r ⌝ }
+    requires { ⌜ wordSize ≤ length (now word) ⌝ }
+    ensures { λ r. ⌜ Judged (withFirstText 0 lastSymbol (readingAnswer (now (first .entry))) (readingAnswer (now (second .entry)))) (now (word .entry)) (now (word .exit)) r ⌝ }
 {
     let mut a = [0u32; 10500];
     match read_sheet(first, &mut a) {
@@ -79,7 +80,7 @@ fn compare_texts(first: &[u8], second: &[u8], word: &mut [u32]) -> Verdict
 
 // The verdict on the two texts of an input.
 fn compare(input: &[u8], word: &mut [u32]) -> Verdict
-    requires { ⌜ 510 ≤ length (now word) ⌝ }
+    requires { ⌜ wordSize ≤ length (now word) ⌝ }
     ensures { λ r. ⌜ Judged (verdictAnswer 0 lastSymbol (now (input .entry))) (now (word .entry)) (now (word .exit)) r ⌝ }
 {
     if 65536 < input.len() {

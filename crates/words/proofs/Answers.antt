@@ -5,8 +5,9 @@ use mathlib.Core.List.{List, [], _∷_}
 use mathlib.Core.Path.{_≡_, refl, sym, _∙_, ap, subst}
 use borrow.Author.Needs.{needs}
 use lib.ListN.{length, getD, drop, drop-of-length-le}
+use Rattle.automata.specs.Automaton.{Automaton}
 use Rattle.refusal.specs.declared.InputRefusal.{InputRefusal}
-use Rattle.refusal.specs.Answer.{refused, given}
+use Rattle.refusal.specs.Answer.{Answer, refused, given}
 use Rattle.refusal.specs.Number.{inputNumber}
 use Rattle.sets.specs.Sets.{Set, isEmpty}
 use Rattle.sets.specs.inner.Members.{Canon}
@@ -14,7 +15,6 @@ use Rattle.sets.specs.inner.BitSet.{setAt}
 use Rattle.sets.proofs.Sets.{empty-yes}
 use Rattle.sheets.specs.declared.Checked.{Checked}
 use Rattle.sheets.specs.declared.Checked.the-variants.{Accepted, Refused}
-use Rattle.sheets.specs.inner.Accepted
 use Rattle.sheets.specs.Checked.{checkedNumber}
 use Rattle.sheets.specs.Fault.{fault}
 use Rattle.sheets.specs.Sheet.{stateCount, read}
@@ -29,10 +29,9 @@ use Rattle.utf8.proofs.Decode.{decode-end, end-decode, malformed-decode, point-
 use Rattle.utf8.proofs.Wellformed.{wellformed-points, point-wellformed}
 use Rattle.words.specs.Simulation.{step, simulate, startSet, kindOf, kind}
 use Rattle.words.specs.inner.Gather.{Tables}
-use Rattle.words.specs.Acceptance.{acceptsWordsAnswer, textAnswer, acceptsTextAnswer}
+use Rattle.words.specs.Acceptance.{acceptsWordsAnswer, textFirst, acceptsTextAnswer}
 use Rattle.words.specs.inner.Acceptance.{pointsOf}
 use Rattle.words.proofs.Closures.{closure-canon}
-use Rattle.words.proofs.Epsilons.{fresh}
 use Rattle.words.proofs.Reading.{simulate-nothing, read-canon}
 use Rattle.words.proofs.Stepping.{step-canon}
 
@@ -95,10 +94,9 @@ simulate-canon s starts c t S (a ∷ w) n = simulate-canon s starts c t (step (r
 pub end-canon : (s starts c set : List ℕ) (S : Set) (w : List ℕ) → Tables s starts c → Canon (stateCount s) S → setAt set 0 ≡ simulate (read s) S w → Canon (stateCount s) (setAt set 0)
 end-canon s starts c set S w t n e = subst (Canon (stateCount s)) (sym e) (simulate-canon s starts c t S w n)
 
-pub tables-accepted : (s starts c : List ℕ) → Tables s starts c → Accepted.Accepted s
-tables-accepted s starts c t = t .accepted
-
-pub ruleset wordLaws = (fresh, word-done, start-canon, end-canon, tables-accepted, needs)
+-- the answer for a text behind the sheet's faults
+abbrev pub textAnswer : Automaton → Decoded → Answer ℕ
+textAnswer A d = textFirst d (λ w. given (kind A w))
 
 module _ (s w : List ℕ) (r : Checked) (e : checkedNumber r ≡ fault s) where
   pub words-given : r ≡ Accepted → (k : ℕ) → k ≡ kind (read s) w → given k ≡ acceptsWordsAnswer s w
@@ -110,13 +108,13 @@ module _ (s w : List ℕ) (r : Checked) (e : checkedNumber r ≡ fault s) where
   words-refused i h = sym (sheet-refused s _ r e i h)
 
   pub text-given : r ≡ Accepted → (b : Bool) → b ≡ wellformed w → b ≡ true → (k : ℕ) → k ≡ kind (read s) (pointsOf (decode w)) → given k ≡ acceptsTextAnswer s w
-  unfolding acceptsTextAnswer textAnswer pointsOf
+  unfolding acceptsTextAnswer pointsOf
   text-given h b f g k q =
       let p = wellformed-points w .0 (sym f ∙ g) in
       ap given (q ∙ ap (λ d. kind (read s) (pointsOf d)) (p .1)) ∙ ap (textAnswer (read s)) (sym (p .1)) ∙ sym (sheet-passed s _ r e h)
 
   pub text-bad : r ≡ Accepted → (b : Bool) → b ≡ wellformed w → b ≡ false → refused 9 ≡ acceptsTextAnswer s w
-  unfolding acceptsTextAnswer textAnswer
+  unfolding acceptsTextAnswer
   text-bad h b f g = go (decode w) refl ∙ sym (sheet-passed s _ r e h)
     where
       go : (d : Decoded) → decode w ≡ d → refused 9 ≡ textAnswer (read s) (decode w)

@@ -30,11 +30,12 @@ use Rattle.sets.proofs.Stores.{inserted, insert-other, length-insert}
 use Rattle.sheets.specs.inner.Accepted.{Accepted}
 use Rattle.sheets.specs.Sheet.{stateCount, recordsAt, read}
 use Rattle.sheets.proofs.Meaning.{read-well}
-use Rattle.sheets.proofs.Named.{named-from, named-to, named-next, sheet-named}
+use Rattle.sheets.proofs.Named.{named-to, named-next, sheet-named}
 use Rattle.words.specs.Simulation.{isEpsilon, epsilonRow, closures}
-use Rattle.words.specs.inner.Gather.{withAll}
+use Rattle.words.specs.inner.Gather.{withAll, RowsFor}
 use Rattle.words.specs.inner.Epsilons.{Fresh, SelvesAdded, withEpsilons, EpsilonsAdded, EpsilonsLeft}
 use Rattle.words.proofs.Gather.{all-none, all-cons, all-skip, all-one}
+use Rattle.words.proofs.Rows.{rows-from, rows-next, sheet-rows}
 
 eqb-comm : (a b : ℕ) → eqb a b ≡ eqb b a
 eqb-comm a b = true-same _ _ (λ h. eq-eqb b a (sym (eqb-true a b h))) (λ h. eq-eqb a b (sym (eqb-true b a h)))
@@ -43,7 +44,7 @@ eqb-comm a b = true-same _ _ (λ h. eq-eqb b a (sym (eqb-true a b h))) (λ h. eq
 pub selves-none : (t : List ℕ) → SelvesAdded t t 0
 selves-none t = record { below = λ p l. absurd (omega arith); above = λ p l. refl }
 
-pub selves-next : (t u v : List ℕ) (n m : ℕ) → SelvesAdded t u n → n < m → m ≤ 256 → length u ≡ length t → length t ≡ 1024 → v ≡ insertAt u (4 * n) n → SelvesAdded t v (n + 1)
+pub selves-next : (t u v : List ℕ) (n m : ℕ) → SelvesAdded t u n → n < m → m ≤ 256 → length u ≡ length t → 4 * m ≤ length t → v ≡ insertAt u (4 * n) n → SelvesAdded t v (n + 1)
 selves-next t u v n m s g h j k e =
     let l : n < 256 = omega arith in
     subst⁻¹ (λ (x : List ℕ). SelvesAdded t x (n + 1)) e (record {
@@ -70,9 +71,9 @@ pub epsilon-not : (t r : List ℕ) → (getD r 1 0 ≡ 0 → ⊥) → EpsilonsAd
 unfolding withEpsilons isEpsilon
 epsilon-not t r h = record { row = λ p l. sym (all-skip (isEpsilon p) (setAt t (4 * p)) (recordAt r 0) (at-canon t (4 * p)) (λ q. rw (ne-eqb (getD r 1 0) 0 h))) }
 
-pub epsilon-put : (t u r : List ℕ) → getD r 1 0 ≡ 0 → getD r 0 0 < 256 → getD r 4 0 < 256 → length t ≡ 1024 → u ≡ insertAt t (4 * getD r 0 0) (getD r 4 0) → EpsilonsAdded t u (recordAt r 0 ∷ [])
+pub epsilon-put : (t u r : List ℕ) → getD r 1 0 ≡ 0 → 4 * getD r 0 0 + 4 ≤ length t → getD r 4 0 < 256 → u ≡ insertAt t (4 * getD r 0 0) (getD r 4 0) → EpsilonsAdded t u (recordAt r 0 ∷ [])
 unfolding withEpsilons isEpsilon
-epsilon-put t u r k f g l e =
+epsilon-put t u r k f g e =
     record {
       row = λ p h.
           ⊎-elim
@@ -109,10 +110,14 @@ unfolding withEpsilons
 epsilons-end t run u at s h =
     record { row = λ p l. sym (all-none (isEpsilon p) (setAt u (4 * p)) (at-canon u (4 * p))) ∙ ap (withAll (setAt u (4 * p)) (isEpsilon p)) (sym (records-end run at h)) ∙ s .row p l }
 
-pub ruleset epsilonsLaws = (epsilons-begin, epsilons-next, epsilons-end, named-from, named-to, named-next, needs)
+pub ruleset epsilonsLaws = (epsilons-begin, epsilons-next, epsilons-end, named-to, named-next, rows-from, rows-next, needs)
 
-pub fresh : Fresh (replicate 1024 0)
-fresh = record { long = length-replicate {A = ℕ} 1024 0; empty = fresh-at 1024 }
+-- the large table, and the small one where there are at most 32 states
+pub fresh-large : (s : List ℕ) → Accepted s → Fresh (stateCount s) (replicate 1024 0)
+fresh-large s a = record { long = omega (arith, length-replicate {A = ℕ} 1024 0, a .few-states); empty = fresh-at 1024 }
+
+pub fresh-small : (s : List ℕ) → stateCount s ≤ 32 → Fresh (stateCount s) (replicate 128 0)
+fresh-small s h = record { long = omega (arith, length-replicate {A = ℕ} 128 0); empty = fresh-at 128 }
 
 -- the table of an accepted sheet
 module _ (s : List ℕ) (a : Accepted s) where
@@ -140,11 +145,15 @@ module _ (s : List ℕ) (a : Accepted s) where
       (λ t. t)
       (test (any (isEpsilon p q) (read s .transitions))))
 
+  -- each state that is named has a row in a table as long as z
+  pub closures-rows : (z t : List ℕ) → Fresh (stateCount s) z → length t ≡ length z → RowsFor (length t) (readRecords (take (length s - recordsAt s) (drop (recordsAt s) s)))
+  closures-rows z t e l = sheet-rows s a (length t) (omega (arith, e .long))
+
   row-canon : (p : ℕ) → Canon (stateCount s) (epsilonRow (read s) p)
   unfolding epsilonRow
   row-canon p = pick-canon (stateCount s) _
 
-  module _ (z t u : List ℕ) (e : Fresh z) (f : SelvesAdded z t (stateCount s)) (g : EpsilonsAdded t u (readRecords (take (length s - recordsAt s) (drop (recordsAt s) s)))) where
+  module _ (z t u : List ℕ) (e : Fresh (stateCount s) z) (f : SelvesAdded z t (stateCount s)) (g : EpsilonsAdded t u (readRecords (take (length s - recordsAt s) (drop (recordsAt s) s)))) where
     row : (p : ℕ) → p < stateCount s → setAt u (4 * p) ≡ epsilonRow (read s) p
     unfolding withEpsilons withAll epsilonRow records
     row p l =
@@ -165,4 +174,4 @@ module _ (s : List ℕ) (a : Accepted s) where
     unfolding closures entries
     closures-done v k = k .rows ∙ ap (closed (stateCount s) (stateCount s)) (tabulate-ext (stateCount s) _ _ row)
 
-pub ruleset closureLaws = (sheet-named, closures-below, closures-done, needs)
+pub ruleset closureLaws = (sheet-named, closures-rows, closures-below, closures-done, needs)

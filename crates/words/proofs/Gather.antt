@@ -5,7 +5,6 @@ use mathlib.Core.List.{List, [], _∷_}
 use mathlib.Core.Logic.{⊎-elim}
 use mathlib.Core.Path.{_≡_, refl, sym, _∙_, ap, subst}
 use native.Mathlib.Omega.{arith}
-use borrow.Author.Needs.{needs}
 use borrow.Author.Tests.{eq-eqb, lt-leb, le-leb, ne-eqb}
 use lib.Dec.{eqb}
 use lib.ListN.{length, getD, drop}
@@ -26,8 +25,6 @@ use Rattle.sets.specs.inner.Words.{unionAt}
 use Rattle.sets.proofs.Sets.{has-pick, pick-ext}
 use Rattle.sets.proofs.BitSet.{at-canon}
 use Rattle.sets.proofs.Stores.{unioned}
-use Rattle.sheets.specs.inner.Runs.{Named}
-use Rattle.sheets.proofs.Named.{named-target}
 use Rattle.words.specs.inner.Gather.{withAll, takes, gathered}
 
 or-assoc : (a b c : Bool) → (a || (b || c)) ≡ ((a || b) || c)
@@ -131,9 +128,3 @@ module _ (old c : List ℕ) (a : ℕ) (run : List ℕ) (t : List ℕ) (at : ℕ)
           let f : (d : Transition) → d ∈ rangesIn (drop at run) → a < d .first =
           λ d m. sorted-above a (recordAt run at) (rangesIn (drop (at + 5) run)) (subst SortedRanges r s) g d (rw r at m) in
           gather-nothing c a t (readRecords (drop at run)) (takes-none a (readRecords (drop at run)) f) ∙ e
-
--- the table of closures has a row for the target of the record at a place
-pub target-row : (run c : List ℕ) (at : ℕ) → Named (readRecords (drop at run)) → 5 ≤ length run - at → length c ≡ 1024 → 4 * getD run (at + 4) 0 + 4 ≤ length c
-target-row run c at n h l = omega (arith, named-target run at n h)
-
-pub ruleset targetLaws = (target-row, needs)

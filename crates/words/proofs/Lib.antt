@@ -5,6 +5,7 @@ pub mod Closures
 pub mod Simulation
 pub mod Outgoing
 pub mod Gather
+pub mod Rows
 pub mod Epsilons
 pub mod Stepping
 pub mod Reading

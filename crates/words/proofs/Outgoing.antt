@@ -1,6 +1,6 @@
 -- The ranges that leave a set, and the next cut among them, member by member.
 use Prim.Native.Nat.{ℕ, _+_, _≤_, _<_}
-use mathlib.Core.Bool.{Bool, true, false, _&&_, _||_, false≢true}
+use mathlib.Core.Bool.{Bool, true, false, _&&_, _||_, and-false, false≢true}
 use mathlib.Core.List.{List, [], _∷_, _++_}
 use mathlib.Core.Logic.{⊎-elim}
 use mathlib.Core.Path.{_≡_, refl, sym, _∙_, ap}
@@ -13,7 +13,8 @@ use Rattle.lists.proofs.Members.{filter-either}
 use Rattle.lists.proofs.Tests.{test, and-parts}
 use Rattle.automata.specs.Automaton.{Transition, Automaton, holds, leaving, rangesOf}
 use Rattle.automata.specs.Records.{readRecords, writeRecords}
-use Rattle.automata.specs.WellFormed.{Lex, Before, WellFormed}
+use Rattle.automata.specs.WellFormed.{Before, WellFormed}
+use Rattle.automata.proofs.Ordered.{before-from}
 use Rattle.automata.proofs.Records.{read-write}
 use Rattle.sets.specs.Sets.{Set, has}
 use Rattle.sets.specs.inner.Members.{Canon, membersFrom, nextMember}
@@ -22,10 +23,6 @@ use Rattle.sets.proofs.Members.{from-end, visit-start, visit-next, next-above}
 use Rattle.ranges.specs.Cuts.{nextCut}
 use Rattle.ranges.proofs.Cuts.{next-append}
 use Rattle.words.specs.Simulation.{closure, outgoing, step}
-
-and-false : (b : Bool) → (b && false) ≡ false
-and-false true = refl
-and-false false = refl
 
 module _ (A : Automaton) where
   -- no range leaves the empty set, and no symbol leads anywhere from it
@@ -41,10 +38,6 @@ module _ (A : Automaton) where
       let f : any (λ d. holds a d && has q (closure A (d .to))) (outgoing A []) ≡ true = pick-out 0 (A .size) _ q h .2 in
       false≢true (sym (ap (any (λ d. holds a d && has q (closure A (d .to)))) outgoing-nil) ∙ f))
 
-from-rises : (d e : Transition) → Before d e → d .from ≤ e .from
-from-rises d e (Lex.here h) = omega arith
-from-rises d e (Lex.later p h) = omega arith
-
 module _ (A : Automaton) (w : WellFormed A) where
   -- a member below all others
   outgoing-cons : (q : ℕ) (R : Set) → ((x : ℕ) → has x R ≡ true → q < x) → outgoing A (q ∷ R) ≡ rangesOf (leaving A q) ++ outgoing A R
@@ -58,7 +51,7 @@ module _ (A : Automaton) (w : WellFormed A) where
       (λ e p. apart e (eqb-true _ _ (and-parts (eqb (e .from) q) _ p .0)))
       (λ d e b p.
       let k = h (d .from) (and-parts (eqb (d .kind) 1) _ p .1) in
-      let r = from-rises d e b in
+      let r = before-from d e b in
       rw (ne-eqb (e .from) q (λ c. omega arith)))
       (w .ascends)
       ∙ ap (λ l. l ++ filter g (A .transitions)) (filter-and (λ e. eqb (e .from) q) (λ e. eqb (e .kind) 1) (A .transitions))

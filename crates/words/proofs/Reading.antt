@@ -3,7 +3,6 @@ use Prim.Native.Nat.{ℕ, _+_, _*_, _≤_, _<_}
 use mathlib.Core.Bool.{Bool, true}
 use mathlib.Core.List.{List, [], _∷_}
 use mathlib.Core.Path.{_≡_, refl, sym, _∙_, ap, subst}
-use native.Mathlib.Omega.{arith}
 use borrow.Author.Needs.{needs}
 use lib.ListN.{length, getD, drop, drop-of-length-le}
 use lib.Seq.{sets}
@@ -55,9 +54,9 @@ read-canon s starts c cur u a t e = subst (Canon (stateCount s)) (sym e) (step-c
 pub ruleset readLaws = (advance-done, read-ended, read-nothing, read-next, read-canon, needs)
 
 -- the tables and the start
-pub begin-tables : (s old starts c : List ℕ) → Accepted s → starts ≡ sets old 0 (startsOf s) → length old ≡ 257 → length c ≡ 1024 → entries c (stateCount s) ≡ closures (read s) → Tables s starts c
+pub begin-tables : (s old starts c : List ℕ) → Accepted s → starts ≡ sets old 0 (startsOf s) → stateCount s < length old → 4 * stateCount s ≤ length c → entries c (stateCount s) ≡ closures (read s) → Tables s starts c
 begin-tables s old starts c a e l m h =
-    record { accepted = a; indexed = starts-indexed s old starts e (omega (arith, a .few-states)); long = m; closed = h }
+    record { accepted = a; indexed = starts-indexed s old starts e l; long = m; closed = h }
 
 pub begin-set : (s c cur v : List ℕ) → Accepted s → entries c (stateCount s) ≡ closures (read s) → v ≡ putAt cur 0 c (4 * getD s 1 0) → 4 ≤ length cur → setAt v 0 ≡ startSet (read s)
 unfolding startSet closure

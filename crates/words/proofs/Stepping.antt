@@ -26,17 +26,17 @@ use Rattle.sets.proofs.Sets.{has-pick, pick-ext, pick-canon, mem-has, has-mem, 
 use Rattle.sets.proofs.BitSet.{at-canon, entry-at}
 use Rattle.sets.proofs.Stores.{cleared}
 use Rattle.sets.proofs.Members.{visit-start, visit-has, visit-next, from-end}
-use Rattle.sheets.specs.inner.Runs.{Named, RunAt}
+use Rattle.sheets.specs.inner.Runs.{RunAt}
 use Rattle.sheets.specs.Sheet.{stateCount, read}
 use Rattle.sheets.proofs.Meaning.{read-well}
-use Rattle.sheets.proofs.Named.{run-named}
 use Rattle.sheets.proofs.Runs.{run-at}
 use Rattle.words.specs.Simulation.{closure, outgoing, step}
-use Rattle.words.specs.inner.Gather.{takes, reaches, gathered, Tables, withReached, withAll}
+use Rattle.words.specs.inner.Gather.{takes, reaches, gathered, RowsFor, Tables, withReached, withAll}
 use Rattle.words.proofs.Visiting.{member-here, member-later}
 use Rattle.words.proofs.Outgoing.{member-cut-begins, member-cut-next, member-cut-ended}
 use Rattle.words.proofs.Gather.{all-none, all-cons, all-one}
 use Rattle.words.proofs.Closures.{closure-sound, run-bound}
+use Rattle.words.proofs.Rows.{run-rows}
 
 -- a step, member by member
 module _ (A : Automaton) (ok : InBounds A) (a : ℕ) where
@@ -94,8 +94,8 @@ module _ (s starts c : List ℕ) (t : Tables s starts c) (a : ℕ) where
   ok = read-well s (t .accepted) .states
 
   -- the states that the run of q names have rows in the table
-  pub step-named : (q : ℕ) (run : List ℕ) → run ≡ writeRecords (leaving (read s) q) → Named (readRecords run)
-  step-named = run-named s (t .accepted)
+  pub step-rows : (q : ℕ) (run : List ℕ) → run ≡ writeRecords (leaving (read s) q) → RowsFor (length c) (readRecords run)
+  step-rows = run-rows s (t .accepted) (length c) (t .long)
 
   -- and its ranges are sorted
   pub step-sorted : (q : ℕ) (run : List ℕ) → run ≡ writeRecords (leaving (read s) q) → SortedRanges (rangesOf (readRecords run))
@@ -152,4 +152,4 @@ module _ (s starts c : List ℕ) (t : Tables s starts c) (a : ℕ) where
     step-ended q u i l =
         sym (all-none (reaches (read s) a) (setAt u 0) (at-canon u 0)) ∙ ap (withReached (read s) a u) (sym (from-end (setAt cur 0) (at-canon cur 0) q l)) ∙ i
 
-pub ruleset stepLaws = (step-run, step-named, step-sorted, step-begins, step-next, step-ended, cut-begins, cut-next, cut-ended, member-here, member-later, needs)
+pub ruleset stepLaws = (step-run, step-rows, step-sorted, step-begins, step-next, step-ended, cut-begins, cut-next, cut-ended, member-here, member-later, needs)

@@ -29,9 +29,10 @@ use Rattle.utf8.specs.Utf8.{Decoded, malformed, points, decode}
 use Rattle.utf8.proofs.Exact.{decode-exact}
 use Rattle.words.specs.declared.Acceptance.{Acceptance}
 use Rattle.words.specs.declared.Acceptance.the-variants.{Kind, Refused}
-use Rattle.words.specs.Acceptance.{acceptsWordsAnswer, textAnswer, acceptsTextAnswer, acceptanceOf, acceptanceNumber}
+use Rattle.words.specs.Acceptance.{acceptsWordsAnswer, acceptsTextAnswer, acceptanceOf, acceptanceNumber}
 use Rattle.words.specs.Kinds
 use Rattle.words.specs.Simulation.{closure, simulate, startSet, kindOf, kind}
+use Rattle.words.proofs.Answers.{textAnswer}
 use Rattle.words.proofs.Closures.{join, closure-sound, closure-complete, closure-canon}
 use Rattle.words.proofs.Kind.{kindOf-some, kindOf-least}
 use Rattle.words.proofs.Simulation.{simulate-sound, simulate-complete, closure-shut, accepts-kind}
@@ -137,7 +138,6 @@ module _ (s t : List ℕ) (r : Acceptance) (call : acceptanceOf r ≡ acceptsTex
     good : (ps : List ℕ) → textAnswer (read s) (decode t) ≡ given (kind (read s) ps) → Encoded t ps → Text
 
   text : Text
-  unfolding textAnswer
   text = go (decode t) refl
     where
       go : (d : Decoded) → decode t ≡ d → Text

@@ -2,7 +2,6 @@
 -- The answer is a refusal's number, or the accept word that the states at the word's end give: 0 where it is not accepted.
 use Prim.Native.Nat.{ℕ}
 use mathlib.Core.List.{List}
-use Rattle.automata.specs.Automaton.{Automaton}
 use Rattle.refusal.specs.Answer.{Answer, refused, given}
 use Rattle.refusal.specs.Number.{inputNumber}
 use Rattle.sheets.specs.Checked.{sheetFirst}
@@ -16,13 +15,14 @@ use Rattle.words.specs.Simulation.{kind}
 unfoldable pub acceptsWordsAnswer : List ℕ → List ℕ → Answer ℕ
 acceptsWordsAnswer s w = sheetFirst s (given (kind (read s) w))
 
-unfoldable pub textAnswer : Automaton → Decoded → Answer ℕ
-textAnswer A malformed = refused 9
-textAnswer A (points w) = given (kind A w)
+-- 9 where a text is malformed, or else the answer for the word of its code points
+abbrev pub textFirst : {X : Type 0} → Decoded → (List ℕ → Answer X) → Answer X
+textFirst malformed a = refused 9
+textFirst (points w) a = a w
 
 -- a text stands for the word of its code points
 unfoldable pub acceptsTextAnswer : List ℕ → List ℕ → Answer ℕ
-acceptsTextAnswer s t = sheetFirst s (textAnswer (read s) (decode t))
+acceptsTextAnswer s t = sheetFirst s (textFirst (decode t) (λ w. given (kind (read s) w)))
 
 -- the answer that a value of the code stands for
 abbrev pub acceptanceOf : Acceptance → Answer ℕ

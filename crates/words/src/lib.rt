@@ -15,7 +15,7 @@ ghost use Rattle.sets.specs.inner.BitSet.{setAt, entries};
 ghost use Rattle.sets.specs.inner.Members.{Canon};
 ghost use Rattle.sets.specs.inner.Words.{unionAt};
 ghost use Rattle.sheets.specs.Sheet.{stateCount, read};
-ghost use Rattle.words.specs.inner.Gather.{gathered, Tables};
+ghost use Rattle.words.specs.inner.Gather.{gathered, RowsFor, Tables};
 ghost use Rattle.words.specs.Simulation.{closures, outgoing, step, startSet, simulate, least, kindOf, kind};
 ghost use Rattle.words.specs.inner.Epsilons.{Fresh, SelvesAdded, EpsilonsAdded};
 ghost use Rattle.sheets.specs.inner.Accepted.{Accepted};
@@ -29,7 +29,7 @@ use sheets::Checked;
 
 // Each of the first n rows gets its own number.
 fn add_selves(rows: &mut [u64], n: usize)
-    requires { ⌜ (n ≤ 256) × (length (now rows) ≡ 1024) ⌝ }
+    requires { ⌜ (n ≤ 256) × (4 * n ≤ length (now rows)) ⌝ }
     ensures { λ u. ⌜ SelvesAdded (now (rows .entry)) (now (rows .exit)) n ⌝ }
 {
     let mut p: usize = 0;
@@ -41,7 +41,7 @@ fn add_selves(rows: &mut [u64], n: usize)
 
 // The row of the state that the record r leaves gets its target, if it is an epsilon.
 fn add_epsilon(r: &[u32], rows: &mut [u64])
-    requires { ⌜ (length (now r) ≡ 5) × (getD (now r) 0 0 < 256) × (getD (now r) 4 0 < 256) × (length (now rows) ≡ 1024) ⌝ }
+    requires { ⌜ (length (now r) ≡ 5) × (4 * getD (now r) 0 0 + 4 ≤ length (now rows)) × (getD (now r) 4 0 < 256) ⌝ }
     ensures { λ u. ⌜ EpsilonsAdded (now (rows .entry)) (now (rows .exit)) (recordAt (now (r .entry)) 0 ∷ []) ⌝ }
 {
     if r[1] != 0 {
@@ -52,7 +52,7 @@ fn add_epsilon(r: &[u32], rows: &mut [u64])
 
 // Each row gets the targets of the epsilons that leave its state.
 fn add_epsilons(records: &[u32], rows: &mut [u64])
-    requires { ⌜ Named (readRecords (now records)) × (length (now rows) ≡ 1024) ⌝ }
+    requires { ⌜ Named (readRecords (now records)) × RowsFor (length (now rows)) (readRecords (now records)) ⌝ }
     ensures { λ u. ⌜ EpsilonsAdded (now (rows .entry)) (now (rows .exit)) (readRecords (now (records .entry))) ⌝ }
 {
     let mut at: usize = 0;
@@ -64,8 +64,8 @@ fn add_epsilons(records: &[u32], rows: &mut [u64])
 
 // For each state the states that any number of epsilons reaches, itself included, as row after row of a zeroed table.
 pub fn state_closures(s: &[u32], rows: &mut [u64])
-    requires { ⌜ Accepted (now s) × Fresh (now rows) ⌝ }
-    ensures { λ u. ⌜ (length (now (rows .exit)) ≡ 1024) × (entries (now (rows .exit)) (stateCount (now (s .entry))) ≡ closures (read (now (s .entry)))) ⌝ }
+    requires { ⌜ Accepted (now s) × Fresh (stateCount (now s)) (now rows) ⌝ }
+    ensures { λ u. ⌜ (4 * stateCount (now (s .entry)) ≤ length (now (rows .exit))) × (entries (now (rows .exit)) (stateCount (now (s .entry))) ≡ closures (read (now (s .entry)))) ⌝ }
 {
     let n = s[2] as usize;
     add_selves(rows, n);
@@ -84,7 +84,7 @@ fn take_closure(next: &mut [u64], closures: &[u64], state: u32)
 // next takes in the closures of the targets of the run whose range holds the symbol. Answers the least of top and the cuts above the symbol, which are
 // every first and every last plus 1. Behind a range that starts above the symbol no range holds it or is cut below that start.
 fn follow(run: &[u32], symbol: u32, closures: &[u64], next: &mut [u64], top: u64) -> u64
-    requires { ⌜ Named (readRecords (now run)) × (length (now closures) ≡ 1024) × SortedRanges (rangesOf (readRecords (now run))) × (4 ≤ length (now next)) ⌝ }
+    requires { ⌜ RowsFor (length (now closures)) (readRecords (now run)) × SortedRanges (rangesOf (readRecords (now run))) × (4 ≤ length (now next)) ⌝ }
     ensures cut { λ r. ⌜ r ≡ nextCut symbol top (rangesOf (readRecords (now (run .entry)))) ⌝ }
     ensures reached { λ r. ⌜ setAt (now (next .exit)) 0 ≡ gathered (now (next .entry)) (now (closures .entry)) symbol (readRecords (now (run .entry))) ⌝ }
 {
@@ -197,7 +197,7 @@ fn read_word(s: &[u32], starts: &[u32], closures: &[u64], word: &[u32], current:
 
 // The tables of a sheet: where its runs begin, and its closures; and the states that the empty word leads to.
 pub fn begin(s: &[u32], starts: &mut [u32], closures: &mut [u64], current: &mut [u64])
-    requires { ⌜ Accepted (now s) × (length (now starts) ≡ 257) × Fresh (now closures) × (4 ≤ length (now current)) ⌝ }
+    requires { ⌜ Accepted (now s) × (stateCount (now s) < length (now starts)) × Fresh (stateCount (now s)) (now closures) × (4 ≤ length (now current)) ⌝ }
     ensures { λ u. ⌜ Tables (now (s .entry)) (now (starts .exit)) (now (closures .exit)) × (setAt (now (current .exit)) 0 ≡ startSet (read (now (s .entry)))) ⌝ }
 {
     sheets::run_starts(s, starts);
@@ -226,30 +226,70 @@ fn read_text(s: &[u32], starts: &[u32], closures: &[u64], text: &[u8], current: 
     }
 }
 
-// The accept word of a word in an accepted sheet.
+// The accept word of a word in an accepted sheet, whose closures are put into a zeroed table that has a row for each state.
+fn word_kind_in(s: &[u32], word: &[u32], closures: &mut [u64]) -> u32
+    requires { ⌜ Accepted (now s) × Fresh (stateCount (now s)) (now closures) ⌝ }
+    ensures { λ r. ⌜ r ≡ kind (read (now (s .entry))) (now (word .entry)) ⌝ }
+{
+    let mut starts = [0u32; 257];
+    let mut current = [0u64; 4];
+    begin(s, &mut starts, closures, &mut current);
+    read_word(s, &starts, closures, word, &mut current);
+    kind_of(s, &current)
+}
+
+// The same with a table for as many states as a sheet may have.
+fn word_kind_large(s: &[u32], word: &[u32]) -> u32
+    requires { ⌜ Accepted (now s) ⌝ }
+    ensures { λ r. ⌜ r ≡ kind (read (now (s .entry))) (now (word .entry)) ⌝ }
+{
+    let mut closures = [0u64; 1024];
+    word_kind_in(s, word, &mut closures)
+}
+
+// The same with a table for 32 states where they are enough.
 fn word_kind(s: &[u32], word: &[u32]) -> u32
     requires { ⌜ Accepted (now s) ⌝ }
     ensures { λ r. ⌜ r ≡ kind (read (now (s .entry))) (now (word .entry)) ⌝ }
 {
+    if 32 < s[2] {
+        return word_kind_large(s, word);
+    }
+    let mut closures = [0u64; 128];
+    word_kind_in(s, word, &mut closures)
+}
+
+// The accept word of a text that is not malformed in an accepted sheet, whose closures are put into a zeroed table that has a row for each state.
+fn text_kind_in(s: &[u32], text: &[u8], closures: &mut [u64]) -> u32
+    requires { ⌜ Accepted (now s) × Fresh (stateCount (now s)) (now closures) × (wellformed (now text) ≡ true) ⌝ }
+    ensures { λ r. ⌜ r ≡ kind (read (now (s .entry))) (pointsOf (decode (now (text .entry)))) ⌝ }
+{
     let mut starts = [0u32; 257];
-    let mut closures = [0u64; 1024];
     let mut current = [0u64; 4];
-    begin(s, &mut starts, &mut closures, &mut current);
-    read_word(s, &starts, &closures, word, &mut current);
+    begin(s, &mut starts, closures, &mut current);
+    read_text(s, &starts, closures, text, &mut current);
     kind_of(s, &current)
 }
 
-// The accept word of a text that is not malformed in an accepted sheet.
+// The same with a table for as many states as a sheet may have.
+fn text_kind_large(s: &[u32], text: &[u8]) -> u32
+    requires { ⌜ Accepted (now s) × (wellformed (now text) ≡ true) ⌝ }
+    ensures { λ r. ⌜ r ≡ kind (read (now (s .entry))) (pointsOf (decode (now (text .entry)))) ⌝ }
+{
+    let mut closures = [0u64; 1024];
+    text_kind_in(s, text, &mut closures)
+}
+
+// The same with a table for 32 states where they are enough.
 fn text_kind(s: &[u32], text: &[u8]) -> u32
     requires { ⌜ Accepted (now s) × (wellformed (now text) ≡ true) ⌝ }
     ensures { λ r. ⌜ r ≡ kind (read (now (s .entry))) (pointsOf (decode (now (text .entry)))) ⌝ }
 {
-    let mut starts = [0u32; 257];
-    let mut closures = [0u64; 1024];
-    let mut current = [0u64; 4];
-    begin(s, &mut starts, &mut closures, &mut current);
-    read_text(s, &starts, &closures, text, &mut current);
-    kind_of(s, &current)
+    if 32 < s[2] {
+        return text_kind_large(s, text);
+    }
+    let mut closures = [0u64; 128];
+    text_kind_in(s, text, &mut closures)
 }
 
 // The answer of acceptance: the accept word that the states at the word's end give, 0 where it is not accepted.

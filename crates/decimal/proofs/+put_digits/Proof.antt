@@ -6,6 +6,7 @@ use Rattle.decimal.proofs.Put.{putLaws}
 use Rattle.decimal.proofs.put_digits.Reads as put-digits
 use Rattle.decimal.proofs.put_digits.Kinds as put-digits-kinds
 use Rattle.decimal.proofs.+put_digits.Lts-put_digits as lts
+use Rattle.stores.proofs.put_byte.Reads as put-byte
 use Rattle.decimal.proofs.+put_digits.{statement}
 use Rattle.decimal.proofs.+put_digits.Tie.{close}
 
@@ -23,17 +24,15 @@ pub +put-digits-spec : {M : Type 1} → statement M
 +put-digits-spec =
     close μ-put-digits
     (λ t.
-    lts.spec (below-measure t, put-digits.Post) (at-measure t) put-digits.Post
-    (λ c. search putLaws)
-    (λ c. search putLaws)
-    (λ c. search putLaws)
-    (λ c. search putLaws)
+    lts.spec (put-byte.Asked, put-byte.Learnt, below-measure t, put-digits.Post) (at-measure t) put-digits.Post
     (λ c. search putLaws)
     (λ c. search putLaws)
     (λ c κs. search putLaws)
     (λ c. search putLaws)
     (λ c. search putLaws)
+    (λ c κs. search putLaws)
     (λ c. search putLaws)
     (λ c. search putLaws)
+    (λ c κs. search putLaws)
     (λ c. search putLaws)
     (λ c. search putLaws))

@@ -1,12 +1,13 @@
 -- `determinize_accepted` meets its contract.
 use borrow.Author.Needs.{needs}
-use Rattle.words.proofs.Epsilons.{fresh}
+use Rattle.words.proofs.Epsilons.{fresh-large}
 use Rattle.determinize.proofs.determinize_accepted.Statement.{statement}
 use Rattle.determinize.proofs.determinize_accepted.Tie as tie
 
 pub determinize-accepted-spec : {M : Type 1} → statement M
 determinize-accepted-spec =
     tie.close
-    (tie.spec (λ c. search needs) (λ c. search needs) (λ c. search needs) (λ c κs. search (fresh, needs)) (λ c. search needs) (λ c. search needs)
-    (λ c. search needs) (λ c κs. search needs) (λ c. search needs) (λ c. search needs) (λ c. search needs) (λ c. search needs) (λ c. search needs)
-    (λ c κs. search needs) (λ c. search needs) (λ c. search needs))
+    (tie.spec (λ c. search needs) (λ c. search needs) (λ c. search needs) (λ c κs. search (fresh-large, needs)) (λ c. search needs) (λ c. search needs)
+    (λ c. search needs) (λ c κs. (record { tables = search needs; start = search needs; long = search needs }, search needs)) (λ c. search needs)
+    (λ c. search needs) (λ c. search needs) (λ c. search needs) (λ c. search needs)
+    (λ c κs. (record { tables = search needs; start = search needs; long = search needs }, search needs)) (λ c. search needs) (λ c. search needs))

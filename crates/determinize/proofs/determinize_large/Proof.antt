@@ -13,24 +13,26 @@ determinize-large-spec =
     let at-progress = c .before .before .before .before in
     let at-explore = at-progress .before .before .before .before .before in
     let at-pre = at-explore .before .before .before .before .before .before .before .before in (
-      at-pre .pre .0 .accepted,
+      at-pre .pre .0 .tables .accepted,
       attempt-finished _ _ _ _ _ _ (at-explore .explore .ensures) _ (at-progress .progress .given .1),
-      omega (arith, at-pre .pre .2),
-      at-pre .pre .3,
+      omega (arith, at-pre .pre .0 .long),
+      at-pre .pre .1,
     ))
     (λ c. search needs) (λ c. search needs)
     (λ c κs.
     let at-enum-told = c .before .before in
     let at-explore = at-enum-told .before .before .before .before .before in
     let at-pre = at-explore .before .before .before .before .before .before .before .before in (
-      at-pre .pre .0,
-      attempt-start _ _ _ _ _ _ (at-explore .explore .ensures) (at-enum-told .enum-told .given .1),
-      omega (arith, at-pre .pre .2),
+      record {
+        tables = at-pre .pre .0 .tables;
+        start = attempt-start _ _ _ _ _ _ (at-explore .explore .ensures) (at-enum-told .enum-told .given .1);
+        long = omega (arith, at-pre .pre .0 .long);
+      },
       search needs,
     ))
     (λ c. search needs)
     (λ c κs.
     let at-explore-by-events = c .before .before .before .before .before .before in
     let at-pre = at-explore-by-events .before .before .before .before .before .before .before .before .before .before .before .before .before .before .before .before in
-    (at-pre .pre .0 .accepted, at-explore-by-events .explore-by-events .ensures, omega (arith, at-pre .pre .2), at-pre .pre .3))
+    (at-pre .pre .0 .tables .accepted, at-explore-by-events .explore-by-events .ensures, omega (arith, at-pre .pre .0 .long), at-pre .pre .1))
     (λ c. search needs) (λ c. search needs) (λ c. search needs) (λ c. search needs) (λ c. search needs) (λ c. search needs))

@@ -13,7 +13,7 @@ use Rattle.determinize.specs.declared.Progress.{Progress}
 use Rattle.determinize.specs.declared.Progress.the-variants.{Sets}
 use Rattle.determinize.specs.declared.Exploration.{Exploration}
 use Rattle.determinize.specs.declared.Exploration.the-variants.{Finished, Unfinished}
-use Rattle.determinize.specs.inner.Notes.{number, SetVisited, Explored}
+use Rattle.determinize.specs.inner.Notes.{setNumber, SpansResult, TableResult}
 
 -- how many records the run of q has, by the table of the runs
 unfoldable pub runLength : List ℕ → ℕ → ℕ
@@ -25,21 +25,21 @@ recordsOf starts [] = 0
 recordsOf starts (q ∷ S) = runLength starts q + recordsOf starts S
 
 -- what a try to visit the spans of a state came to, with the table t as it was: an answer, or the first row of the table is as it was
-unfoldable pub SetTried : ℕ → ℕ → Automaton → Set → List Set → ℕ → List ℕ → ℕ → List ℕ → List ℕ → List ℕ → Exploration → Type 0
-SetTried lower upper A S T j before k t u after Unfinished = setAt u 0 ≡ setAt t 0
-SetTried lower upper A S T j before k t u after (Finished x) = SetVisited lower upper A S T j before k u after x
+unfoldable pub SpansExploration : ℕ → ℕ → Automaton → Set → List Set → ℕ → List ℕ → ℕ → List ℕ → List ℕ → List ℕ → Exploration → Type 0
+SpansExploration lower upper A S T j before k t u after Unfinished = setAt u 0 ≡ setAt t 0
+SpansExploration lower upper A S T j before k t u after (Finished x) = SpansResult lower upper A S T j before k u after x
 
 -- the table and the notes that the first pass came to, from some memory for notes, which has room for them unless they are too many for a result
-pub record Complete (lower upper : ℕ) (A : Automaton) (t notes : List ℕ) (x : Progress) : Type 0 where
+pub record TableResultWithRoom (lower upper : ℕ) (A : Automaton) (t notes : List ℕ) (x : Progress) : Type 0 where
   pub before : List ℕ
-  pub explored : Explored lower upper A before t notes x
+  pub explored : TableResult lower upper A before t notes x
   pub room : (n m : ℕ) → x ≡ Sets n m → m ≤ 2048 → 5 * m ≤ length before
 
 -- what the first pass came to: an answer, or the first row of the table is as it was
-unfoldable pub Attempted : ℕ → ℕ → Automaton → List ℕ → List ℕ → Exploration → Type 0
-Attempted lower upper A t notes Unfinished = setAt t 0 ≡ startSet A
-Attempted lower upper A t notes (Finished x) = Complete lower upper A t notes x
+unfoldable pub TableExploration : ℕ → ℕ → Automaton → List ℕ → List ℕ → Exploration → Type 0
+TableExploration lower upper A t notes Unfinished = setAt t 0 ≡ startSet A
+TableExploration lower upper A t notes (Finished x) = TableResultWithRoom lower upper A t notes x
 
 -- j is the number of the set that stands there, if it is a place of the table
-pub record Numbered (T : List Set) (j : ℕ) : Type 0 where
-  pub found : j < length T → number (getD T j []) T ≡ j
+pub record SetNumbered (T : List Set) (j : ℕ) : Type 0 where
+  pub found : j < length T → setNumber (getD T j []) T ≡ j

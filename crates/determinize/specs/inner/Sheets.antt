@@ -6,20 +6,21 @@ use lib.Seq.{sets}
 use Rattle.automata.specs.Automaton.{Transition, Automaton}
 use Rattle.refusal.specs.Answer.{Answer, refused, given}
 use Rattle.refusal.specs.Number.{stateNumber}
+use Rattle.refusal.specs.Outcome.{Outcome, outcome}
 use Rattle.sets.specs.Sets.{Set}
 use Rattle.sheets.specs.Sheet.{write}
 use Rattle.words.specs.Simulation.{kindOf}
 use Rattle.determinize.specs.declared.Determinized.{Determinized}
 use Rattle.determinize.specs.declared.Determinized.the-variants.{Sheet, Refused}
-use Rattle.determinize.specs.inner.Notes.{settle}
+use Rattle.determinize.specs.inner.Notes.{notedTransition}
 
 -- the automaton whose states are the sets T and the sink, with the transitions that the notes es stand for
-unfoldable pub automatonOf : Automaton → List Set → List Transition → Automaton
-automatonOf A T es = record {
+unfoldable pub notedAutomaton : Automaton → List Set → List Transition → Automaton
+notedAutomaton A T es = record {
   size = suc (length T);
   start = 0;
   accept = map (kindOf A) T ++ 0 ∷ [];
-  transitions = map (settle (length T)) es;
+  transitions = map (notedTransition (length T)) es;
 }
 
 -- how many words a sheet takes and how many states it has
@@ -27,17 +28,21 @@ pub record SheetSize : Type 0 where
   pub words : ℕ
   pub states : ℕ
 
--- the answer with the contents of the output
-pub record SheetOutput : Type 0 where
-  pub answer : Answer SheetSize
-  pub sheet : List ℕ
+abbrev pub sizeOf : Automaton → SheetSize
+sizeOf D = record { words = length (write D); states = D .size }
 
--- the output o after an answer
+-- a sheet stored at the front of the output o
+abbrev pub storedSheet : List ℕ → Automaton → List ℕ
+storedSheet o D = sets o 0 (write D)
+
+abbrev pub SheetOutput : Type 0
+SheetOutput = Outcome SheetSize (List ℕ)
+
+-- the outcome of an answer, where o is lent for the sheet
 unfoldable pub sheetOutput : List ℕ → Answer Automaton → SheetOutput
-sheetOutput o (refused n) = record { answer = refused n; sheet = o }
-sheetOutput o (given D) = record { answer = given (record { words = length (write D); states = D .size }); sheet = sets o 0 (write D) }
+sheetOutput o a = outcome sizeOf storedSheet o a
 
--- the answer r of the code with the output o as it is afterwards
+-- the outcome of a function that answers r, where o is the output afterwards
 abbrev pub determinizedOf : Determinized → List ℕ → SheetOutput
-determinizedOf (Sheet w n) o = record { answer = given (record { words = w; states = n }); sheet = o }
-determinizedOf (Refused r) o = record { answer = refused (stateNumber r); sheet = o }
+determinizedOf (Sheet w n) o = record { answer = given (record { words = w; states = n }); memory = o }
+determinizedOf (Refused r) o = record { answer = refused (stateNumber r); memory = o }

@@ -2,7 +2,7 @@
 use Prim.Native.Nat.{_-_, _≤_}
 use mathlib.Core.Path.{_≡_}
 use lib.ListN.{length}
-use Rattle.lists.specs.Written.{Written}
+use Rattle.stores.specs.Written.{Written}
 use Rattle.sheets.specs.Sheet.{stateCount, read}
 use Rattle.epsilon.specs.Eliminate.{closureKinds}
 use Rattle.epsilon.proofs.Writing.{acceptsLaws}

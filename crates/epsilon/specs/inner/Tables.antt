@@ -1,5 +1,5 @@
 -- For inner contracts. What the code has in its local memory, and what its inner functions assume.
-use Prim.Native.Nat.{ℕ, _≤_}
+use Prim.Native.Nat.{ℕ, _*_, _≤_}
 use mathlib.Core.List.{List}
 use mathlib.Core.Path.{_≡_}
 use lib.ListN.{length}
@@ -10,11 +10,12 @@ use Rattle.sheets.specs.inner.Accepted.{Accepted}
 use Rattle.sheets.specs.Sheet.{stateCount, read}
 use Rattle.words.specs.Simulation.{closures}
 use Rattle.epsilon.specs.Eliminate.{eliminated}
+use Rattle.output.specs.Output.{labelsSize, sheetSize}
 
 -- the table c has the closures of the accepted sheet s
 pub record ClosuresOf (s c : List ℕ) : Type 0 where
   pub accepted : Accepted s
-  pub long : length c ≡ 1024
+  pub long : 4 * stateCount s ≤ length c
   pub closed : entries c (stateCount s) ≡ closures (read s)
 
 -- the words are the transitions of the eliminated automaton, and are few enough
@@ -25,5 +26,5 @@ pub record TransitionsOf (s words : List ℕ) : Type 0 where
 -- the sheet is accepted, and the outputs have their fixed sizes
 pub record EliminationInputs (s out names : List ℕ) : Type 0 where
   pub accepted : Accepted s
-  pub words : 10500 ≤ length out
-  pub bytes : 16642 ≤ length names
+  pub words : sheetSize ≤ length out
+  pub bytes : labelsSize ≤ length names

@@ -2,7 +2,7 @@
 use borrow.Author.Needs.{needs}
 use native.Mathlib.Omega.{arith}
 use lib.ListN.{length-set}
-use Rattle.lists.proofs.Written.{written-five}
+use Rattle.stores.proofs.Written.{written-five}
 use Rattle.output.proofs.put_record.Statement.{statement}
 use Rattle.output.proofs.put_record.Tie as tie
 

@@ -1,7 +1,7 @@
 -- `write_labels` meets its contract: each turn writes one name more.
 use Prim.Native.Nat.{_-_, _≤_}
 use Rattle.labels.specs.Labels.{writeEntries}
-use Rattle.lists.specs.Written.{Written}
+use Rattle.stores.specs.Written.{Written}
 use Rattle.parser.specs.inner.Names.{namesIn}
 use Rattle.parser.proofs.Labelling.{labelLaws}
 use Rattle.parser.proofs.write_labels.Statement.{statement}

@@ -1,4 +1,4 @@
--- `has_overlapping_ranges` meets its contract: up to `at` there is no range, and the first one leaves the rest to `starts_below`.
+-- `has_overlapping_ranges` meets its contract: up to `at` there is no range, and the first one leaves the rest to `overlaps_from`.
 use Prim.Native.Nat.{_≤_, _-_}
 use mathlib.Core.Path.{_≡_}
 use borrow.Author.Needs.{needs}

@@ -8,8 +8,8 @@ use Rattle.ranges.specs.Span.{Span, intersectRanges}
 use Rattle.ranges.proofs.intersect_ranges.Statement.{statement}
 use Rattle.ranges.proofs.intersect_ranges.Tie as tie
 
-module _ (s t : Span) (first last : ℕ) (f : first ≡ max (s .low) (t .low)) (l : last ≡ min (s .high) (t .high)) where
-  shared : first ≤ last → some (record { low = first; high = last }) ≡ intersectRanges s t
+module _ (s t : Span) (first last : ℕ) (f : first ≡ max (s .first) (t .first)) (l : last ≡ min (s .last) (t .last)) where
+  shared : first ≤ last → some (record { first = first; last = last }) ≡ intersectRanges s t
   unfolding intersectRanges
   shared h = rw (← f, ← l, le-leb _ _ h)
 

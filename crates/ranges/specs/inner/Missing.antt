@@ -8,14 +8,14 @@ use Rattle.ranges.specs.Span.{Span}
 
 -- the span from a up to and without b, if it has a symbol
 unfoldable pub gap : ℕ → ℕ → List Span
-gap a b = cond (ltb a b) (record { low = a; high = b - 1 } ∷ []) []
+gap a b = cond (ltb a b) (record { first = a; last = b - 1 } ∷ []) []
 
--- one pass over sorted ranges: c is the first symbol that is not settled
+-- one pass over sorted ranges: c is the first symbol that is not decided
 unfoldable pub scan : ℕ → ℕ → List Transition → List Span
 scan c upper [] = gap c (suc upper)
 scan c upper (e ∷ es) = gap c (min (e .first) (suc upper)) ++ scan (max c (suc (e .last))) upper es
 
--- low and high of each span, in order
+-- first and last of each span, in order
 unfoldable pub spanWords : List Span → List ℕ
 spanWords [] = []
-spanWords (s ∷ hs) = s .low ∷ s .high ∷ spanWords hs
+spanWords (s ∷ hs) = s .first ∷ s .last ∷ spanWords hs

@@ -2,7 +2,7 @@
 use Prim.Native.Nat.{_+_, _-_, _≤_}
 use mathlib.Core.Path.{_≡_}
 use lib.ListN.{length, take, drop}
-use Rattle.lists.specs.Written.{Written}
+use Rattle.stores.specs.Written.{Written}
 use Rattle.replay.specs.Cases.{bytesBefore}
 use Rattle.replay.proofs.Cases.{byteLaws}
 use Rattle.replay.proofs.bytes.Statement.{statement}

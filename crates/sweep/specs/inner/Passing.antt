@@ -17,7 +17,7 @@ use Rattle.sweep.specs.inner.Sweep.{Mine, Passes}
 -- the sheet s is accepted, and c has the closures of its states
 pub record Closed (s c : List ℕ) : Type 0 where
   pub accepted : Accepted s
-  pub long : length c ≡ 1024
+  pub long : 4 * stateCount s ≤ length c
   pub rows : (q : ℕ) → q < stateCount s → setAt c (4 * q) ≡ closure (read s) q
 
 -- the row of state q in the table c

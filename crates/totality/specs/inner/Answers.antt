@@ -11,12 +11,12 @@ use Rattle.sheets.specs.Checked.{sheetFirst}
 use Rattle.sheets.specs.Sheet.{stateCount}
 use Rattle.totality.specs.declared.Inputs.{Inputs}
 use Rattle.totality.specs.declared.Inputs.the-variants as inputs
-use Rattle.totality.specs.inner.Merging.{turned}
+use Rattle.totality.specs.inner.Merging.{flippedIf}
 use Rattle.totality.specs.Totality.{totalized, flipped}
 
--- the same with acceptance flipped, or not
-unfoldable pub turnedPattern : Bool → ℕ → ℕ → Automaton → List (List ℕ) → Pattern
-turnedPattern flip lower upper A ls = record { automaton = turned flip (totalized lower upper A); labels = ls ++ sinkLabel ∷ [] }
+-- the totalized automaton with acceptance flipped, or not, and `sink` behind the labels
+unfoldable pub totalPatternFlippedIf : Bool → ℕ → ℕ → Automaton → List (List ℕ) → Pattern
+totalPatternFlippedIf flip lower upper A ls = record { automaton = flippedIf flip (totalized lower upper A); labels = ls ++ sinkLabel ∷ [] }
 
 -- the automaton itself with acceptance flipped
 unfoldable pub flippedPattern : Automaton → List (List ℕ) → Pattern

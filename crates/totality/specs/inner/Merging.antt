@@ -1,4 +1,4 @@
--- For inner contracts. What the code of totalizing is told by: spans as pairs of words, records and holes that can be merged, accept words, and the tables of a sheet.
+-- For inner contracts. What the code of totalizing is told by: spans as pairs of words, records and holes that can be merged, and accept words.
 use Prim.Native.Nat.{ℕ, suc, _+_, _*_, _≤_, _<_}
 use mathlib.Core.Bool.{Bool, true, false, cond}
 use mathlib.Core.List.{List, [], _∷_, _++_, map}
@@ -10,73 +10,67 @@ use Rattle.automata.specs.Automaton.{Transition, Automaton, rangesOf}
 use Rattle.automata.specs.Ordered.{inOrder}
 use Rattle.automata.specs.Records.{readRecords}
 use Rattle.automata.specs.WellFormed.{Before}
+use Rattle.nondeterminism.specs.Nondeterminism.{holesOf}
 use Rattle.ranges.specs.Missing.{SortedRanges}
 use Rattle.ranges.specs.Span.{Span}
-use Rattle.sheets.specs.inner.Accepted.{Accepted}
-use Rattle.sheets.specs.inner.Runs.{Indexed}
 use Rattle.sheets.specs.Sheet.{stateCount, read}
-use Rattle.totality.specs.Totality.{holesOf, holeTo, transitionCount, otherWord, flipped}
+use Rattle.totality.specs.Totality.{holeTo, transitionCount, otherWord, flipped}
+use Rattle.output.specs.Output.{sheetSize}
 
 -- the spans of a list of words; a word left over is none
 unfoldable pub readSpans : List ℕ → List Span
 readSpans [] = []
 readSpans (a ∷ []) = []
-readSpans (a ∷ b ∷ ws) = record { low = a; high = b } ∷ readSpans ws
+readSpans (a ∷ b ∷ ws) = record { first = a; last = b } ∷ readSpans ws
 
--- how many transitions, from the first on, come before a hole that begins at low
+-- how many transitions, from the first on, come before a hole that begins at `first`
 unfoldable pub leading : ℕ → List Transition → ℕ
-leading low [] = 0
-leading low (e ∷ es) = cond (leb (e .first) low) (suc (leading low es)) 0
+leading first [] = 0
+leading first (e ∷ es) = cond (leb (e .first) first) (suc (leading first es)) 0
 
 -- transitions in order, and holes in order, whose firsts tell which comes first
 pub record Mergeable (sink q : ℕ) (es : List Transition) (hs : List Span) : Type 0 where
   pub records : Ascending Before es
   pub holes : Ascending Before (map (holeTo sink q) hs)
-  pub later : (e : Transition) (h : Span) → e ∈ es → h ∈ hs → h .low < e .first → Before (holeTo sink q h) e
-  pub sooner : (e : Transition) (h : Span) → e ∈ es → h ∈ hs → e .first ≤ h .low → Before e (holeTo sink q h)
+  pub later : (e : Transition) (h : Span) → e ∈ es → h ∈ hs → h .first < e .first → Before (holeTo sink q h) e
+  pub sooner : (e : Transition) (h : Span) → e ∈ es → h ∈ hs → e .first ≤ h .first → Before e (holeTo sink q h)
 
 -- the records of a run of the state q and the spans of holes, led to the sink, in order
 unfoldable pub merged : ℕ → ℕ → List ℕ → List ℕ → List Transition
 merged sink q run holes = inOrder (readRecords run ++ map (holeTo sink q) (readSpans holes))
 
 -- the words are those of whole records
-abbrev pub Whole : List ℕ → Type 0
-Whole s = length s ≡ 5 * length (readRecords s)
+abbrev pub WholeRecords : List ℕ → Type 0
+WholeRecords s = length s ≡ 5 * length (readRecords s)
 
 -- a run of the state q whose holes can be found and merged, and room for them
 pub record Fillable (lower upper sink q : ℕ) (run holes : List ℕ) : Type 0 where
   pub sorted : SortedRanges (rangesOf (readRecords run))
   pub mergeable : Mergeable sink q (readRecords run) (holesOf lower upper (readRecords run))
-  pub whole : Whole run
+  pub whole : WholeRecords run
   pub room : 2 * length run + 10 ≤ 5 * length holes
 
 -- the accept word that is written for x
-abbrev pub acceptWord : Bool → ℕ → ℕ
-acceptWord true x = otherWord x
-acceptWord false x = x
+abbrev pub flippedWordIf : Bool → ℕ → ℕ
+flippedWordIf true x = otherWord x
+flippedWordIf false x = x
 
 -- A, or A with its acceptance flipped
-abbrev pub turned : Bool → Automaton → Automaton
-turned true A = flipped A
-turned false A = A
+abbrev pub flippedIf : Bool → Automaton → Automaton
+flippedIf true A = flipped A
+flippedIf false A = A
 
 -- the front of a sheet of n states, up to the accept words of s
 unfoldable pub headWords : Bool → List ℕ → ℕ → List ℕ
-headWords flip s n = 1 ∷ getD s 1 0 ∷ n ∷ map (acceptWord flip) (read s .accept)
+headWords flip s n = 1 ∷ getD s 1 0 ∷ n ∷ map (flippedWordIf flip) (read s .accept)
 
 -- the front of the totalized sheet, up to the count of its transitions
 unfoldable pub frontWords : Bool → List ℕ → ℕ → List ℕ
-frontWords flip s count = headWords flip s (stateCount s + 1) ++ acceptWord flip 0 ∷ count ∷ []
+frontWords flip s count = headWords flip s (stateCount s + 1) ++ flippedWordIf flip 0 ∷ count ∷ []
 
 -- the totalized sheet has that many transitions, and there is room for it
-pub record Small (lower upper : ℕ) (s out : List ℕ) (count : ℕ) : Type 0 where
+pub record TotalizedRoom (lower upper : ℕ) (s out : List ℕ) (count : ℕ) : Type 0 where
   pub few-states : stateCount s < 256
   pub few-transitions : count ≤ 2048
   pub counted : count ≡ transitionCount lower upper (read s)
-  pub room : 10500 ≤ length out
-
--- an accepted sheet, where its runs begin, and room for the holes of a run
-pub record HolesInputs (s starts holes : List ℕ) : Type 0 where
-  pub accepted : Accepted s
-  pub indexed : Indexed s starts
-  pub long : length holes ≡ 4098
+  pub room : sheetSize ≤ length out

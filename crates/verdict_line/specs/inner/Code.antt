@@ -16,6 +16,7 @@ use Rattle.equality.specs.declared.Verdict.the-variants.{Same, Different, Refus
 use Rattle.verdict_line.specs.Line.{sameLine, differLine, refusedLine}
 use Rattle.verdict_line.specs.declared.Second.{Second}
 use Rattle.verdict_line.specs.declared.Second.the-variants.{At, Outside}
+use Rattle.equality.specs.Equality.{wordSize}
 
 -- the place of the second text as what the grammar finds
 abbrev pub secondOf : Second → ReadResult Mark
@@ -36,5 +37,5 @@ lineOf (Refused r) w = refusedLine (numberOf r)
 -- a verdict whose line has at most 5,617 bytes
 unfoldable pub Short : Verdict → List ℕ → Type 0
 Short (Same joins) w = joins ≤ 512
-Short (Different n) w = (n ≤ 510) × (n ≤ length w)
+Short (Different n) w = (n ≤ wordSize) × (n ≤ length w)
 Short (Refused r) w = 0 ≤ length w

@@ -5,12 +5,13 @@ use lib.ListN.{length, drop}
 use Rattle.automata.specs.Records.{readRecords}
 use Rattle.sheets.specs.inner.Runs.{Named}
 use Rattle.words.specs.inner.Epsilons.{EpsilonsLeft}
+use Rattle.words.specs.inner.Gather.{RowsFor}
 use Rattle.words.proofs.Epsilons.{epsilonsLaws}
 use Rattle.words.proofs.add_epsilons.Statement.{statement}
 use Rattle.words.proofs.add_epsilons.Tie as tie
 
 abbrev Inv-loop : tie.InvT-loop
-Inv-loop records rows₀ at₀ rows at = (at ≤ length records) × (length rows ≡ length rows₀) × Named (readRecords (drop at records)) × EpsilonsLeft rows₀ (readRecords records) rows (readRecords (drop at records))
+Inv-loop records rows₀ at₀ rows at = (at ≤ length records) × (length rows ≡ length rows₀) × Named (readRecords (drop at records)) × RowsFor (length rows₀) (readRecords (drop at records)) × EpsilonsLeft rows₀ (readRecords records) rows (readRecords (drop at records))
 
 abbrev μ-loop : tie.MeasureT-loop
 μ-loop records rows₀ at₀ rows at = length records - at

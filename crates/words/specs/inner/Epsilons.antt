@@ -11,9 +11,9 @@ use Rattle.sets.specs.inner.BitSet.{setAt}
 use Rattle.words.specs.Simulation.{isEpsilon}
 use Rattle.words.specs.inner.Gather.{withAll}
 
--- a table of 256 rows that are empty
-pub record Fresh (t : List ℕ) : Type 0 where
-  pub long : length t ≡ 1024
+-- a table of at least n rows, in which each row is empty
+pub record Fresh (n : ℕ) (t : List ℕ) : Type 0 where
+  pub long : 4 * n ≤ length t
   pub empty : (o : ℕ) → setAt t o ≡ []
 
 -- the rows below n of u are those of t with their own number, the others are those of t

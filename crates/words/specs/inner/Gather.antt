@@ -1,11 +1,11 @@
 -- For inner contracts. What the code of a step gathers: the closures of the targets of transitions, in a set that it holds in four words.
-use Prim.Native.Nat.{ℕ, _*_}
+use Prim.Native.Nat.{ℕ, _+_, _*_, _≤_}
 use mathlib.Core.Bool.{Bool, _&&_, _||_}
 use mathlib.Core.List.{List}
 use mathlib.Core.Path.{_≡_}
 use lib.Dec.{eqb}
 use lib.ListN.{length}
-use Rattle.lists.specs.Lists.{any}
+use Rattle.lists.specs.Lists.{_∈_, any}
 use Rattle.automata.specs.Automaton.{Transition, Automaton, holds, leaving}
 use Rattle.sets.specs.Sets.{Set, has, pick}
 use Rattle.sets.specs.inner.BitSet.{setAt, entries}
@@ -30,11 +30,16 @@ reaches A a r p = any (λ e. takes a e && has r (closure A (e .to))) (leaving A 
 unfoldable pub gathered : List ℕ → List ℕ → ℕ → List Transition → Set
 gathered t c a es = withAll (setAt t 0) (λ r e. takes a e && has r (setAt c (4 * e .to))) es
 
+-- a table of k words has a row for each state that the transitions name
+pub record RowsFor (k : ℕ) (es : List Transition) : Type 0 where
+  pub froms : (e : Transition) → e ∈ es → 4 * e .from + 4 ≤ k
+  pub tos : (e : Transition) → e ∈ es → 4 * e .to + 4 ≤ k
+
 -- the tables of an accepted sheet: where its runs begin, and the closures
 pub record Tables (s starts c : List ℕ) : Type 0 where
   pub accepted : Accepted s
   pub indexed : Indexed s starts
-  pub long : length c ≡ 1024
+  pub long : 4 * stateCount s ≤ length c
   pub closed : entries c (stateCount s) ≡ closures (read s)
 
 -- the set in t with all that the states of R reach under a

@@ -9,24 +9,30 @@ use Rattle.sheets.specs.Sheet.{stateCount, read}
 use Rattle.sets.specs.inner.BitSet.{setAt, entries}
 use Rattle.determinize.proofs.Attempts.{tried-visited, tried-start, attempt-unfinished, attempt-over, attempt-done}
 use Rattle.determinize.proofs.Placing.{sink-count}
-use Rattle.determinize.proofs.Queued.{Exploring, explore-begins, start-canonical, explore-few, explore-bounded, explore-canonical, explore-start, explore-next, explore-over, explore-ended}
+use Rattle.determinize.proofs.Queued.{QueueInvariant, explore-begins, start-canonical, explore-few, explore-bounded, explore-canonical, explore-start, explore-next, explore-over, explore-ended}
 use Rattle.determinize.specs.inner.Notes.{Canonical}
 use Rattle.determinize.proofs.exploring.explore.Statement.{statement}
 use Rattle.determinize.proofs.exploring.explore.Tie as tie
 
 abbrev Inv-loop : tie.InvT-loop
-Inv-loop s starts closures lower upper table₀ notes₀ n₀ count₀ i₀ table notes n count i =
+Inv-loop s starts closures symbols table₀ notes₀ n₀ count₀ i₀ table notes n count i =
     (length table ≡ 1024) × (length notes % 5 ≡ 0) × (length notes ≡ length notes₀) × (n < 256) × (i < 256) × (count ≤ 4294967296 * i)
-    × Canonical (stateCount s) (entries table n) × Exploring lower upper (read s) notes₀ table notes n count i × (setAt table 0 ≡ startSet (read s))
+    × Canonical (stateCount s) (entries table n) × QueueInvariant (symbols .lower) (symbols .upper) (read s) notes₀ table notes n count i × (setAt table 0 ≡ startSet (read s))
 
 abbrev μ-loop : tie.MeasureT-loop
-μ-loop s starts closures lower upper table₀ notes₀ n₀ count₀ i₀ table notes n count i = 256 - i
+μ-loop s starts closures symbols table₀ notes₀ n₀ count₀ i₀ table notes n count i = 256 - i
 
 pub explore-spec : {M : Type 1} → statement M
 explore-spec =
     tie.close
     (tie.spec Inv-loop μ-loop (λ c. search (explore-begins, start-canonical, needs)) (λ c κs. search needs) (λ c. search needs) (λ c. search needs)
-    (λ c. search (attempt-unfinished, needs)) (λ c κs. search needs) (λ c. search needs) (λ c. search needs) (λ c. search needs) (λ c. search needs)
+    (λ c. search (attempt-unfinished, needs))
+    (λ c κs. (
+      search needs,
+      record { few = search needs; long = search needs; canonical = search needs; whole = search needs; bounded = search needs },
+      search needs,
+    ))
+    (λ c. search needs) (λ c. search needs) (λ c. search needs) (λ c. search needs)
     (λ c.
     let at-progress = c .before in
     let at-progress′ = at-progress .before .before .before in
@@ -64,4 +70,6 @@ explore-spec =
     let at-note-sink = at-is-full .before .before .before .before in
     let at-loop-test = at-note-sink .before .before in
     let at-loop = at-loop-test .before in
-    attempt-done _ _ _ _ _ _ _ _ (explore-ended _ _ _ _ _ _ _ _ _ (at-loop .loop .inv .7) (at-loop .loop .inv .4) (at-loop-test .loop-test .left) (at-loop .loop .inv .3) (at-loop .loop .inv .6) _ _ (at-note-sink .note-sink .ensures)) (search needs) _ (at-is-full .is-full2 .ensures) (c .if2 .left)))
+    let ended =
+    explore-ended _ _ _ _ _ _ _ _ _ (at-loop .loop .inv .7) (at-loop .loop .inv .4) (at-loop-test .loop-test .left) (at-loop .loop .inv .3) (at-loop .loop .inv .6) _ _ (at-note-sink .note-sink .ensures) in
+    attempt-done _ _ _ _ _ _ _ _ ended (search needs) _ (at-is-full .is-full2 .ensures) (c .if2 .left)))

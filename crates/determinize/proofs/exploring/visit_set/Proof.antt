@@ -12,7 +12,7 @@ visit-set-spec =
     (λ c κs.
     let copied = c .before .before .before .before in
     let first = copied .before .before .before .before .before .before .before .before in (
-      (first .pre .0, row-canon _ _ _ (copied .copy-row .ensures) _ (first .pre .1) _ (first .pre .4), search needs),
-      (omega (arith, first .pre .1), first .pre .2, first .pre .3, first .pre .4, first .pre .5, first .pre .6),
+      (first .pre .0, record { canon = row-canon _ _ _ (copied .copy-row .ensures) _ (first .pre .2) _ (first .pre .1 .canonical); long = search needs }),
+      (first .pre .1, omega (arith, first .pre .2)),
     ))
     (λ c. search rowLaws) (λ c. search rowLaws) (λ c. search rowLaws))

@@ -7,23 +7,23 @@ use Rattle.sets.specs.inner.BitSet.{setAt, entries}
 use Rattle.sheets.specs.Sheet.{stateCount, read}
 use Rattle.determinize.specs.inner.Notes.{Canonical}
 use Rattle.determinize.proofs.Placing.{cut-less, cut-counts, cut-most}
-use Rattle.determinize.proofs.Visits.{Visiting, visit-begins, visit-next, visit-over, visit-ended, canonical-next}
+use Rattle.determinize.proofs.Visits.{SpansInvariant, visit-begins, visit-next, visit-over, visit-ended, canonical-next}
 use Rattle.determinize.proofs.exploring.visit_spans.Statement.{statement}
 use Rattle.determinize.proofs.exploring.visit_spans.Tie as tie
 
 abbrev Inv-loop : tie.InvT-loop
-Inv-loop s starts closures lower upper set from table₀ sets notes₀ noted top a₀ n₀ count₀ table notes a n count =
-    (top ≤ 4294967296) × (length table ≡ 1024) × (length notes % 5 ≡ 0) × (length notes ≡ length notes₀) × (n < 256) × (a ≤ 4294967296) × (count + lower ≤ noted + a)
+Inv-loop s starts closures set from table₀ notes₀ upper top a₀ n₀ count₀ table notes a n count =
+    (top ≤ 4294967296) × (length table ≡ 1024) × (length notes % 5 ≡ 0) × (length notes ≡ length notes₀) × (n < 256) × (a ≤ 4294967296) × (count + a₀ ≤ count₀ + a)
     × Canonical (stateCount s) (entries table n)
-    × Visiting lower upper (read s) (setAt set 0) (entries table₀ sets) from notes₀ noted table notes n count a
+    × SpansInvariant a₀ upper (read s) (setAt set 0) (entries table₀ n₀) from notes₀ count₀ table notes n count a
 
 abbrev μ-loop : tie.MeasureT-loop
-μ-loop s starts closures lower upper set from table₀ sets notes₀ noted top a₀ n₀ count₀ table notes a n count = top - a
+μ-loop s starts closures set from table₀ notes₀ upper top a₀ n₀ count₀ table notes a n count = top - a
 
 pub visit-spans-spec : {M : Type 1} → statement M
 visit-spans-spec =
     tie.close
-    (tie.spec Inv-loop μ-loop (λ c. search needs) (λ c. search (visit-begins, needs)) (λ c. search needs) (λ c κs. search needs) (λ c. search needs)
+    (tie.spec Inv-loop μ-loop (λ c. search needs) (λ c. search needs) (λ c. search needs) (λ c. search (visit-begins, needs)) (λ c. search needs) (λ c κs. search needs) (λ c. search needs)
     (λ c. search needs) (λ c. search (visit-over, needs)) (λ c. search needs) (λ c. search (cut-less, needs))
     (λ c. (search needs, search needs, search needs, search needs, search needs, search cut-most, search cut-counts, search canonical-next, search visit-next))
     (λ c. search needs) (λ c. search needs) (λ c. search (visit-ended, needs)))

@@ -12,7 +12,7 @@ explore-by-events-spec =
     (tie.spec (λ c. search needs) (λ c κs. search needs) (λ c. search needs)
     (λ c κs.
     let at-pre = c .before .before .before .before .before .before .before .before .before .before .before .before .before in
-    (at-pre .pre .0 .accepted, search needs, omega (arith, at-pre .pre .3)))
+    (at-pre .pre .0 .tables .accepted, search needs, omega (arith, at-pre .pre .1)))
     (λ c. search needs) (λ c. search needs) (λ c. search needs) (λ c. search needs) (λ c. search needs) (λ c. search needs)
     (λ c κs.
     let at-order-events = c .before .before .before .before .before .before .before .before .before in
@@ -21,9 +21,7 @@ explore-by-events-spec =
       at-pre .pre .0,
       timed-lined _ _ _ _ (at-order-events′ .order-events .ensures),
       timed-lined _ _ _ _ (at-order-events .order-events2 .ensures),
-      at-pre .pre .1,
-      at-pre .pre .2,
-      omega (arith, at-pre .pre .3),
+      omega (arith, at-pre .pre .1),
     ))
     (λ c. search needs) (λ c. search needs)
     (λ c.
@@ -31,5 +29,5 @@ explore-by-events-spec =
     (omega (
       arith,
       c .before .before .before .before .before .before .before .before .before .before .before .before .before .before
-          .before .before .before .before .before .before .before .before .before .before .before .before .before .before .pre .3,
+          .before .before .before .before .before .before .before .before .before .before .before .before .before .before .pre .1,
     ))))

@@ -6,18 +6,18 @@ use borrow.Author.Needs.{needs}
 use lib.ListN.{length}
 use Rattle.sheets.specs.Sheet.{stateCount, read}
 use Rattle.sets.specs.inner.BitSet.{entries}
-use Rattle.determinize.proofs.Queued.{Exploring, explore-begins, start-canonical, explore-few, explore-bounded, explore-canonical, explore-next, explore-over, explore-ended}
+use Rattle.determinize.proofs.Queued.{QueueInvariant, explore-begins, start-canonical, explore-few, explore-bounded, explore-canonical, explore-next, explore-over, explore-ended}
 use Rattle.determinize.specs.inner.Notes.{Canonical}
 use Rattle.determinize.proofs.sweeping.explore_swept.Statement.{statement}
 use Rattle.determinize.proofs.sweeping.explore_swept.Tie as tie
 
 abbrev Inv-loop : tie.InvT-loop
-Inv-loop s starts closures opens ends lower upper table₀ notes₀ n₀ count₀ i₀ table notes n count i =
+Inv-loop s starts closures opens ends symbols table₀ notes₀ n₀ count₀ i₀ table notes n count i =
     (length table ≡ 1024) × (length notes % 5 ≡ 0) × (length notes ≡ length notes₀) × (n < 256) × (i < 256) × (count ≤ 4294967296 * i)
-    × Canonical (stateCount s) (entries table n) × Exploring lower upper (read s) notes₀ table notes n count i
+    × Canonical (stateCount s) (entries table n) × QueueInvariant (symbols .lower) (symbols .upper) (read s) notes₀ table notes n count i
 
 abbrev μ-loop : tie.MeasureT-loop
-μ-loop s starts closures opens ends lower upper table₀ notes₀ n₀ count₀ i₀ table notes n count i = 256 - i
+μ-loop s starts closures opens ends symbols table₀ notes₀ n₀ count₀ i₀ table notes n count i = 256 - i
 
 pub explore-swept-spec : {M : Type 1} → statement M
 explore-swept-spec =
@@ -27,15 +27,17 @@ explore-swept-spec =
     let at-loop-test = c .before .before in
     let at-loop = at-loop-test .before in
     let at-pre = at-loop .before .before .before .before .before .before .before .before in (
-      at-pre .pre .0,
-      at-pre .pre .1,
-      at-pre .pre .2,
-      at-loop-test .loop-test .taken,
-      at-loop .loop .inv .3,
-      at-loop .loop .inv .0,
-      at-loop .loop .inv .6,
-      at-loop .loop .inv .1,
-      omega (arith, at-loop .loop .inv .5, at-loop .loop .inv .4),
+      (at-pre .pre .0 .tables, at-pre .pre .1, at-pre .pre .2),
+      (
+        record {
+          few = at-loop .loop .inv .3;
+          long = at-loop .loop .inv .0;
+          canonical = at-loop .loop .inv .6;
+          whole = at-loop .loop .inv .1;
+          bounded = omega (arith, at-loop .loop .inv .5, at-loop .loop .inv .4);
+        },
+        at-loop-test .loop-test .taken,
+      ),
     ))
     (λ c. search needs) (λ c. search needs) (λ c. search needs)
     (λ c. (
@@ -48,7 +50,8 @@ explore-swept-spec =
       let at-visit-entry = c .before .before .before .before .before .before .before in
           let at-loop-test = at-visit-entry .before .before .before in
           let at-loop = at-loop-test .before in
-          explore-canonical _ _ _ _ _ _ _ _ _ (at-loop .loop .inv .7) (at-loop .loop .inv .4) (at-loop-test .loop-test .taken) _ _ _ (at-visit-entry .visit-entry .ensures) _ _ (c .before .sets .given .1),
+          explore-canonical _ _ _ _ _ _ _ _ _ (at-loop .loop .inv .7) (at-loop .loop .inv .4) (at-loop-test .loop-test .taken) _ _ _
+          (at-visit-entry .visit-entry .ensures) _ _ (c .before .sets .given .1),
       search explore-next,
     ))
     (λ c. search needs) (λ c. search needs) (λ c. search needs) (λ c. search (explore-over, needs)) (λ c. search needs) (λ c κs. search needs)

@@ -8,45 +8,30 @@ use Rattle.sweep.proofs.Begin.{passing-begin}
 use Rattle.sweep.specs.inner.Passing.{Passing}
 use Rattle.sheets.specs.Sheet.{stateCount, read}
 use Rattle.sets.specs.inner.BitSet.{setAt, entries}
-use Rattle.determinize.proofs.Swept.{passing-next, numbered-none}
-use Rattle.determinize.proofs.Visits.{Visiting, visit-begins, visit-next, visit-over, visit-ended, canonical-next}
-use Rattle.determinize.proofs.Placing.{cut-less, cut-counts, cut-most}
-use Rattle.determinize.specs.inner.Attempts.{Numbered}
+use Rattle.determinize.proofs.Swept.{visited-root, passing-next, numbered-none}
+use Rattle.determinize.proofs.Visits.{SpansInvariant, visit-begins, visit-next, visit-over, visit-ended, canonical-next}
+use Rattle.determinize.proofs.Placing.{cut-some, cut-less, cut-counts, cut-most}
+use Rattle.determinize.specs.inner.Attempts.{SetNumbered}
 use Rattle.determinize.specs.inner.Notes.{Canonical}
 use Rattle.determinize.proofs.sweeping.sweep_spans.Statement.{statement}
 use Rattle.determinize.proofs.sweeping.sweep_spans.Tie as tie
 
 abbrev Inv-loop : tie.InvT-loop
-Inv-loop s closures opens ends lower upper set from table₀ sets notes₀ noted reach₀ tree₀ top at₀ count₀ table notes reach tree at count =
-    (top ≤ 4294967296) × (noted ≤ 1099511627776) × (length table ≡ 1024) × (length table ≡ length table₀) × (length notes % 5 ≡ 0)
-    × (length notes ≡ length notes₀) × (at .sets < 256) × (at .cut ≤ 4294967296) × (count + lower ≤ noted + at .cut)
-    × Canonical (stateCount s) (entries table (at .sets))
-    × Visiting lower upper (read s) (setAt set 0) (entries table₀ sets) from notes₀ noted table notes (at .sets) count (at .cut)
-    × Passing s closures opens ends (setAt set 0) (at .opens) (at .ends) (at .cut) reach tree × Numbered (entries table (at .sets)) (at .number)
+Inv-loop s closures opens ends set from table₀ notes₀ reach₀ tree₀ upper top turn₀ n₀ near₀ count₀ table notes reach tree turn n near count =
+    (top ≤ 4294967296) × (count₀ ≤ 1099511627776) × (length table ≡ 1024) × (length table ≡ length table₀) × (length notes % 5 ≡ 0)
+    × (length notes ≡ length notes₀) × (n < 256) × (turn .cut ≤ 4294967296) × (count + turn₀ .cut ≤ count₀ + turn .cut)
+    × Canonical (stateCount s) (entries table n)
+    × SpansInvariant (turn₀ .cut) upper (read s) (setAt set 0) (entries table₀ n₀) from notes₀ count₀ table notes n count (turn .cut)
+    × Passing s closures opens ends (setAt set 0) (turn .opens) (turn .ends) (turn .cut) reach tree × SetNumbered (entries table n) near
 
 abbrev μ-loop : tie.MeasureT-loop
-μ-loop s closures opens ends lower upper set from table₀ sets notes₀ noted reach₀ tree₀ top at₀ count₀ table notes reach tree at count = top - at .cut
+μ-loop s closures opens ends set from table₀ notes₀ reach₀ tree₀ upper top turn₀ n₀ near₀ count₀ table notes reach tree turn n near count =
+    top - turn .cut
 
 pub sweep-spans-spec : {M : Type 1} → statement M
 sweep-spans-spec =
     tie.close
-    (tie.spec Inv-loop μ-loop (λ c. search needs) (λ c. search (visit-begins, passing-begin, numbered-none, needs)) (λ c. search needs)
-    (λ c. search needs)
-    (λ c κs.
-    let at-if = c .before .before .before .before in
-    let at-loop = at-if .before .before in
-    let at-pre = at-loop .before .before .before .before .before .before .before .before in (
-      (at-loop .loop .inv .11, at-pre .pre .0 .3),
-      (at-loop .loop .inv .6, at-loop .loop .inv .2, at-loop .loop .inv .4, at-if .if1 .taken, at-loop .loop .inv .0, at-loop .loop .inv .12),
-    ))
-    (λ c. search needs) (λ c. search needs) (λ c. search (visit-over, needs))
-    (λ c.
-    let at-loop = c .before .before .before .before .before .before .before .before .before .before .before .before .before .before .before in
-    omega (arith, at-loop .loop .inv .8, at-loop .loop .inv .7, at-loop .loop .inv .1))
-    (λ c.
-    let at-visit-swept = c .before .before .before .before .before .before .before .before in
-    let at-if = at-visit-swept .before .before .before .before .before in
-    cut-less _ _ _ _ (at-visit-swept .visit-swept .ensures .0) (at-if .if1 .taken))
+    (tie.spec Inv-loop μ-loop (λ c. search needs) (λ c. search needs) (λ c. search needs)
     (λ c. (
       search needs,
       search needs,
@@ -55,18 +40,71 @@ sweep-spans-spec =
       search needs,
       search needs,
       search needs,
-      let at-visit = c .before .before .before .before .before .before .before .before in
-          let at-loop = at-visit .before .before .before .before .before .before .before in
-          cut-most _ _ _ _ (at-visit .visit-swept .ensures .0) (at-loop .loop .inv .0),
-      let at-visit = c .before .before .before .before .before .before .before .before in
-          let at-if = at-visit .before .before .before .before .before in
-          let at-loop = at-if .before .before in
-          cut-counts _ _ _ _ (at-visit .visit-swept .ensures .0) _ _ _ (at-if .if1 .taken) (at-loop .loop .inv .8),
-      search canonical-next,
-      search visit-next,
-      let at-visit = c .before .before .before .before .before .before .before .before in
-          let at-if = at-visit .before .before .before .before .before in
-          passing-next _ _ _ _ _ _ _ _ _ _ (at-visit .visit-swept .ensures .1 .1 .0) _ _ _ (at-if .if1 .taken) (at-visit .visit-swept .ensures .0),
-      c .before .before .before .before .before .before .before .before .visit-swept .ensures .1 .1 .1,
+      search needs,
+      search needs,
+      search needs,
+      search visit-begins,
+      search passing-begin,
+      search (numbered-none, needs),
+    ))
+    (λ c. search needs) (λ c. search needs) (λ c. search needs)
+    (λ c κs.
+    let at-if = c .before .before .before in
+    let at-loop = at-if .before .before in
+    let at-pre = at-loop .before .before .before .before .before .before .before .before .before in
+    (at-loop .loop .inv .11, at-pre .pre .0 .3, at-if .if1 .taken))
+    (λ c. search needs)
+    (λ c κs.
+    let at-step = c .before .before .before .before .before in
+    let at-if = at-step .before .before .before .before in
+    let at-loop = at-if .before .before in (
+      search needs,
+      cut-some _ _ _ _ (at-step .step .ensures .0) (at-if .if1 .taken),
+      cut-most _ _ _ _ (at-step .step .ensures .0) (at-loop .loop .inv .0),
+      at-loop .loop .inv .6,
+      at-loop .loop .inv .2,
+      at-loop .loop .inv .4,
+      at-loop .loop .inv .12,
+    ))
+    (λ c. search needs) (λ c. search needs)
+    (λ c.
+    let at-visit = c .before .before .before .before .before in
+    let at-step = at-visit .before .before .before .before .before .before in
+    let at-if = at-step .before .before .before .before in
+    let at-loop = at-if .before .before in
+    let visited = visited-root _ _ _ _ _ _ _ _ _ _ _ (at-step .step .ensures .1 .0) (at-visit .visit-swept .ensures .0) in
+    visit-over _ _ _ _ _ _ _ _ _ _ _ _ _ (at-loop .loop .inv .10) (at-if .if1 .taken) _ (at-step .step .ensures .0) _ _ _ visited (c .if2 .taken))
+    (λ c.
+    let at-visit = c .before .before .before .before .before in
+    let at-step = at-visit .before .before .before .before .before .before in
+    let at-if = at-step .before .before .before .before in
+    let at-loop = at-if .before .before in
+    omega (arith, at-loop .loop .inv .8, at-loop .loop .inv .7, at-loop .loop .inv .1))
+    (λ c.
+    let at-visit = c .before .before .before .before .before in
+    let at-step = at-visit .before .before .before .before .before .before in
+    let at-if = at-step .before .before .before .before in
+    cut-less _ _ _ _ (at-step .step .ensures .0) (at-if .if1 .taken))
+    (λ c.
+    let at-visit = c .before .before .before .before .before in
+    let at-step = at-visit .before .before .before .before .before .before in
+    let at-if = at-step .before .before .before .before in
+    let at-loop = at-if .before .before in
+    let at-pre = at-loop .before .before .before .before .before .before .before .before .before in
+    let at-table = c .before .before .before .before in
+    let visited = visited-root _ _ _ _ _ _ _ _ _ _ _ (at-step .step .ensures .1 .0) (at-visit .visit-swept .ensures .0) in (
+      search needs,
+      search needs,
+      omega (arith, at-loop .loop .inv .2, at-table .table .given),
+      omega (arith, at-loop .loop .inv .3, at-table .table .given),
+      search needs,
+      search needs,
+      search needs,
+      cut-most _ _ _ _ (at-step .step .ensures .0) (at-loop .loop .inv .0),
+      cut-counts _ _ _ _ (at-step .step .ensures .0) _ _ _ (at-if .if1 .taken) (at-loop .loop .inv .8),
+      canonical-next _ (at-pre .pre .0 .0 .accepted) _ _ _ _ _ _ _ _ _ _ (at-loop .loop .inv .9) visited,
+      visit-next _ _ _ _ _ _ _ _ _ _ _ _ _ (at-loop .loop .inv .10) (at-if .if1 .taken) _ (at-step .step .ensures .0) _ _ _ visited,
+      passing-next _ _ _ _ _ _ _ _ _ _ (at-step .step .ensures .1 .1) _ _ _ (at-if .if1 .taken) (at-step .step .ensures .0),
+      at-visit .visit-swept .ensures .1,
     ))
     (λ c. search needs) (λ c. search needs) (λ c. search (visit-ended, needs)))

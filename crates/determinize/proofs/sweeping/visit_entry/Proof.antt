@@ -12,14 +12,14 @@ visit-entry-spec =
     (λ c. search rowLaws)
     (λ c κs.
     let at-pre = c .before .before .before .before .before .before .before .before .before .before .before .before .before .before .before .before .before in (
-      (tables-closed _ _ _ (at-pre .pre .0), at-pre .pre .1, at-pre .pre .2, search needs),
-      (at-pre .pre .4, at-pre .pre .5, at-pre .pre .6, at-pre .pre .7, at-pre .pre .8),
+      (tables-closed _ _ _ (at-pre .pre .0 .0), at-pre .pre .0 .1, at-pre .pre .0 .2, search needs),
+      at-pre .pre .1 .0,
     ))
     (λ c. search rowLaws) (λ c. search rowLaws) (λ c. search rowLaws) (λ c. search rowLaws) (λ c. search rowLaws)
     (λ c κs.
     let at-copy-row = c .before .before .before .before .before .before .before in
     let at-pre = at-copy-row .before .before .before .before .before .before .before .before .before .before in (
-      (at-pre .pre .0, row-canon _ _ _ (at-copy-row .copy-row .ensures) _ (at-pre .pre .3) _ (at-pre .pre .6), search needs),
-      (at-pre .pre .4, at-pre .pre .5, at-pre .pre .6, at-pre .pre .7, at-pre .pre .8),
+      (at-pre .pre .0 .0, record { canon = row-canon _ _ _ (at-copy-row .copy-row .ensures) _ (at-pre .pre .1 .1) _ (at-pre .pre .1 .0 .canonical); long = search needs }),
+      at-pre .pre .1 .0,
     ))
     (λ c. search rowLaws) (λ c. search rowLaws) (λ c. search rowLaws))

@@ -4,7 +4,7 @@ use mathlib.Core.List.{map}
 use mathlib.Core.Path.{_≡_}
 use borrow.Author.Needs.{needs}
 use lib.ListN.{length}
-use Rattle.lists.specs.Written.{Written}
+use Rattle.stores.specs.Written.{Written}
 use Rattle.sets.specs.inner.BitSet.{entries}
 use Rattle.sheets.specs.Sheet.{read}
 use Rattle.words.specs.Simulation.{kindOf}
@@ -23,6 +23,14 @@ pub put-accept-words-spec : {M : Type 1} → statement M
 put-accept-words-spec =
     tie.close
     (tie.spec Inv-loop μ-loop (λ c. search acceptLaws) (λ c κs. search acceptLaws) (λ c κs. search acceptLaws)
-    (λ c. search acceptLaws) (λ c. search acceptLaws) (λ c. (search needs, search needs, search needs, accepts-next _ _ _ _ _ _ _ (c .before .before .before .before .before .before .loop .inv .3) _ (c .before .before .before .accept-word .ensures) _ _ (c .before .before .put-word .ensures)))
+    (λ c. search acceptLaws) (λ c. search acceptLaws)
+    (λ c. (
+      search needs,
+      search needs,
+      search needs,
+      let at-accept-word = c .before .before .before in
+          let at-loop = at-accept-word .before .before .before in
+          accepts-next _ _ _ _ _ _ _ (at-loop .loop .inv .3) _ (at-accept-word .accept-word .ensures) _ _ (c .before .before .put-word .ensures),
+    ))
     (λ c κs. search acceptLaws)
     (λ c. search acceptLaws) (λ c. search acceptLaws))

@@ -2,7 +2,7 @@
 use Prim.Native.Nat.{_+_, _-_, _^_, _≤_, _<_}
 use mathlib.Core.Path.{_≡_}
 use lib.ListN.{length, drop}
-use Rattle.grammar.specs.Bytes.{isDigit}
+use Rattle.decimal.specs.Decimal.{isDigit}
 use Rattle.grammar.specs.Grammar.{run}
 use Rattle.grammar.proofs.Digits.{written, numberLaws}
 use Rattle.grammar.proofs.ranges.number.Statement.{statement}

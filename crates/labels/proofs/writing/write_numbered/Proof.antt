@@ -1,6 +1,6 @@
 -- `write_numbered` meets its contract: each turn writes one label more.
 use Prim.Native.Nat.{_-_, _≤_}
-use Rattle.lists.specs.Written.{Written}
+use Rattle.stores.specs.Written.{Written}
 use Rattle.labels.specs.Labels.{writeEntries}
 use Rattle.labels.specs.Forms.{numbered}
 use Rattle.labels.proofs.Whole.{numberedLaws}

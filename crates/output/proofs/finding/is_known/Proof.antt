@@ -1,4 +1,4 @@
--- `is_known` meets its contract: the record is not between the first and the last, or is the one found, or none.
+-- `is_known` meets its contract: the record is the one found, or none.
 use Rattle.output.proofs.Halving.{knownLaws}
 use Rattle.output.proofs.finding.is_known.Statement.{statement}
 use Rattle.output.proofs.finding.is_known.Tie as tie
@@ -6,5 +6,4 @@ use Rattle.output.proofs.finding.is_known.Tie as tie
 pub is-known-spec : {M : Type 1} → statement M
 is-known-spec =
     tie.close
-    (tie.spec (λ c. search knownLaws) (λ c. search knownLaws) (λ c κs. search knownLaws) (λ c. search knownLaws) (λ c κs. search knownLaws) (λ c. search knownLaws)
-    (λ c κs. search knownLaws) (λ c κs. search knownLaws) (λ c. search knownLaws))
+    (tie.spec (λ c. search knownLaws) (λ c κs. search knownLaws) (λ c κs. search knownLaws) (λ c. search knownLaws))

@@ -3,7 +3,7 @@ use Prim.Native.Nat.{_+_, _-_, _≤_}
 use mathlib.Core.List.{map}
 use mathlib.Core.Path.{_≡_}
 use lib.ListN.{length}
-use Rattle.lists.specs.Written.{Written}
+use Rattle.stores.specs.Written.{Written}
 use Rattle.sheets.specs.Sheet.{read}
 use Rattle.product.specs.Product.{pairAccept}
 use Rattle.product.specs.inner.Tables.{tableOf}

@@ -1,7 +1,7 @@
 -- `write_labels` meets its contract: the labels of `i` pairs are written.
 use Prim.Native.Nat.{_-_, _≤_}
 use mathlib.Core.List.{map}
-use Rattle.lists.specs.Written.{Written}
+use Rattle.stores.specs.Written.{Written}
 use Rattle.labels.specs.Labels.{writeEntries}
 use Rattle.product.specs.Product.{pairLabelOf}
 use Rattle.product.specs.inner.Tables.{tableOf}

@@ -3,7 +3,7 @@ use Prim.Native.Nat.{_-_, _≤_}
 use mathlib.Core.Path.{_≡_}
 use lib.ListN.{length}
 use Rattle.sheets.specs.inner.Accepted.{recordCount}
-use Rattle.lists.proofs.Left.{Left}
+use Rattle.stores.proofs.Left.{Left}
 use Rattle.automata.specs.Records.{writeRecords}
 use Rattle.sweep.specs.inner.Events.{events, eventsFrom}
 use Rattle.sweep.proofs.Putting.{putsLaws}

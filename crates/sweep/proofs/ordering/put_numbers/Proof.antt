@@ -3,7 +3,7 @@ use Prim.Native.Nat.{_-_, _≤_}
 use mathlib.Core.Path.{_≡_}
 use mathlib.Core.List.{map}
 use lib.ListN.{length, drop}
-use Rattle.lists.proofs.Left.{Left}
+use Rattle.stores.proofs.Left.{Left}
 use Rattle.automata.specs.Records.{readRecords}
 use Rattle.sweep.proofs.Putting.{takeLaws}
 use Rattle.sweep.proofs.ordering.put_numbers.Statement.{statement}

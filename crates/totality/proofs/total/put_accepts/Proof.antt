@@ -3,14 +3,14 @@ use Prim.Native.Nat.{_+_, _-_, _≤_}
 use mathlib.Core.List.{map}
 use mathlib.Core.Path.{_≡_}
 use lib.ListN.{length, take}
-use Rattle.lists.specs.Written.{Written}
-use Rattle.totality.specs.inner.Merging.{acceptWord}
+use Rattle.stores.specs.Written.{Written}
+use Rattle.totality.specs.inner.Merging.{flippedWordIf}
 use Rattle.totality.proofs.Writing.{acceptsLaws}
 use Rattle.totality.proofs.total.put_accepts.Statement.{statement}
 use Rattle.totality.proofs.total.put_accepts.Tie as tie
 
 abbrev Inv-loop : tie.InvT-loop
-Inv-loop words flip out₀ at end₀ i₀ out end i = (i ≤ length words) × (end ≡ at + i) × (length out ≡ length out₀) × Written out₀ at (map (acceptWord flip) (take i words)) out end
+Inv-loop words flip out₀ at end₀ i₀ out end i = (i ≤ length words) × (end ≡ at + i) × (length out ≡ length out₀) × Written out₀ at (map (flippedWordIf flip) (take i words)) out end
 
 abbrev μ-loop : tie.MeasureT-loop
 μ-loop words flip out₀ at end₀ i₀ out end i = length words - i

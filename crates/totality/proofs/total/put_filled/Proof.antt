@@ -1,5 +1,5 @@
 -- `put_filled` meets its contract: the holes that were found are merged with the run.
-use Rattle.totality.proofs.States.{filledLaws}
+use Rattle.totality.proofs.Filling.{filledLaws}
 use Rattle.totality.proofs.total.put_filled.Statement.{statement}
 use Rattle.totality.proofs.total.put_filled.Tie as tie
 

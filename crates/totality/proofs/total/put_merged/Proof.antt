@@ -4,15 +4,15 @@ use mathlib.Core.Path.{_≡_}
 use borrow.Author.Needs.{needs}
 use lib.ListN.{length, drop}
 use Rattle.automata.specs.Records.{readRecords, writeRecords}
-use Rattle.totality.specs.inner.Merging.{readSpans, Mergeable, merged, Whole}
-use Rattle.lists.proofs.Left.{Left}
+use Rattle.totality.specs.inner.Merging.{readSpans, Mergeable, merged, WholeRecords}
+use Rattle.stores.proofs.Left.{Left}
 use Rattle.totality.proofs.Merging.{mergeLaws, merge-whole, merge-mergeable, hole-next}
 use Rattle.totality.proofs.total.put_merged.Statement.{statement}
 use Rattle.totality.proofs.total.put_merged.Tie as tie
 
 abbrev Inv-loop : tie.InvT-loop
 Inv-loop run holes q sink out₀ at end₀ i₀ j₀ out end i j =
-    (i ≤ length run) × (j ≤ length holes) × (length out ≡ length out₀) × Whole (drop i run)
+    (i ≤ length run) × (j ≤ length holes) × (length out ≡ length out₀) × WholeRecords (drop i run)
     × Mergeable sink q (readRecords (drop i run)) (readSpans (drop j holes))
     × Left out₀ at (writeRecords (merged sink q run holes)) out end (writeRecords (merged sink q (drop i run) (drop j holes)))
 

@@ -7,7 +7,7 @@ use Rattle.automata.specs.Automaton.{states}
 use Rattle.automata.specs.Records.{writeRecords}
 use Rattle.sheets.specs.Sheet.{stateCount, read}
 use Rattle.totality.specs.Totality.{filledIn}
-use Rattle.lists.proofs.Left.{Left}
+use Rattle.stores.proofs.Left.{Left}
 use Rattle.totality.proofs.Rows.{rowsLaws, rows-next}
 use Rattle.totality.proofs.total.put_rows.Statement.{statement}
 use Rattle.totality.proofs.total.put_rows.Tie as tie

@@ -9,10 +9,10 @@ use Rattle.totality.proofs.total.records_before.Statement.{statement}
 use Rattle.totality.proofs.total.records_before.Tie as tie
 
 abbrev Inv-loop : tie.InvT-loop
-Inv-loop run i low k₀ k = (k ≤ length run) × (i + 5 * leading low (readRecords (drop i run)) ≡ k + 5 * leading low (readRecords (drop k run)))
+Inv-loop run i first k₀ k = (k ≤ length run) × (i + 5 * leading first (readRecords (drop i run)) ≡ k + 5 * leading first (readRecords (drop k run)))
 
 abbrev μ-loop : tie.MeasureT-loop
-μ-loop run i low k₀ k = length run - k
+μ-loop run i first k₀ k = length run - k
 
 pub records-before-spec : {M : Type 1} → statement M
 records-before-spec =

@@ -2,7 +2,7 @@
 use Prim.Native.Nat.{_+_, _-_, _*_, _≤_}
 use mathlib.Core.Path.{_≡_}
 use lib.ListN.{length, take}
-use Rattle.lists.specs.Written.{Written}
+use Rattle.stores.specs.Written.{Written}
 use Rattle.verdict_line.specs.Line.{symbols}
 use Rattle.verdict_line.proofs.Printing.{differLaws}
 use Rattle.verdict_line.proofs.lines.put_differ.Statement.{statement}

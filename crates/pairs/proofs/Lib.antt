@@ -1,0 +1,2 @@
+-- The laws of queues of pairs.
+pub mod Laws

@@ -1,0 +1,2 @@
+-- What a function that writes into lent memory does.
+pub mod Written
