@@ -9,8 +9,8 @@ use lib.Seq.{take-all, take-suc-set}
 use borrow.Author.Needs.{needs}
 use borrow.Author.Tests.{lt-ltb, le-ltb}
 use Rattle.refusal.specs.declared.StateRefusal.the-variants.{Element}
-use Rattle.dsu.specs.declared.Outcome.the-variants.{Done, Refused}
-use Rattle.dsu.specs.declared.Answer.{Answer}
+use Rattle.dsu.specs.declared.SetsOutcome.the-variants.{Done, Refused}
+use Rattle.dsu.specs.declared.SetsAnswer.{SetsAnswer}
 use Rattle.dsu.specs.Sets.{upTo, fresh, newOf}
 
 -- the first i parents are the indices
@@ -34,11 +34,11 @@ module _ (l : List ℕ) (i : ℕ) (f : Filled l i) where
     all-filled : l ≡ upTo 512
     all-filled = let q : i ≡ 512 = omega arith in sym (take-all i l (omega (arith, f .long))) ∙ f .so-far ∙ ap upTo q
 
-    pub new-refused : 512 < n → _≡_ {A = Answer} (record { outcome = Refused Element; sets = record { repr = l; size = replicate 512 1; n = 0 } }) (newOf n)
+    pub new-refused : 512 < n → _≡_ {A = SetsAnswer} (record { outcome = Refused Element; sets = record { repr = l; size = replicate 512 1; n = 0 } }) (newOf n)
     unfolding newOf fresh
     new-refused h = rw (lt-ltb 512 n h, all-filled)
 
-    pub new-made : n ≤ 512 → _≡_ {A = Answer} (record { outcome = Done; sets = record { repr = l; size = replicate 512 1; n = n } }) (newOf n)
+    pub new-made : n ≤ 512 → _≡_ {A = SetsAnswer} (record { outcome = Done; sets = record { repr = l; size = replicate 512 1; n = n } }) (newOf n)
     unfolding newOf fresh
     new-made h = rw (le-ltb 512 n h, all-filled)
 

@@ -13,8 +13,8 @@ use Rattle.refusal.specs.declared.StateRefusal.the-variants.{Element, JoinSets}
 use Rattle.dsu.specs.declared.DSU.{DSU}
 use Rattle.dsu.specs.declared.Found.{Found}
 use Rattle.dsu.specs.declared.Found.the-variants.{Root, Refused}
-use Rattle.dsu.specs.declared.Outcome.the-variants.{Done}
-use Rattle.dsu.specs.declared.Answer.{Answer}
+use Rattle.dsu.specs.declared.SetsOutcome.the-variants.{Done}
+use Rattle.dsu.specs.declared.SetsAnswer.{SetsAnswer}
 use Rattle.dsu.specs.declared.United.{United}
 use Rattle.dsu.specs.declared.United.the-variants.{Apart, Together}
 use Rattle.dsu.specs.declared.United.the-variants as united
@@ -113,10 +113,10 @@ module _ (d : DSU) (x y : ℕ) (u : United) (l z : List ℕ) (is-u : _≡_ {A = 
   union-refused r e = sym (ap (λ (v : United). madeOf d v l z) e) ∙ made
 
   -- where it isn't refused: the first two cases of `United`
-  pub union-done : (tagOf the-type u ≡ 0) ⊎ (tagOf the-type u ≡ 1) → _≡_ {A = Answer} (record { outcome = Done; sets = changed d l z }) (unionOf d x y)
+  pub union-done : (tagOf the-type u ≡ 0) ⊎ (tagOf the-type u ≡ 1) → _≡_ {A = SetsAnswer} (record { outcome = Done; sets = changed d l z }) (unionOf d x y)
   union-done h = by-case u h ∙ made
     where
-      by-case : (v : United) → (tagOf the-type v ≡ 0) ⊎ (tagOf the-type v ≡ 1) → _≡_ {A = Answer} (record { outcome = Done; sets = changed d l z }) (madeOf d v l z)
+      by-case : (v : United) → (tagOf the-type v ≡ 0) ⊎ (tagOf the-type v ≡ 1) → _≡_ {A = SetsAnswer} (record { outcome = Done; sets = changed d l z }) (madeOf d v l z)
       by-case Apart t = refl
       by-case Together t = refl
       by-case (united.Refused r) (inl t) = absurd (omega arith)

@@ -11,7 +11,7 @@ use lib.Seq.{getD-at}
 use borrow.Author.Tests.{lt-leb, le-ltb, eq-eqb, ne-eqb}
 use Rattle.dsu.specs.declared.DSU.{DSU}
 use Rattle.dsu.specs.declared.FindAnswer.{FindAnswer}
-use Rattle.dsu.specs.declared.Answer.{Answer}
+use Rattle.dsu.specs.declared.SetsAnswer.{SetsAnswer}
 use Rattle.dsu.specs.declared.United.{United}
 use Rattle.dsu.specs.declared.United.the-variants as united
 use Rattle.dsu.specs.Sets.{findOf, After, under, join, unionIn, madeOf, unionOf, upTo, fresh, newOf}
@@ -66,7 +66,7 @@ module _ (k n : ℕ) (few : n ≤ 512) (in-k : n ≤ k) where
   begun-alone : (x y : ℕ) → x < n → y < n → Same begun x y → x ≡ y
   begun-alone x y hx hy e = sym (own-class x hx) ∙ e ∙ own-class y hy
 
-pub new-law : (n : ℕ) (r : Answer) → r ≡ newOf n → n ≤ 512 → NewLaw n r
+pub new-law : (n : ℕ) (r : SetsAnswer) → r ≡ newOf n → n ≤ 512 → NewLaw n r
 unfolding newOf fresh
 new-law n r e h = subst (NewLaw n) (sym (e ∙ rw (le-ltb 512 n h))) (record {
   done = refl;
@@ -168,7 +168,7 @@ union-unites d x y v x-in y-in =
     let is : unionIn (d .repr) z n x y ≡ join (after t) z n (classOf d x) (classOf d y) = rw (lt-leb n x x-in, lt-leb n y y-in, leads-way s, leads-way t) in
     subst (UnitesIn d x y) (sym is) (join-unites d (after t) v₂ same₂ x y x-in y-in (end x x-in) (end y y-in))
 
-pub union-law : (d : DSU) (x y : ℕ) (r : Answer) → r ≡ unionOf d x y → Valid d → x < d .n → y < d .n → UnionLaw d x y r
+pub union-law : (d : DSU) (x y : ℕ) (r : SetsAnswer) → r ≡ unionOf d x y → Valid d → x < d .n → y < d .n → UnionLaw d x y r
 unfolding unionOf
 union-law d x y r e v x-in y-in =
     let u = unionIn (d .repr) (d .size) (d .n) x y in

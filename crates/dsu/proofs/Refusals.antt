@@ -11,7 +11,7 @@ use lib.ListN.{length, getD}
 use borrow.Author.Tests.{lt-ltb, le-ltb, le-leb, lt-leb, eq-eqb, ne-eqb, ltb-true, leb-true, eqb-true, eqb-false}
 use Rattle.dsu.specs.declared.DSU.{DSU}
 use Rattle.dsu.specs.declared.FindAnswer.{FindAnswer}
-use Rattle.dsu.specs.declared.Answer.{Answer}
+use Rattle.dsu.specs.declared.SetsAnswer.{SetsAnswer}
 use Rattle.dsu.specs.Sets.{Seen, top, up, fault, seen, Way, broken, reached, point, onward, walk, way, findOf, After, under, join, joinSecond, joinFirst, unionIn, madeOf, unionOf, newOf}
 use Rattle.dsu.specs.Laws.{classOf}
 use Rattle.dsu.specs.Refusals.{foundNumber, outcomeNumber, OnWay, here, next, Fault, many, outside, small, no-size, large, Broken, TooLarge, BrokenUnion, first, second, joint, NewRefusals, FindRefusals, UnionRefusals}
@@ -213,7 +213,7 @@ find-refusals d x r e = subst (FindRefusals d x) (sym e) (by-place (decLt x (d .
       unchanged = λ q. w .1;
     }
 
-pub union-refusals : (d : DSU) (x y : ℕ) (r : Answer) → r ≡ unionOf d x y → length (d .repr) ≡ 512 → UnionRefusals d x y r
+pub union-refusals : (d : DSU) (x y : ℕ) (r : SetsAnswer) → r ≡ unionOf d x y → length (d .repr) ≡ 512 → UnionRefusals d x y r
 unfolding unionOf
 union-refusals d x y r e long = subst (UnionRefusals d x y) (sym e) (by-place (decLt x (d .n)) (decLt y (d .n)))
   where
@@ -237,7 +237,7 @@ union-refusals d x y r e long = subst (UnionRefusals d x y) (sym e) (by-place (d
     by-place (yes i) (no k) = out (inr (omega arith))
     by-place (no h) k = out (inl (omega arith))
 
-pub new-refusals : (n : ℕ) (r : Answer) → r ≡ newOf n → NewRefusals n r
+pub new-refusals : (n : ℕ) (r : SetsAnswer) → r ≡ newOf n → NewRefusals n r
 unfolding newOf
 new-refusals n r e = subst (NewRefusals n) (sym e) (by-place (decLt 512 n))
   where

@@ -9,8 +9,8 @@ use Rattle.dsu.specs.declared.DSU.{DSU}
 use Rattle.dsu.specs.declared.Found.{Found}
 use Rattle.dsu.specs.declared.Found.the-variants.{Root, Refused}
 use Rattle.dsu.specs.declared.FindAnswer.{FindAnswer}
-use Rattle.dsu.specs.declared.Outcome.the-variants.{Done}
-use Rattle.dsu.specs.declared.Answer.{Answer}
+use Rattle.dsu.specs.declared.SetsOutcome.the-variants.{Done}
+use Rattle.dsu.specs.declared.SetsAnswer.{SetsAnswer}
 use Rattle.dsu.specs.Sets.{findOf}
 use Rattle.dsu.specs.Classes.{Classes, Joined}
 
@@ -44,7 +44,7 @@ pub record Valid (d : DSU) : Type 0 where
   pub counted : (x : ℕ) → x < d .n → getD (d .repr) x 0 ≡ x → getD (d .size) x 0 ≡ count (classOf d) x (d .n)
 
 -- r is a `new` of n elements: each is alone
-pub record NewLaw (n : ℕ) (r : Answer) : Type 0 where
+pub record NewLaw (n : ℕ) (r : SetsAnswer) : Type 0 where
   pub done : r .outcome ≡ Done
   pub is-n : r .sets .n ≡ n
   pub valid : Valid (r .sets)
@@ -62,7 +62,7 @@ pub record FindLaw (d : DSU) (x : ℕ) (r : FindAnswer) : Type 0 where
   pub as-many : (k : ℕ) → Classes (Same d) (d .n) k → Classes (Same (r .sets)) (d .n) k
 
 -- r is a `union` of x and y in d: their classes are one, and no other changed; there is one class fewer where they were apart
-pub record UnionLaw (d : DSU) (x y : ℕ) (r : Answer) : Type 0 where
+pub record UnionLaw (d : DSU) (x y : ℕ) (r : SetsAnswer) : Type 0 where
   pub done : r .outcome ≡ Done
   pub is-n : r .sets .n ≡ d .n
   pub valid : Valid (r .sets)

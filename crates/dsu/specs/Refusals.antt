@@ -9,10 +9,10 @@ use Rattle.dsu.specs.declared.Found.{Found}
 use Rattle.dsu.specs.declared.Found.the-variants.{Root}
 use Rattle.dsu.specs.declared.Found.the-variants as found
 use Rattle.dsu.specs.declared.FindAnswer.{FindAnswer}
-use Rattle.dsu.specs.declared.Outcome.{Outcome}
-use Rattle.dsu.specs.declared.Outcome.the-variants.{Done}
-use Rattle.dsu.specs.declared.Outcome.the-variants as outcome
-use Rattle.dsu.specs.declared.Answer.{Answer}
+use Rattle.dsu.specs.declared.SetsOutcome.{SetsOutcome}
+use Rattle.dsu.specs.declared.SetsOutcome.the-variants.{Done}
+use Rattle.dsu.specs.declared.SetsOutcome.the-variants as outcome
+use Rattle.dsu.specs.declared.SetsAnswer.{SetsAnswer}
 use Rattle.dsu.specs.Laws.{classOf}
 
 -- document 01's number of a refusal, 0 where nothing is refused
@@ -20,7 +20,7 @@ abbrev pub foundNumber : Found → ℕ
 foundNumber (Root a) = 0
 foundNumber (found.Refused r) = stateNumber r
 
-abbrev pub outcomeNumber : Outcome → ℕ
+abbrev pub outcomeNumber : SetsOutcome → ℕ
 outcomeNumber Done = 0
 outcomeNumber (outcome.Refused r) = stateNumber r
 
@@ -62,7 +62,7 @@ pub data BrokenUnion (d : DSU) (x y : ℕ) : Type 0 where
   joint : TooLarge d x y → BrokenUnion d x y
 
 -- r is a `new` of n elements
-pub record NewRefusals (n : ℕ) (r : Answer) : Type 0 where
+pub record NewRefusals (n : ℕ) (r : SetsAnswer) : Type 0 where
   pub is-23 : (outcomeNumber (r .outcome) ≡ 23) ↔ (512 < n)
   pub is-24 : outcomeNumber (r .outcome) ≡ 24 → ⊥
 
@@ -73,7 +73,7 @@ pub record FindRefusals (d : DSU) (x : ℕ) (r : FindAnswer) : Type 0 where
   pub unchanged : (foundNumber (r .found) ≡ 0 → ⊥) → r .sets ≡ d
 
 -- r is a `union` of x and y in d
-pub record UnionRefusals (d : DSU) (x y : ℕ) (r : Answer) : Type 0 where
+pub record UnionRefusals (d : DSU) (x y : ℕ) (r : SetsAnswer) : Type 0 where
   pub is-23 : (outcomeNumber (r .outcome) ≡ 23) ↔ ((d .n ≤ x) ⊎ (d .n ≤ y))
   pub is-24 : (outcomeNumber (r .outcome) ≡ 24) ↔ ((x < d .n) × (y < d .n) × BrokenUnion d x y)
   pub unchanged : (outcomeNumber (r .outcome) ≡ 0 → ⊥) → r .sets ≡ d

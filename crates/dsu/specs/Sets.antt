@@ -12,9 +12,9 @@ use Rattle.dsu.specs.declared.DSU.{DSU}
 use Rattle.dsu.specs.declared.Found.the-variants.{Root}
 use Rattle.dsu.specs.declared.Found.the-variants as found
 use Rattle.dsu.specs.declared.FindAnswer.{FindAnswer}
-use Rattle.dsu.specs.declared.Outcome.the-variants.{Done}
-use Rattle.dsu.specs.declared.Outcome.the-variants as outcome
-use Rattle.dsu.specs.declared.Answer.{Answer}
+use Rattle.dsu.specs.declared.SetsOutcome.the-variants.{Done}
+use Rattle.dsu.specs.declared.SetsOutcome.the-variants as outcome
+use Rattle.dsu.specs.declared.SetsAnswer.{SetsAnswer}
 use Rattle.dsu.specs.declared.United.{United}
 use Rattle.dsu.specs.declared.United.the-variants.{Apart, Together}
 use Rattle.dsu.specs.declared.United.the-variants as united
@@ -70,7 +70,7 @@ findOf d x =
     cond (leb (d .n) x) (record { found = found.Refused Element; sets = d })
     (foundBy d (way (d .repr) (d .size) (d .n) x))
 
-abbrev pub refuse : DSU → StateRefusal → Answer
+abbrev pub refuse : DSU → StateRefusal → SetsAnswer
 refuse d r = record { outcome = outcome.Refused r; sets = d }
 
 -- what two elements were before a union on lent arrays, and the parents and sizes after it
@@ -105,13 +105,13 @@ unionIn repr size n x y =
     (joinFirst repr size n y (way repr size n x)))
 
 -- the answer to a union in d: the sets with what it left in the arrays, or d itself after a refusal
-abbrev pub madeOf : DSU → United → List ℕ → List ℕ → Answer
+abbrev pub madeOf : DSU → United → List ℕ → List ℕ → SetsAnswer
 madeOf d Apart repr size = record { outcome = Done; sets = changed d repr size }
 madeOf d Together repr size = record { outcome = Done; sets = changed d repr size }
 madeOf d (united.Refused r) repr size = refuse d r
 
 -- `union`: on copies of d's arrays
-unfoldable pub unionOf : DSU → ℕ → ℕ → Answer
+unfoldable pub unionOf : DSU → ℕ → ℕ → SetsAnswer
 unionOf d x y = let u = unionIn (d .repr) (d .size) (d .n) x y in madeOf d (u .0) (u .1) (u .2)
 
 -- 0, 1, .., n - 1
@@ -124,5 +124,5 @@ unfoldable pub fresh : ℕ → DSU
 fresh n = record { repr = upTo 512; size = replicate 512 1; n = n }
 
 -- `new`: 23, with sets of no elements, for over 512
-unfoldable pub newOf : ℕ → Answer
+unfoldable pub newOf : ℕ → SetsAnswer
 newOf n = cond (ltb 512 n) (refuse (fresh 0) Element) (record { outcome = Done; sets = fresh n })

@@ -27,13 +27,13 @@ pub struct FindAnswer {
 }
 
 // What `new` and `union` answer, and the sets afterwards.
-pub enum Outcome {
+pub enum SetsOutcome {
     Done,
     Refused(StateRefusal),
 }
 
-pub struct Answer {
-    pub outcome: Outcome,
+pub struct SetsAnswer {
+    pub outcome: SetsOutcome,
     pub sets: DSU,
 }
 
@@ -163,7 +163,7 @@ pub fn join_in(repr: &mut [u32; 512], size: &mut [u32; 512], n: usize, x: usize,
 
 impl DSU {
     // n elements, each alone in its class. Where n is over 512 the sets that come back have no elements.
-    pub fn new(n: usize) -> Answer
+    pub fn new(n: usize) -> SetsAnswer
         ensures { λ r. ⌜ r ≡ newOf n ⌝ }
     {
         let mut repr = [0u32; 512];
@@ -174,13 +174,13 @@ impl DSU {
             i += 1;
         }
         if 512 < n {
-            return Answer {
-                outcome: Outcome::Refused(StateRefusal::Element),
+            return SetsAnswer {
+                outcome: SetsOutcome::Refused(StateRefusal::Element),
                 sets: DSU { repr, size, n: 0 },
             };
         }
-        Answer {
-            outcome: Outcome::Done,
+        SetsAnswer {
+            outcome: SetsOutcome::Done,
             sets: DSU { repr, size, n },
         }
     }
@@ -200,19 +200,19 @@ impl DSU {
     }
 
     // The classes of x and y made one. After a refusal the sets are as they were.
-    pub fn union(self, x: usize, y: usize) -> Answer
+    pub fn union(self, x: usize, y: usize) -> SetsAnswer
         ensures { λ r. ⌜ r ≡ unionOf self x y ⌝ }
     {
         let mut repr = self.repr;
         let mut size = self.size;
         let n = self.n;
         match union_in(&mut repr, &mut size, n, x, y) {
-            United::Refused(r) => Answer {
-                outcome: Outcome::Refused(r),
+            United::Refused(r) => SetsAnswer {
+                outcome: SetsOutcome::Refused(r),
                 sets: self,
             },
-            _ => Answer {
-                outcome: Outcome::Done,
+            _ => SetsAnswer {
+                outcome: SetsOutcome::Done,
                 sets: DSU { repr, size, n },
             },
         }

@@ -8,7 +8,7 @@ use lib.ListN.{length, take, set, length-set}
 use lib.Seq.{take-all, take-suc-set}
 use borrow.Author.Needs.{needs}
 use Rattle.dsu.specs.declared.DSU.{DSU}
-use Rattle.dsu.specs.declared.Answer.{Answer}
+use Rattle.dsu.specs.declared.SetsAnswer.{SetsAnswer}
 use Rattle.dsu.specs.Sets.{newOf}
 use Rattle.dsu.specs.inner.Lent.{setsOf}
 use Rattle.dsu_replay.specs.Values.{oneTo, chainTo, withOne}
@@ -41,8 +41,8 @@ chain-made l m i last f g few all =
 
 pub ruleset chainLaws = (none-counted, one-counted, chain-made, needs)
 
-pub one-changed : (n parent own : ℕ) (w : Answer) → w ≡ newOf 8 → _≡_ {A = DSU} (setsOf (set (w .sets .repr) 1 parent) (set (w .sets .size) 1 own) n) (withOne n parent own)
+pub one-changed : (n parent own : ℕ) (w : SetsAnswer) → w ≡ newOf 8 → _≡_ {A = DSU} (setsOf (set (w .sets .repr) 1 parent) (set (w .sets .size) 1 own) n) (withOne n parent own)
 unfolding newOf withOne
-one-changed n parent own w e = ap (λ (t : Answer). setsOf (set (t .sets .repr) 1 parent) (set (t .sets .size) 1 own) n) e
+one-changed n parent own w e = ap (λ (t : SetsAnswer). setsOf (set (t .sets .repr) 1 parent) (set (t .sets .size) 1 own) n) e
 
 pub ruleset oneLaws = (one-changed, needs)

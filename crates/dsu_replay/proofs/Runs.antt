@@ -14,14 +14,14 @@ use Rattle.refusal.specs.declared.StateRefusal.{StateRefusal}
 use Rattle.dsu.specs.declared.Found.the-variants.{Root}
 use Rattle.dsu.specs.declared.Found.the-variants as found
 use Rattle.dsu.specs.declared.FindAnswer.{FindAnswer}
-use Rattle.dsu.specs.declared.Outcome.the-variants.{Done}
-use Rattle.dsu.specs.declared.Outcome.the-variants as outcome
-use Rattle.dsu.specs.declared.Answer.{Answer}
+use Rattle.dsu.specs.declared.SetsOutcome.the-variants.{Done}
+use Rattle.dsu.specs.declared.SetsOutcome.the-variants as outcome
+use Rattle.dsu.specs.declared.SetsAnswer.{SetsAnswer}
 use Rattle.dsu.specs.Sets.{newOf, findOf, unionOf}
-use Rattle.dsu_replay.specs.declared.Run.{Run}
+use Rattle.dsu_replay.specs.declared.ReplayRun.{ReplayRun}
 use Rattle.dsu_replay.specs.declared.Line.{Line}
 use Rattle.dsu_replay.specs.declared.Line.the-variants.{Read}
-use Rattle.dsu_replay.specs.Replay.{digitOf, numberAt, lineOf, tallied, withSets, isRoot, isDone, afterFind, afterChange, hasAt, afterLine}
+use Rattle.dsu_replay.specs.Replay.{digitOf, threeDigits, lineRead, talliedRun, withSets, isRoot, isDone, afterFind, afterChange, hasAt, afterLine}
 
 module _ (b : ℕ) (x : Bool) (e : x ≡ isDigit b) where
   pub digit-none : not x ≡ true → _≡_ {A = ℕ} 0 (digitOf b)
@@ -39,70 +39,70 @@ module _ (b : ℕ) (x : Bool) (e : x ≡ isDigit b) where
     unfolding digitOf
     digit-read = f ∙ sym (rw (digit-some h))
 
-pub number-read : (s : List ℕ) (at x y z : ℕ) → x ≡ digitOf (getD s at 0) → y ≡ digitOf (getD s (at + 1) 0) → z ≡ digitOf (getD s (at + 2) 0) → 100 * x + 10 * y + z ≡ numberAt s at
-unfolding numberAt
+pub number-read : (s : List ℕ) (at x y z : ℕ) → x ≡ digitOf (getD s at 0) → y ≡ digitOf (getD s (at + 1) 0) → z ≡ digitOf (getD s (at + 2) 0) → 100 * x + 10 * y + z ≡ threeDigits s at
+unfolding threeDigits
 number-read s at x y z e f g = rw (e, f, g)
 
-pub line-read : (s : List ℕ) (a b : ℕ) → a ≡ numberAt s 2 → b ≡ numberAt s 6 → _≡_ {A = Line} (Read (getD s 0 0) a b) (lineOf s)
-unfolding lineOf
+pub line-read : (s : List ℕ) (a b : ℕ) → a ≡ threeDigits s 2 → b ≡ threeDigits s 6 → _≡_ {A = Line} (Read (getD s 0 0) a b) (lineRead s)
+unfolding lineRead
 line-read s a b e f = rw (e, f)
 
 pub ruleset lineLaws = (digit-none, digit-some, digit-small, digit-read, number-read, line-read, needs)
 
 -- one count grows
-module _ (s : Run) (same : Bool) (v : ℕ) where
-  pub one-agreed : v ≡ (s .agreed + 1) % 2 ^ 64 → same ≡ true → _≡_ {A = Run} (record { sets = s .sets; agreed = v; differed = s .differed }) (tallied s same)
-  unfolding tallied
+module _ (s : ReplayRun) (same : Bool) (v : ℕ) where
+  pub one-agreed : v ≡ (s .agreed + 1) % 2 ^ 64 → same ≡ true → _≡_ {A = ReplayRun} (record { sets = s .sets; agreed = v; differed = s .differed }) (talliedRun s same)
+  unfolding talliedRun
   one-agreed e t = rw (t, e)
 
-  pub one-differed : v ≡ (s .differed + 1) % 2 ^ 64 → same ≡ false → _≡_ {A = Run} (record { sets = s .sets; agreed = s .agreed; differed = v }) (tallied s same)
-  unfolding tallied
+  pub one-differed : v ≡ (s .differed + 1) % 2 ^ 64 → same ≡ false → _≡_ {A = ReplayRun} (record { sets = s .sets; agreed = s .agreed; differed = v }) (talliedRun s same)
+  unfolding talliedRun
   one-differed e t = rw (t, e)
 
 pub ruleset countLaws = (one-agreed, one-differed, needs)
 
 -- the answers of `find`
-module _ (s : Run) (f : FindAnswer) (b : ℕ) (v : Run) where
-  pub find-root : (r w : ℕ) → f .found ≡ Root r → w ≡ r → v ≡ tallied (withSets s (f .sets)) (eqb w b) → v ≡ afterFind s f b
+module _ (s : ReplayRun) (f : FindAnswer) (b : ℕ) (v : ReplayRun) where
+  pub find-root : (r w : ℕ) → f .found ≡ Root r → w ≡ r → v ≡ talliedRun (withSets s (f .sets)) (eqb w b) → v ≡ afterFind s f b
   unfolding afterFind
-  find-root r w e g h = h ∙ ap (λ (t : ℕ). tallied (withSets s (f .sets)) (eqb t b)) g ∙ sym (ap (λ t. tallied (withSets s (f .sets)) (isRoot b t)) e)
+  find-root r w e g h = h ∙ ap (λ (t : ℕ). talliedRun (withSets s (f .sets)) (eqb t b)) g ∙ sym (ap (λ t. talliedRun (withSets s (f .sets)) (isRoot b t)) e)
 
-  pub find-refused : (r : StateRefusal) → f .found ≡ found.Refused r → v ≡ tallied (withSets s (f .sets)) false → v ≡ afterFind s f b
+  pub find-refused : (r : StateRefusal) → f .found ≡ found.Refused r → v ≡ talliedRun (withSets s (f .sets)) false → v ≡ afterFind s f b
   unfolding afterFind
-  find-refused r e h = h ∙ sym (ap (λ t. tallied (withSets s (f .sets)) (isRoot b t)) e)
+  find-refused r e h = h ∙ sym (ap (λ t. talliedRun (withSets s (f .sets)) (isRoot b t)) e)
 
 -- those of `new` and `union`
-module _ (s : Run) (a : Answer) (v : Run) where
-  pub change-done : a .outcome ≡ Done → v ≡ tallied (withSets s (a .sets)) true → v ≡ afterChange s a
+module _ (s : ReplayRun) (a : SetsAnswer) (v : ReplayRun) where
+  pub change-done : a .outcome ≡ Done → v ≡ talliedRun (withSets s (a .sets)) true → v ≡ afterChange s a
   unfolding afterChange
-  change-done e h = h ∙ sym (ap (λ t. tallied (withSets s (a .sets)) (isDone t)) e)
+  change-done e h = h ∙ sym (ap (λ t. talliedRun (withSets s (a .sets)) (isDone t)) e)
 
-  pub change-refused : (r : StateRefusal) → a .outcome ≡ outcome.Refused r → v ≡ tallied (withSets s (a .sets)) false → v ≡ afterChange s a
+  pub change-refused : (r : StateRefusal) → a .outcome ≡ outcome.Refused r → v ≡ talliedRun (withSets s (a .sets)) false → v ≡ afterChange s a
   unfolding afterChange
-  change-refused r e h = h ∙ sym (ap (λ t. tallied (withSets s (a .sets)) (isDone t)) e)
+  change-refused r e h = h ∙ sym (ap (λ t. talliedRun (withSets s (a .sets)) (isDone t)) e)
 
 pub ruleset answerLaws = (find-root, find-refused, change-done, change-refused, needs)
 
 -- a word compared
-module _ (s : Run) (x : List ℕ) (a b : ℕ) (v : Run) where
-  pub word-in : (w : ℕ) → a < 512 → w ≡ getD x a 0 → v ≡ tallied s (eqb w b) → v ≡ tallied s (hasAt x a b)
+module _ (s : ReplayRun) (x : List ℕ) (a b : ℕ) (v : ReplayRun) where
+  pub word-in : (w : ℕ) → a < 512 → w ≡ getD x a 0 → v ≡ talliedRun s (eqb w b) → v ≡ talliedRun s (hasAt x a b)
   unfolding hasAt
   word-in w h e g = g ∙ rw (lt-ltb a 512 h, e)
 
-  pub word-out : 512 ≤ a → v ≡ tallied s false → v ≡ tallied s (hasAt x a b)
+  pub word-out : 512 ≤ a → v ≡ talliedRun s false → v ≡ talliedRun s (hasAt x a b)
   unfolding hasAt
   word-out h g = g ∙ rw (le-ltb a 512 h)
 
 pub ruleset wordLaws = (word-in, word-out, needs)
 
 -- the run after a line, by its letter
-module _ (s : Run) (kind a b : ℕ) (v : Run) where
-  pub line-new : (w : Answer) → kind ≡ 110 → w ≡ newOf a → v ≡ afterChange s w → v ≡ afterLine s kind a b
+module _ (s : ReplayRun) (kind a b : ℕ) (v : ReplayRun) where
+  pub line-new : (w : SetsAnswer) → kind ≡ 110 → w ≡ newOf a → v ≡ afterChange s w → v ≡ afterLine s kind a b
   unfolding afterLine
   line-new w k e h = h ∙ rw (eq-eqb kind 110 k, e)
 
   module _ (not-n : kind ≡ 110 → ⊥) where
-    pub line-union : (w : Answer) → kind ≡ 117 → w ≡ unionOf (s .sets) a b → v ≡ afterChange s w → v ≡ afterLine s kind a b
+    pub line-union : (w : SetsAnswer) → kind ≡ 117 → w ≡ unionOf (s .sets) a b → v ≡ afterChange s w → v ≡ afterLine s kind a b
     unfolding afterLine
     line-union w k e h = h ∙ rw (ne-eqb kind 110 not-n, eq-eqb kind 117 k, e)
 
@@ -112,16 +112,16 @@ module _ (s : Run) (kind a b : ℕ) (v : Run) where
       line-find w k e h = h ∙ rw (ne-eqb kind 110 not-n, ne-eqb kind 117 not-u, eq-eqb kind 102 k, e)
 
       module _ (not-f : kind ≡ 102 → ⊥) where
-        pub line-parent : kind ≡ 114 → v ≡ tallied s (hasAt (s .sets .repr) a b) → v ≡ afterLine s kind a b
+        pub line-parent : kind ≡ 114 → v ≡ talliedRun s (hasAt (s .sets .repr) a b) → v ≡ afterLine s kind a b
         unfolding afterLine
         line-parent k h = h ∙ rw (ne-eqb kind 110 not-n, ne-eqb kind 117 not-u, ne-eqb kind 102 not-f, eq-eqb kind 114 k)
 
         module _ (not-r : kind ≡ 114 → ⊥) where
-          pub line-size : kind ≡ 115 → v ≡ tallied s (hasAt (s .sets .size) a b) → v ≡ afterLine s kind a b
+          pub line-size : kind ≡ 115 → v ≡ talliedRun s (hasAt (s .sets .size) a b) → v ≡ afterLine s kind a b
           unfolding afterLine
           line-size k h = h ∙ rw (ne-eqb kind 110 not-n, ne-eqb kind 117 not-u, ne-eqb kind 102 not-f, ne-eqb kind 114 not-r, eq-eqb kind 115 k)
 
-          pub line-other : (kind ≡ 115 → ⊥) → v ≡ tallied s false → v ≡ afterLine s kind a b
+          pub line-other : (kind ≡ 115 → ⊥) → v ≡ talliedRun s false → v ≡ afterLine s kind a b
           unfolding afterLine
           line-other not-s h =
               h ∙ rw (ne-eqb kind 110 not-n, ne-eqb kind 117 not-u, ne-eqb kind 102 not-f, ne-eqb kind 114 not-r, ne-eqb kind 115 not-s)

@@ -3,15 +3,15 @@
 // The list on standard input was made by `compare`, binary `dsu_runs`, from the original dsu.rs: random runs, in which
 // a line of ten bytes is a letter and two numbers of three digits. n a: fresh sets of a. f a b: `find` of a answered b.
 // u a b: `union` of a and b. After a run, r a b: the parent of a is b; s a b: the size at a is b.
-use dsu::Answer;
 use dsu::DSU;
 use dsu::FindAnswer;
 use dsu::Found;
-use dsu::Outcome;
+use dsu::SetsAnswer;
+use dsu::SetsOutcome;
 ghost use Prim.Native.Nat.{_≤_};
 ghost use mathlib.Core.Path.{_≡_};
 ghost use Rattle.dsu_replay.specs.Values.{chainTo, withOne};
-ghost use Rattle.dsu_replay.specs.Replay.{digitOf, numberAt, lineOf, Readable, tallied, afterFind, afterChange, hasAt, afterLine};
+ghost use Rattle.dsu_replay.specs.Replay.{digitOf, threeDigits, lineRead, Readable, talliedRun, afterFind, afterChange, hasAt, afterLine};
 
 fn wide(x: u32) -> usize
     ensures { λ r. ⌜ r ≡ x ⌝ }
@@ -67,14 +67,14 @@ fn say_found(f: FindAnswer) {
     io::write_all(1, b"\n");
 }
 
-fn say_outcome(a: Answer) {
+fn say_outcome(a: SetsAnswer) {
     let outcome = a.outcome;
     let d = a.sets;
     match outcome {
-        Outcome::Done => {
+        SetsOutcome::Done => {
             io::write_all(1, b"done");
         }
-        Outcome::Refused(r) => {
+        SetsOutcome::Refused(r) => {
             io::write_all(1, b"refused ");
             io::print_decimal(1, refusal::state_number(r) as u64);
         }
@@ -135,14 +135,14 @@ fn digit(b: u8) -> usize
 // The number of the three digits from a place on.
 fn number(line: &[u8; 10], at: usize) -> usize
     requires { ⌜ at ≤ 7 ⌝ }
-    ensures { λ r. ⌜ r ≡ numberAt (now (line .entry)) at ⌝ }
+    ensures { λ r. ⌜ r ≡ threeDigits (now (line .entry)) at ⌝ }
 {
     100 * digit(line[at]) + 10 * digit(line[at + 1]) + digit(line[at + 2])
 }
 
 // The line that ten bytes are.
 fn line_of(line: &[u8; 10]) -> Line
-    ensures { λ r. ⌜ r ≡ lineOf (now (line .entry)) ⌝ }
+    ensures { λ r. ⌜ r ≡ lineRead (now (line .entry)) ⌝ }
 {
     let a = number(line, 2);
     let b = number(line, 6);
@@ -166,14 +166,14 @@ fn read_line() -> Line
 }
 
 // The sets so far, and how many answers were as in the list, or not.
-struct Run {
+struct ReplayRun {
     sets: DSU,
     agreed: u64,
     differed: u64,
 }
 
-fn counted(mut s: Run, same: bool) -> Run
-    ensures { λ r. ⌜ r ≡ tallied s same ⌝ }
+fn counted(mut s: ReplayRun, same: bool) -> ReplayRun
+    ensures { λ r. ⌜ r ≡ talliedRun s same ⌝ }
 {
     if same {
         s.agreed = std::num::wrapping_add_u64(s.agreed, 1);
@@ -183,7 +183,7 @@ fn counted(mut s: Run, same: bool) -> Run
     s
 }
 
-fn after_find(mut s: Run, f: FindAnswer, b: usize) -> Run
+fn after_find(mut s: ReplayRun, f: FindAnswer, b: usize) -> ReplayRun
     ensures { λ r. ⌜ r ≡ afterFind s f b ⌝ }
 {
     let sets = f.sets;
@@ -195,20 +195,20 @@ fn after_find(mut s: Run, f: FindAnswer, b: usize) -> Run
     }
 }
 
-fn after_change(mut s: Run, a: Answer) -> Run
+fn after_change(mut s: ReplayRun, a: SetsAnswer) -> ReplayRun
     ensures { λ r. ⌜ r ≡ afterChange s a ⌝ }
 {
     let sets = a.sets;
     s.sets = sets;
     let outcome = a.outcome;
     match outcome {
-        Outcome::Done => counted(s, true),
-        Outcome::Refused(_) => counted(s, false),
+        SetsOutcome::Done => counted(s, true),
+        SetsOutcome::Refused(_) => counted(s, false),
     }
 }
 
-fn has(s: Run, x: [u32; 512], a: usize, b: usize) -> Run
-    ensures { λ r. ⌜ r ≡ tallied s (hasAt x a b) ⌝ }
+fn has(s: ReplayRun, x: [u32; 512], a: usize, b: usize) -> ReplayRun
+    ensures { λ r. ⌜ r ≡ talliedRun s (hasAt x a b) ⌝ }
 {
     if a < 512 {
         let v = x[a];
@@ -217,7 +217,7 @@ fn has(s: Run, x: [u32; 512], a: usize, b: usize) -> Run
     counted(s, false)
 }
 
-fn turn(s: Run, kind: u8, a: usize, b: usize) -> Run
+fn turn(s: ReplayRun, kind: u8, a: usize, b: usize) -> ReplayRun
     ensures { λ r. ⌜ r ≡ afterLine s kind a b ⌝ }
 {
     let d = s.sets;
@@ -245,7 +245,7 @@ fn turn(s: Run, kind: u8, a: usize, b: usize) -> Run
 fn replay_list() {
     let fresh = DSU::new(0);
     let d = fresh.sets;
-    let mut s = Run {
+    let mut s = ReplayRun {
         sets: d,
         agreed: 0,
         differed: 0,

@@ -11,7 +11,7 @@ use Rattle.automata.specs.Automaton.{Transition}
 use Rattle.ranges.specs.declared.Common.{Common}
 use Rattle.ranges.specs.declared.Common.the-variants.{Range, Nothing}
 use Rattle.ranges.specs.Span.{Span, intersectRanges, spanOf}
-use Rattle.equality.specs.declared.walk.First.the-variants as first
+use Rattle.equality.specs.declared.walk.FirstCommon.the-variants as first
 use Rattle.equality.specs.inner.Code.{FirstOf}
 
 -- the answer of `intersect_ranges`

@@ -13,15 +13,15 @@ use Rattle.automata.proofs.Records.{part-record}
 use Rattle.sheets.specs.inner.Accepted.{Accepted}
 use Rattle.sheets.specs.Sheet.{stateCount, read}
 use Rattle.sheets.proofs.Meaning.{read-well}
-use Rattle.equality.specs.declared.walk.First.{First}
-use Rattle.equality.specs.declared.walk.First.the-variants.{Symbol, Nothing}
+use Rattle.equality.specs.declared.walk.FirstCommon.{FirstCommon}
+use Rattle.equality.specs.declared.walk.FirstCommon.the-variants.{Symbol, Nothing}
 use Rattle.equality.specs.declared.walk.Comparison.the-variants.{Alike, Differ}
 use Rattle.automata.specs.Successors.{successor}
 use Rattle.pairs.specs.inner.Pairs.{Pairs, classes, oneAt, twoAt, PairFits, PairJoined}
 use Rattle.pairs.proofs.Laws.{pair-fits}
 use Rattle.equality.specs.inner.Walking.{StepFits, StepPut}
 use Rattle.determinizations.specs.inner.Sheets.{twoOf, DeterministicSheets}
-use Rattle.equality.specs.inner.Code.{Common, FirstOf, ComparableRuns, RunsCompared}
+use Rattle.equality.specs.inner.Code.{CommonSymbol, FirstOf, ComparableRecords, SuccessorsCompared}
 use Rattle.equality.proofs.Forced.{Total, total-of}
 use Rattle.equality.proofs.WalkedPairs.{room, one-more}
 use Rattle.determinizations.proofs.Runs.{In, RunOf, up-to, run-of}
@@ -39,7 +39,7 @@ Done a b lower upper w i l g = (x : ℕ) → lower ≤ x → x ≤ upper → In 
 
 -- the records before j of the first run are done, and those before k of the second
 pub record RunsInvariant (a b : List ℕ) (lower upper : ℕ) (ra rb : List ℕ) (n1 i j k : ℕ) (w : Pairs) (l : List ℕ) : Type 0 where
-  pub runs : ComparableRuns a b lower upper ra rb n1 i w l
+  pub runs : ComparableRecords a b lower upper ra rb n1 i w l
   pub done-a : (g : ℕ) → g < j → Done a b lower upper w i ra g
   pub done-b : (g : ℕ) → g < k → Done a b lower upper w i rb g
 
@@ -48,10 +48,10 @@ pub record RecordsCompared (a b : List ℕ) (lower upper : ℕ) (ra rb : List �
   pub before : RunsInvariant a b lower upper ra rb n1 i j k w l
   pub shared : (x : ℕ) → lower ≤ x → x ≤ upper → In ra j x → In rb k x → Joined a b w i x
 
-pub runs-begin : (a b : List ℕ) (lower upper : ℕ) (ra rb : List ℕ) (n1 i : ℕ) (w : Pairs) (l : List ℕ) → ComparableRuns a b lower upper ra rb n1 i w l → RunsInvariant a b lower upper ra rb n1 i 0 0 w l
+pub runs-begin : (a b : List ℕ) (lower upper : ℕ) (ra rb : List ℕ) (n1 i : ℕ) (w : Pairs) (l : List ℕ) → ComparableRecords a b lower upper ra rb n1 i w l → RunsInvariant a b lower upper ra rb n1 i 0 0 w l
 runs-begin a b lower upper ra rb n1 i w l r = record { runs = r; done-a = λ g h. absurd (omega arith); done-b = λ g h. absurd (omega arith) }
 
-module _ (a b : List ℕ) (lower upper : ℕ) (ra rb : List ℕ) (n1 i : ℕ) (w : Pairs) (l : List ℕ) (runs : ComparableRuns a b lower upper ra rb n1 i w l) where
+module _ (a b : List ℕ) (lower upper : ℕ) (ra rb : List ℕ) (n1 i : ℕ) (w : Pairs) (l : List ℕ) (runs : ComparableRecords a b lower upper ra rb n1 i w l) where
   run-a : RunOf (read a) lower upper (oneAt w i) ra
   run-a = run-of lower upper (read a) (runs .sheets .one) (read-well a (runs .sheets .first)) (oneAt w i) (runs .walked .in-one i (runs .i-in)) ra (runs .run-a)
 
@@ -59,7 +59,7 @@ module _ (a b : List ℕ) (lower upper : ℕ) (ra rb : List ℕ) (n1 i : ℕ) (w
   run-b = run-of lower upper (read b) (runs .sheets .two) (read-well b (runs .sheets .second)) (twoAt w i) (runs .walked .in-two i (runs .i-in)) rb (runs .run-b)
 
   -- all symbols are done
-  all-done : ((x : ℕ) → lower ≤ x → x ≤ upper → Joined a b w i x) → RunsCompared (twoOf a b lower upper) i w l Alike
+  all-done : ((x : ℕ) → lower ≤ x → x ≤ upper → Joined a b w i x) → SuccessorsCompared (twoOf a b lower upper) i w l Alike
   all-done h = (runs .walked, runs .i-in, below-more (λ (g : ℕ). (x : ℕ) → (lower ≤ x) × (x ≤ upper) → Joined a b w g x) i (runs .closed) (λ x s. h x (s .0) (s .1)))
 
 -- records j and k are compared: the one that ends first is done, since a record of the other run that holds one of its symbols was compared
@@ -86,7 +86,7 @@ module _ (a b : List ℕ) (lower upper : ℕ) (ra rb : List ℕ) (n1 i j k : ℕ
       }
 
 module _ (a b : List ℕ) (lower upper : ℕ) (ra rb : List ℕ) (n1 i j k : ℕ) (w : Pairs) (l : List ℕ) (u : RunsInvariant a b lower upper ra rb n1 i j k w l) where
-  runs : ComparableRuns a b lower upper ra rb n1 i w l
+  runs : ComparableRecords a b lower upper ra rb n1 i w l
   runs = u .runs
 
   of-a : RunOf (read a) lower upper (oneAt w i) ra
@@ -109,10 +109,10 @@ module _ (a b : List ℕ) (lower upper : ℕ) (ra rb : List ℕ) (n1 i j k : ℕ
   to-b g h = of-b .inside g (b-in g h)
 
   -- one of the runs is through
-  pub runs-end-a : length ra / 5 ≤ j → RunsCompared (twoOf a b lower upper) i w l Alike
+  pub runs-end-a : length ra / 5 ≤ j → SuccessorsCompared (twoOf a b lower upper) i w l Alike
   runs-end-a h = all-done a b lower upper ra rb n1 i w l runs (λ x above below. let f = of-a .full x above below in u .done-a (f .0) (omega (arith, of-a .whole, f .1)) x above below (f .2))
 
-  pub runs-end-b : length rb / 5 ≤ k → RunsCompared (twoOf a b lower upper) i w l Alike
+  pub runs-end-b : length rb / 5 ≤ k → SuccessorsCompared (twoOf a b lower upper) i w l Alike
   runs-end-b h = all-done a b lower upper ra rb n1 i w l runs (λ x above below. let f = of-b .full x above below in u .done-b (f .0) (omega (arith, of-b .whole, f .1)) x above below (f .2))
 
   pub runs-accept-a : j < length ra / 5 → Accepted a × (getD ra (5 * j + 4) 0 < stateCount a)
@@ -122,7 +122,7 @@ module _ (a b : List ℕ) (lower upper : ℕ) (ra rb : List ℕ) (n1 i j k : ℕ
   runs-accept-b h = (runs .sheets .second, to-b k (omega arith))
 
   -- the answer of `first_common` on records j and k
-  module _ (r : First) (is-r : FirstOf (recordAt (take (5 * j + 5 - 5 * j) (drop (5 * j) ra)) 0) (recordAt (take (5 * k + 5 - 5 * k) (drop (5 * k) rb)) 0) lower upper r) where
+  module _ (r : FirstCommon) (is-r : FirstOf (recordAt (take (5 * j + 5 - 5 * j) (drop (5 * j) ra)) 0) (recordAt (take (5 * k + 5 - 5 * k) (drop (5 * k) rb)) 0) lower upper r) where
     here : FirstOf (recordAt ra (5 * j)) (recordAt rb (5 * k)) lower upper r
     here = subst (λ (d : Transition). FirstOf d (recordAt rb (5 * k)) lower upper r) (part-record ra (5 * j)) (subst (λ (e : Transition). FirstOf (recordAt (take (5 * j + 5 - 5 * j) (drop (5 * j) ra)) 0) e lower upper r) (part-record rb (5 * k)) is-r)
 
@@ -137,7 +137,7 @@ module _ (a b : List ℕ) (lower upper : ℕ) (ra rb : List ℕ) (n1 i j k : ℕ
 
     -- a common symbol x
     module _ (x : ℕ) (e : r ≡ Symbol x) (j-below : j < length ra / 5) (k-below : k < length rb / 5) where
-      common : Common (recordAt ra (5 * j)) (recordAt rb (5 * k)) lower upper x
+      common : CommonSymbol (recordAt ra (5 * j)) (recordAt rb (5 * k)) lower upper x
       common = subst (FirstOf (recordAt ra (5 * j)) (recordAt rb (5 * k)) lower upper) e here
 
       abbrev to-p : ℕ
@@ -182,7 +182,7 @@ module _ (a b : List ℕ) (lower upper : ℕ) (ra rb : List ℕ) (n1 i j k : ℕ
       }
 
       module _ (m n : ℕ) (is-m : m ≡ acceptOf (read a) to-p) (is-n : n ≡ acceptOf (read b) to-q) where
-        pub runs-differ : (m ≡ n → ⊥) → RunsCompared (twoOf a b lower upper) i w l (Differ x)
+        pub runs-differ : (m ≡ n → ⊥) → SuccessorsCompared (twoOf a b lower upper) i w l (Differ x)
         runs-differ d = (runs .walked, runs .i-in, common .above, common .below, rw (x-p, x-q) (λ s. d (is-m ∙ s ∙ sym is-n)))
 
         pub runs-joined : m ≡ n → (v : Pairs) → PairJoined n1 to-p to-q w v → (l′ : List ℕ) → StepPut l l′ (w .made) (v .made) i x → RecordsCompared a b lower upper ra rb n1 i j k v l′

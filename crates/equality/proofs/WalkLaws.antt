@@ -12,7 +12,7 @@ use Rattle.automata.specs.Successors.{stateAfter}
 use Rattle.sheets.specs.inner.Runs.{startsOf, RunAt}
 use Rattle.sheets.specs.Sheet.{stateCount, read}
 use Rattle.sheets.proofs.Runs.{run-at, starts-indexed}
-use Rattle.dsu.specs.declared.Answer.{Answer}
+use Rattle.dsu.specs.declared.SetsAnswer.{SetsAnswer}
 use Rattle.dsu.specs.Sets.{newOf}
 use Rattle.pairs.specs.inner.Pairs.{Pairs, oneAt, twoAt, NoPairs, PairFits, PairJoined}
 use Rattle.pairs.proofs.Laws.{no-pairs, pairs-few, pair-fits}
@@ -23,7 +23,7 @@ use Rattle.determinizations.specs.Two.{totalSize}
 use Rattle.equality.specs.inner.Walking.{trailOf, WalkedPairs, SuccessorsJoined, Chained, Spelled}
 use Rattle.equality.specs.Verdict.{Decided}
 use Rattle.determinizations.specs.inner.Sheets.{twoOf}
-use Rattle.equality.specs.inner.Code.{ComparableRuns, RunsCompared, WalkInput, StartsAgree}
+use Rattle.equality.specs.inner.Code.{ComparableRecords, SuccessorsCompared, WalkInput, StartsAgree}
 use Rattle.equality.proofs.WalkedPairs.{begun, ended, short}
 use Rattle.equality.proofs.Spelling.{chained, differs}
 use Rattle.equality.proofs.RunLaws.{total}
@@ -56,7 +56,7 @@ pub record WalkInvariant (a b starts-a starts-b : List ℕ) (lower upper n1 head
   pub closed : SuccessorsJoined (twoOf a b lower upper) w head
 
 -- the starts joined
-module _ (a b starts-a starts-b : List ℕ) (lower upper : ℕ) (o : List ℕ) (s : StartsAgree a b starts-a starts-b lower upper o) (f : Answer) (is-f : f ≡ newOf (getD a 2 0 + getD b 2 0)) (queue : List ℕ) (long : length queue ≡ 1024) where
+module _ (a b starts-a starts-b : List ℕ) (lower upper : ℕ) (o : List ℕ) (s : StartsAgree a b starts-a starts-b lower upper o) (f : SetsAnswer) (is-f : f ≡ newOf (getD a 2 0 + getD b 2 0)) (queue : List ℕ) (long : length queue ≡ 1024) where
   abbrev fresh : Pairs
   fresh = record { sets = f .sets; queue = queue; made = 0 }
 
@@ -85,7 +85,7 @@ module _ (a b starts-a starts-b : List ℕ) (lower upper n1 head : ℕ) (w : Pai
   pub walk-run-b : head < w .made → RunAt b starts-b (twoAt w head)
   walk-run-b h = run-at b (g .start .input .sheets .second) starts-b (twoAt w head) (g .start .index-b) (g .walked .in-two head h)
 
-  pub walk-runs : head < w .made → (ra rb : List ℕ) → ra ≡ writeRecords (leaving (read a) (oneAt w head)) → rb ≡ writeRecords (leaving (read b) (twoAt w head)) → ComparableRuns a b lower upper ra rb n1 head w l
+  pub walk-runs : head < w .made → (ra rb : List ℕ) → ra ≡ writeRecords (leaving (read a) (oneAt w head)) → rb ≡ writeRecords (leaving (read b) (twoAt w head)) → ComparableRecords a b lower upper ra rb n1 head w l
   walk-runs h ra rb ea eb = record { sheets = g .start .input .sheets; is-n1 = g .is-n1; run-a = ea; run-b = eb; walked = g .walked; i-in = h; closed = g .closed }
 
   -- all pairs are compared
@@ -94,15 +94,15 @@ module _ (a b starts-a starts-b : List ℕ) (lower upper n1 head : ℕ) (w : Pai
   walk-same h o₀ kept = (ended (twoOf a b lower upper) (total a b lower upper (g .start .input .sheets)) w l (g .walked) (subst (SuccessorsJoined (twoOf a b lower upper) w) (omega (arith, g .so-far)) (g .closed)), kept)
 
   -- a pair compared
-  module _ (r : Pairs) (l′ : List ℕ) (c : Comparison) (compared : RunsCompared (twoOf a b lower upper) head r l′ c) where
+  module _ (r : Pairs) (l′ : List ℕ) (c : Comparison) (compared : SuccessorsCompared (twoOf a b lower upper) head r l′ c) where
     pub walk-next : c ≡ Alike → WalkInvariant a b starts-a starts-b lower upper n1 (head + 1) r l′ o
     walk-next e =
-        let v : RunsCompared (twoOf a b lower upper) head r l′ Alike = subst (RunsCompared (twoOf a b lower upper) head r l′) e compared in
+        let v : SuccessorsCompared (twoOf a b lower upper) head r l′ Alike = subst (SuccessorsCompared (twoOf a b lower upper) head r l′) e compared in
         record { start = g .start; is-n1 = g .is-n1; walked = v .0; so-far = omega (arith, v .1); closed = v .2 }
 
     module _ (x : ℕ) (e : c ≡ Differ x) where
-      v : RunsCompared (twoOf a b lower upper) head r l′ (Differ x)
-      v = subst (RunsCompared (twoOf a b lower upper) head r l′) e compared
+      v : SuccessorsCompared (twoOf a b lower upper) head r l′ (Differ x)
+      v = subst (SuccessorsCompared (twoOf a b lower upper) head r l′) e compared
 
       near : trailOf l′ .depth head + 1 + 2 ≤ totalSize (twoOf a b lower upper)
       near = short (twoOf a b lower upper) (total a b lower upper (g .start .input .sheets)) r l′ (v .0) head x (v .1) (v .2, v .3) (v .4)

@@ -10,13 +10,14 @@ ghost use Rattle.automata.specs.inner.Records.{recordAt};
 ghost use Rattle.pairs.specs.inner.Pairs.{pairsOf};
 ghost use Rattle.equality.specs.inner.Walking.{trailOf, StepFits, StepPut, Chained, Spelled};
 ghost use Rattle.determinizations.specs.inner.Sheets.{twoOf};
-ghost use Rattle.equality.specs.inner.Code.{FirstOf, ComparableRuns, RunsCompared, WalkInput, StartsAgree};
+ghost use Rattle.equality.specs.inner.Code.{FirstOf, ComparableRecords, SuccessorsCompared, WalkInput, StartsAgree};
 ghost use Rattle.equality.specs.Verdict.{Decided};
 use crate::Verdict;
 use dsu::DSU;
+use ranges::Ends;
 
 // The first symbol that two records share, if there is one.
-pub enum First {
+pub enum FirstCommon {
     Symbol(u32),
     Nothing,
 }
@@ -33,14 +34,8 @@ pub struct Compared {
     pub comparison: Comparison,
 }
 
-// The least and the greatest symbol.
-pub struct Ends {
-    pub lower: u32,
-    pub upper: u32,
-}
-
 // How many states both automata have, and the first; how many pairs stand in the queue, and how many of them are compared.
-pub struct Counts {
+pub struct WalkCounts {
     pub n: usize,
     pub n1: usize,
     pub made: usize,
@@ -48,16 +43,16 @@ pub struct Counts {
 }
 
 // The first symbol from lower to upper that the records d and e share.
-fn first_common(d: &[u32], e: &[u32], lower: u32, upper: u32) -> First
+fn first_common(d: &[u32], e: &[u32], lower: u32, upper: u32) -> FirstCommon
     requires { ⌜ (length (now d) ≡ 5) × (length (now e) ≡ 5) ⌝ }
     ensures { λ r. ⌜ FirstOf (recordAt (now (d .entry)) 0) (recordAt (now (e .entry)) 0) lower upper r ⌝ }
 {
     match ranges::intersect_ranges(d[2], d[3], e[2], e[3]) {
-        ranges::Common::Nothing => First::Nothing,
+        ranges::Common::Nothing => FirstCommon::Nothing,
         ranges::Common::Range(first, last) => {
             match ranges::intersect_ranges(first, last, lower, upper) {
-                ranges::Common::Nothing => First::Nothing,
-                ranges::Common::Range(x, _) => First::Symbol(x),
+                ranges::Common::Nothing => FirstCommon::Nothing,
+                ranges::Common::Range(x, _) => FirstCommon::Symbol(x),
             }
         }
     }
@@ -107,10 +102,10 @@ fn compare_runs(
     size: &mut [u32; 512],
     queue: &mut [u32; 1024],
     trail: &mut [u32; 1536],
-    counts: Counts,
+    counts: WalkCounts,
 ) -> Compared
-    requires { ⌜ ComparableRuns (now a) (now b) (ends .lower) (ends .upper) (now ra) (now rb) (counts .n1) (counts .compared) (pairsOf (now repr) (now size) (now queue) (counts .n) (counts .made)) (now trail) ⌝ }
-    ensures { λ r. ⌜ RunsCompared (twoOf (now (a .entry)) (now (b .entry)) (ends .lower) (ends .upper)) (counts .compared) (pairsOf (now (repr .exit)) (now (size .exit)) (now (queue .exit)) (counts .n) (r .made)) (now (trail .exit)) (r .comparison) ⌝ }
+    requires { ⌜ ComparableRecords (now a) (now b) (ends .lower) (ends .upper) (now ra) (now rb) (counts .n1) (counts .compared) (pairsOf (now repr) (now size) (now queue) (counts .n) (counts .made)) (now trail) ⌝ }
+    ensures { λ r. ⌜ SuccessorsCompared (twoOf (now (a .entry)) (now (b .entry)) (ends .lower) (ends .upper)) (counts .compared) (pairsOf (now (repr .exit)) (now (size .exit)) (now (queue .exit)) (counts .n) (r .made)) (now (trail .exit)) (r .comparison) ⌝ }
 {
     let ca = ra.len() / 5;
     let cb = rb.len() / 5;
@@ -134,8 +129,8 @@ fn compare_runs(
                 ends.lower,
                 ends.upper,
             ) {
-                First::Nothing => {}
-                First::Symbol(x) => {
+                FirstCommon::Nothing => {}
+                FirstCommon::Symbol(x) => {
                     let p = ra[at_a + 4];
                     let q = rb[at_b + 4];
                     if sheets::accept_word(a, p) != sheets::accept_word(b, q) {
@@ -185,7 +180,7 @@ fn walk_pairs(
         let q = queue[2 * head + 1];
         let ra = sheets::run(a, starts_a, p);
         let rb = sheets::run(b, starts_b, q);
-        let counts = Counts {
+        let counts = WalkCounts {
             n,
             n1,
             made,

@@ -12,7 +12,7 @@ use Rattle.lists.proofs.Members.{map-in, map-out}
 use Rattle.automata.specs.Automaton.{Transition, Automaton, InBounds, leaving}
 use Rattle.dsu.proofs.Generated.{generated-into}
 use Rattle.pairs.specs.inner.Pairs.{Pairs, classes, oneAt, twoAt, ValidPairs}
-use Rattle.equivalence.specs.Triggers.{SameTrigger, First, TriggersWithin}
+use Rattle.equivalence.specs.Triggers.{SameTrigger, FirstOfTrigger, TriggersWithin}
 use Rattle.equivalence.specs.Equivalent.{ReachedByTriggers, start, step, Alike}
 use Rattle.equivalence.proofs.Triggers.{trigger-turn, trigger-chain, first-target, first-exists, within-self, within-chain}
 use Rattle.equivalence.proofs.Exact.{reached-in}
@@ -22,7 +22,7 @@ pub record Bisimilar (accept : ℕ → ℕ) (out : ℕ → List Transition) (f :
   pub accepts : accept x ≡ accept y
   pub there : TriggersWithin (out x) (out y)
   pub back : TriggersWithin (out y) (out x)
-  pub joined : (d e : Transition) → First (out x) d → First (out y) e → SameTrigger d e → f (d .to) ≡ f (e .to)
+  pub joined : (d e : Transition) → FirstOfTrigger (out x) d → FirstOfTrigger (out y) e → SameTrigger d e → f (d .to) ≡ f (e .to)
 
 module _ (accept : ℕ → ℕ) (out : ℕ → List Transition) (f : ℕ → ℕ) where
   bisimilar-self : (x : ℕ) → Bisimilar accept out f x x
@@ -93,7 +93,7 @@ module _ (A B : Automaton) where
   un-shifted-back : {ds es : List Transition} → TriggersWithin (map shifted es) ds → TriggersWithin es ds
   un-shifted-back {ds} {es} w e m = let (x, n, s) = w (shifted e) (map-in shifted m) in (x, n, record { kind = s .kind; first = s .first; last = s .last })
 
-  first-shifted : {es : List Transition} {e : Transition} → First es e → First (map shifted es) (shifted e)
+  first-shifted : {es : List Transition} {e : Transition} → FirstOfTrigger es e → FirstOfTrigger (map shifted es) (shifted e)
   first-shifted {es} {e} f = record {
     one = map-in shifted (f .one);
     lowest = λ d m s.
@@ -102,22 +102,22 @@ module _ (A B : Automaton) where
         rw q (omega (arith, f .lowest x n (record { kind = t .kind; first = t .first; last = t .last })));
   }
 
-  shifted-first : {es : List Transition} (d : Transition) → First (map shifted es) d → (e : Transition) × First es e × (d ≡ shifted e)
+  shifted-first : {es : List Transition} (d : Transition) → FirstOfTrigger (map shifted es) d → (e : Transition) × FirstOfTrigger es e × (d ≡ shifted e)
   shifted-first {es} d f =
       let (e, n, q) = map-out shifted es d (f .one) in
-      let g : First (map shifted es) (shifted e) = rw q at f in
+      let g : FirstOfTrigger (map shifted es) (shifted e) = rw q at f in
       (e, record { one = n; lowest = λ x m s. omega (arith, g .lowest (shifted x) (map-in shifted m) (record { kind = s .kind; first = s .first; last = s .last })) }, q)
 
   -- a state of A and one of B that agree
-  agree : (f : ℕ → ℕ) (p q : ℕ) → p < A .size → Alike A B p q → ((d e : Transition) → First (leaving A p) d → First (leaving B q) e → SameTrigger d e → f (d .to) ≡ f (A .size + e .to)) → Bisimilar acceptIn outOf f p (A .size + q)
+  agree : (f : ℕ → ℕ) (p q : ℕ) → p < A .size → Alike A B p q → ((d e : Transition) → FirstOfTrigger (leaving A p) d → FirstOfTrigger (leaving B q) e → SameTrigger d e → f (d .to) ≡ f (A .size + e .to)) → Bisimilar acceptIn outOf f p (A .size + q)
   agree f p q h a j = record {
     accepts = accept-left p h ∙ a .accept ∙ sym (accept-right q);
     there = subst (λ (l : List Transition). TriggersWithin l (outOf (A .size + q))) (sym (out-left p h)) (subst (TriggersWithin (leaving A p)) (sym (out-right q)) (to-shifted (a .there)));
     back = subst (λ (l : List Transition). TriggersWithin l (outOf p)) (sym (out-right q)) (subst (TriggersWithin (map shifted (leaving B q))) (sym (out-left p h)) (from-shifted (a .back)));
     joined = λ d e x y s.
-        let (c, u, k) = shifted-first e (subst (λ (l : List Transition). First l e) (out-right q) y) in
+        let (c, u, k) = shifted-first e (subst (λ (l : List Transition). FirstOfTrigger l e) (out-right q) y) in
         let t : SameTrigger d (shifted c) = rw k at s in
-        rw k (j d c (subst (λ (l : List Transition). First l d) (out-left p h) x) u (record { kind = t .kind; first = t .first; last = t .last }));
+        rw k (j d c (subst (λ (l : List Transition). FirstOfTrigger l d) (out-left p h) x) u (record { kind = t .kind; first = t .first; last = t .last }));
   }
 
   -- and what that says of the two
@@ -128,15 +128,15 @@ module _ (A B : Automaton) where
     back = un-shifted-back (subst (TriggersWithin (map shifted (leaving B q))) (out-left p h) (subst (λ (l : List Transition). TriggersWithin l (outOf p)) (out-right q) (b .back)));
   }
 
-  agreed-joined : (f : ℕ → ℕ) (p q : ℕ) → p < A .size → Bisimilar acceptIn outOf f p (A .size + q) → (d e : Transition) → First (leaving A p) d → First (leaving B q) e → SameTrigger d e → f (d .to) ≡ f (A .size + e .to)
+  agreed-joined : (f : ℕ → ℕ) (p q : ℕ) → p < A .size → Bisimilar acceptIn outOf f p (A .size + q) → (d e : Transition) → FirstOfTrigger (leaving A p) d → FirstOfTrigger (leaving B q) e → SameTrigger d e → f (d .to) ≡ f (A .size + e .to)
   agreed-joined f p q h b d e x y s =
-      b .joined d (shifted e) (subst (λ (l : List Transition). First l d) (sym (out-left p h)) x) (subst (λ (l : List Transition). First l (shifted e)) (sym (out-right q)) (first-shifted y)) (record { kind = s .kind; first = s .first; last = s .last })
+      b .joined d (shifted e) (subst (λ (l : List Transition). FirstOfTrigger l d) (sym (out-left p h)) x) (subst (λ (l : List Transition). FirstOfTrigger l (shifted e)) (sym (out-right q)) (first-shifted y)) (record { kind = s .kind; first = s .first; last = s .last })
 
   -- a finished walk
   module _ (in-a : InBounds A) (in-b : InBounds B) (w : Pairs) (v : ValidPairs (A .size) w) (is-n : w .sets .n ≡ A .size + B .size) (started : classes w (A .start) ≡ classes w (A .size + B .start))
       (reached : (i : ℕ) → i < w .made → ReachedByTriggers A B (oneAt w i) (twoAt w i))
       (alike : (i : ℕ) → i < w .made → Alike A B (oneAt w i) (twoAt w i))
-      (follows : (i : ℕ) → i < w .made → (d e : Transition) → First (leaving A (oneAt w i)) d → First (leaving B (twoAt w i)) e → SameTrigger d e → classes w (d .to) ≡ classes w (A .size + e .to)) where
+      (follows : (i : ℕ) → i < w .made → (d e : Transition) → FirstOfTrigger (leaving A (oneAt w i)) d → FirstOfTrigger (leaving B (twoAt w i)) e → SameTrigger d e → classes w (d .to) ≡ classes w (A .size + e .to)) where
     joined-agree : (p q : ℕ) → p < A .size → q < B .size → classes w p ≡ classes w (A .size + q) → Bisimilar acceptIn outOf (classes w) p (A .size + q)
     joined-agree p q h k e = generated-into (Bisimilar acceptIn outOf (classes w)) (λ x l. bisimilar-self acceptIn outOf (classes w) x) (λ x y b. bisimilar-turn acceptIn outOf (classes w) b) (λ x y z b c. bisimilar-chain acceptIn outOf (classes w) b c)
         (λ i l. agree (classes w) (oneAt w i) (twoAt w i) (reached-in A B in-a in-b (reached i l) .0) (alike i l) (follows i l)) (v .spanned .only p (A .size + q) (omega (arith, is-n)) (omega (arith, is-n)) e)

@@ -21,8 +21,8 @@ use Rattle.search.proofs.Reached as Search
 use Rattle.search.proofs.Queue.{over-exact, table-all}
 use Rattle.automata.specs.Pairs.{Pair}
 use Rattle.automata.proofs.Pairs.{pair-decides}
-use Rattle.equivalence.specs.Triggers.{SameTrigger, First, sameTrigger, firsts, triggersWithin}
-use Rattle.equivalence.specs.Equivalent.{ReachedByTriggers, start, step, Alike, alike, targetsWith, targets, triggerPairs, allAlike, equivalent}
+use Rattle.equivalence.specs.Triggers.{SameTrigger, FirstOfTrigger, sameTrigger, firsts, triggersWithin}
+use Rattle.equivalence.specs.Equivalent.{ReachedByTriggers, start, step, Alike, alike, triggerTargetsWith, triggerTargets, triggerPairs, allAlike, equivalent}
 use Rattle.equivalence.proofs.Triggers.{trigger-test, trigger-passes, none-out, firsts-out, firsts-in, within-test, within-passes}
 
 -- lists of lists
@@ -32,17 +32,17 @@ flat-length f m [] h = omega arith
 flat-length f m (x ∷ l) h = length-append (f x) (flatMap f l) ∙ rw (h x, flat-length f m l h) (add-comm m (length l * m) ∙ sym (suc-mul (length l) m))
 
 -- the pairs to which equal triggers lead
-targets-out : (ds es : List Transition) (p : Pair) → p ∈ targets ds es → (d e : Transition) × d ∈ ds × e ∈ es × SameTrigger d e × (p ≡ record { left = d .to; right = e .to })
-unfolding targets targetsWith
+targets-out : (ds es : List Transition) (p : Pair) → p ∈ triggerTargets ds es → (d e : Transition) × d ∈ ds × e ∈ es × SameTrigger d e × (p ≡ record { left = d .to; right = e .to })
+unfolding triggerTargets triggerTargetsWith
 targets-out ds es p m =
-    let r = flat-out (targetsWith es) p ds m in
+    let r = flat-out (triggerTargetsWith es) p ds m in
     let s = map-out (λ (e : Transition). record { left = r .0 .to; right = e .to }) (filter (sameTrigger (r .0)) es) p (r .2) in
     let k = filter-out (sameTrigger (r .0)) (s .0) es (s .1) in
     (r .0, s .0, r .1, k .0, trigger-test (r .0) (s .0) (k .1), s .2)
 
-targets-in : {ds es : List Transition} {d e : Transition} → d ∈ ds → e ∈ es → SameTrigger d e → record { left = d .to; right = e .to } ∈ targets ds es
-unfolding targets targetsWith
-targets-in {ds} {es} {d} {e} m n s = flat-in (targetsWith es) m (map-in (λ (e : Transition). record { left = d .to; right = e .to }) (filter-in (sameTrigger d) n (trigger-passes s)))
+targets-in : {ds es : List Transition} {d e : Transition} → d ∈ ds → e ∈ es → SameTrigger d e → record { left = d .to; right = e .to } ∈ triggerTargets ds es
+unfolding triggerTargets triggerTargetsWith
+targets-in {ds} {es} {d} {e} m n s = flat-in (triggerTargetsWith es) m (map-in (λ (e : Transition). record { left = d .to; right = e .to }) (filter-in (sameTrigger d) n (trigger-passes s)))
 
 module _ (A B : Automaton) where
   pub pairs-decides : Decides (triggerPairs A B .same)
@@ -75,7 +75,7 @@ module _ (A B : Automaton) where
 
   module _ (in-a : InBounds A) (in-b : InBounds B) where
     -- a first record leads to a state
-    first-in : (C : Automaton) → InBounds C → (p : ℕ) (d : Transition) → First (leaving C p) d → d .to < C .size
+    first-in : (C : Automaton) → InBounds C → (p : ℕ) (d : Transition) → FirstOfTrigger (leaving C p) d → d .to < C .size
     unfolding leaving
     first-in C ok p d f = ok .tos d (filter-out _ d (C .transitions) (f .one) .0)
 

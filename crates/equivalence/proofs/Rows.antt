@@ -9,7 +9,7 @@ use Rattle.lists.specs.Lists.{_∈_, Ascending, none, more}
 use Rattle.automata.specs.Automaton.{Transition}
 use Rattle.automata.specs.WellFormed.{here, later, Before}
 use Rattle.automata.proofs.Ordered.{lex-trans, lex-irreflexive}
-use Rattle.equivalence.specs.Triggers.{SameTrigger, First, sameTrigger}
+use Rattle.equivalence.specs.Triggers.{SameTrigger, FirstOfTrigger, sameTrigger}
 use Rattle.equivalence.specs.inner.Rows.{behindRow, leadersBehind, leaders, Lower}
 use Rattle.equivalence.proofs.Triggers.{trigger-self, trigger-turn, trigger-chain, trigger-test, trigger-apart}
 
@@ -138,28 +138,28 @@ module _ (p : ℕ) where
   leaders-ascend (d ∷ es) s = more (behind-lower d es s) (behind-ascends d es s)
 
   -- a leader is the first record of its trigger
-  head-first : (d : Transition) (es : List Transition) → Sorted p (d ∷ es) → First (d ∷ es) d
+  head-first : (d : Transition) (es : List Transition) → Sorted p (d ∷ es) → FirstOfTrigger (d ∷ es) d
   head-first d es s = record { one = List·Memᴰ·head refl; lowest = λ e m t. ⊎-elim (λ (q : e ≡ d). rw q (omega arith)) (λ k. go e t (sorted-head s k)) (List·Memᴰ·cases-cons m) }
     where
       go : (e : Transition) → SameTrigger e d → Next d e → d .to ≤ e .to
       go e t (lower l) = absurd (lower-apart l (trigger-turn t))
       go e t (equal u h) = omega arith
 
-  first-more : {d x : Transition} {es : List Transition} → (SameTrigger d x → ⊥) → First es x → First (d ∷ es) x
+  first-more : {d x : Transition} {es : List Transition} → (SameTrigger d x → ⊥) → FirstOfTrigger es x → FirstOfTrigger (d ∷ es) x
   first-more {d} {x} n f = record { one = List·Memᴰ·tail (f .one); lowest = λ e m t. ⊎-elim (λ (q : e ≡ d). absurd (n (rw q at t))) (λ k. f .lowest e k t) (List·Memᴰ·cases-cons m) }
 
-  behind-first : (d : Transition) (es : List Transition) → Sorted p (d ∷ es) → (x : Transition) → x ∈ leadersBehind d es → First es x
+  behind-first : (d : Transition) (es : List Transition) → Sorted p (d ∷ es) → (x : Transition) → x ∈ leadersBehind d es → FirstOfTrigger es x
   unfolding leadersBehind
   behind-first d [] s x m = elim m [ ]
   behind-first d (e ∷ es) s x m = go (sameTrigger d e) refl m (behind-first d es (sorted-skip s) x) (behind-first e es (sorted-tail s) x)
     where
-      go : (b : Bool) → sameTrigger d e ≡ b → x ∈ cond b (leadersBehind d es) (e ∷ leadersBehind e es) → (x ∈ leadersBehind d es → First es x) → (x ∈ leadersBehind e es → First es x) → First (e ∷ es) x
+      go : (b : Bool) → sameTrigger d e ≡ b → x ∈ cond b (leadersBehind d es) (e ∷ leadersBehind e es) → (x ∈ leadersBehind d es → FirstOfTrigger es x) → (x ∈ leadersBehind e es → FirstOfTrigger es x) → FirstOfTrigger (e ∷ es) x
       go true t m f g = first-more (λ u. lower-apart (behind-lower d es (sorted-skip s) x m) (trigger-chain (trigger-test d e t) u)) (f m)
       go false t m f g =
           ⊎-elim (λ (q : x ≡ e). rw q (head-first e es (sorted-tail s)))
           (λ k. first-more (lower-apart (behind-lower e es (sorted-tail s) x k)) (g k)) (List·Memᴰ·cases-cons m)
 
-  pub leaders-first : (es : List Transition) → Sorted p es → (x : Transition) → x ∈ leaders es → First es x
+  pub leaders-first : (es : List Transition) → Sorted p es → (x : Transition) → x ∈ leaders es → FirstOfTrigger es x
   unfolding leaders
   leaders-first [] s x m = elim m [ ]
   leaders-first (d ∷ es) s x m =

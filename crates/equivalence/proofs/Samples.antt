@@ -26,5 +26,5 @@ samples :
     × (Equivalent.equivalent (three (0 ∷ 1 ∷ 0 ∷ []) (range 0 9 1 ∷ [])) (three (0 ∷ 1 ∷ 0 ∷ []) (range 0 4 1 ∷ range 5 9 1 ∷ [])) ≡ false)
     × (Equivalent.equivalent (three (0 ∷ 1 ∷ 0 ∷ []) (range 0 0 1 ∷ [])) (three (0 ∷ 1 ∷ 0 ∷ []) (record { from = 0; kind = 0; first = 0; last = 0; to = 1 } ∷ [])) ≡ false)
     × (Equivalent.equivalent (three (0 ∷ 0 ∷ 1 ∷ []) (range 0 9 1 ∷ range 0 9 2 ∷ [])) (three (0 ∷ 0 ∷ 0 ∷ []) (range 0 9 1 ∷ [])) ≡ true)
-unfolding range three Equivalent.equivalent Equivalent.allAlike Equivalent.triggerPairs Equivalent.targets Equivalent.targetsWith Equivalent.alike Triggers.sameTrigger Triggers.isLower Triggers.isFirst Triggers.firsts Triggers.isLacking Triggers.triggersWithin any filter flatMap leaving samePair index add meet explore table
+unfolding range three Equivalent.equivalent Equivalent.allAlike Equivalent.triggerPairs Equivalent.triggerTargets Equivalent.triggerTargetsWith Equivalent.alike Triggers.sameTrigger Triggers.isLower Triggers.isFirst Triggers.firsts Triggers.isLacking Triggers.triggersWithin any filter flatMap leaving samePair index add meet explore table
 samples = (refl, refl, refl, refl, refl)

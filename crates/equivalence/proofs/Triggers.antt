@@ -10,7 +10,7 @@ use Rattle.lists.specs.Lists.{_∈_, any}
 use Rattle.lists.proofs.Lists.{any-in, any-out, filter-in, filter-out}
 use Rattle.lists.proofs.Tests.{test, and-both, and-parts}
 use Rattle.automata.specs.Automaton.{Transition}
-use Rattle.equivalence.specs.Triggers.{SameTrigger, First, TriggersWithin, sameTrigger, isLower, isFirst, firsts, isLacking, triggersWithin}
+use Rattle.equivalence.specs.Triggers.{SameTrigger, FirstOfTrigger, TriggersWithin, sameTrigger, isLower, isFirst, firsts, isLacking, triggersWithin}
 
 pub trigger-self : (d : Transition) → SameTrigger d d
 trigger-self d = record { kind = refl; first = refl; last = refl }
@@ -44,7 +44,7 @@ pub none-in : {X : Type 0} (f : X → Bool) (l : List X) → ((x : X) → x ∈ 
 none-in f l h = ⊎-elim (λ t. let r = any-out f l t in absurd (h (r .0) (r .1) (r .2))) (λ t. ap not t) (test (any f l))
 
 -- the first records
-pub firsts-out : (es : List Transition) (e : Transition) → e ∈ firsts es → First es e
+pub firsts-out : (es : List Transition) (e : Transition) → e ∈ firsts es → FirstOfTrigger es e
 unfolding firsts isFirst isLower
 firsts-out es e m =
     let k = filter-out (isFirst es) e es m in
@@ -55,19 +55,19 @@ firsts-out es e m =
           (λ (t : ltb (d .to) (e .to) ≡ false). ltb-false (d .to) (e .to) t) (test (ltb (d .to) (e .to)));
     }
 
-pub firsts-in : {es : List Transition} {e : Transition} → First es e → e ∈ firsts es
+pub firsts-in : {es : List Transition} {e : Transition} → FirstOfTrigger es e → e ∈ firsts es
 unfolding firsts isFirst isLower
 firsts-in {es} {e} f =
     filter-in (isFirst es) (f .one)
     (none-in (isLower e) es (λ d m t. let p = and-parts (sameTrigger d e) _ t in let l = ltb-true (d .to) (e .to) (p .1) in omega (arith, f .lowest d m (trigger-test d e (p .0)))))
 
 -- those of one trigger have one target
-pub first-target : {es : List Transition} {d e : Transition} → First es d → First es e → SameTrigger d e → d .to ≡ e .to
+pub first-target : {es : List Transition} {d e : Transition} → FirstOfTrigger es d → FirstOfTrigger es e → SameTrigger d e → d .to ≡ e .to
 first-target {d = d} {e = e} f g s = omega (arith, f .lowest e (g .one) (trigger-turn s), g .lowest d (f .one) s)
 
 -- and there is one for each trigger
 abbrev Of : Transition → List Transition → Type 0
-Of d es = (e : Transition) × First es e × SameTrigger d e
+Of d es = (e : Transition) × FirstOfTrigger es e × SameTrigger d e
 
 abbrev NoneOf : Transition → List Transition → Type 0
 NoneOf d es = (e : Transition) → e ∈ es → SameTrigger d e → ⊥
@@ -79,7 +79,7 @@ first-or d (c ∷ es) = ⊎-elim (λ t. inl (same (trigger-test d c t) (first-or
     lone : SameTrigger d c → NoneOf d es → Of d (c ∷ es)
     lone s n = (c, record { one = List·Memᴰ·head refl; lowest = λ e m t. ⊎-elim (λ (q : e ≡ c). rw q (omega arith)) (λ k. absurd (n e k (trigger-chain s (trigger-turn t)))) (List·Memᴰ·cases-cons m) }, s)
 
-    lower : SameTrigger d c → (e : Transition) → First es e → SameTrigger d e → (b : Bool) → ltb (e .to) (c .to) ≡ b → Of d (c ∷ es)
+    lower : SameTrigger d c → (e : Transition) → FirstOfTrigger es e → SameTrigger d e → (b : Bool) → ltb (e .to) (c .to) ≡ b → Of d (c ∷ es)
     lower s e f t true l = (e, record { one = List·Memᴰ·tail (f .one); lowest = λ x m u. ⊎-elim (λ (q : x ≡ c). rw q (omega (arith, ltb-true (e .to) (c .to) l))) (λ k. f .lowest x k u) (List·Memᴰ·cases-cons m) }, t)
     lower s e f t false l = (c, record { one = List·Memᴰ·head refl; lowest = λ x m u. ⊎-elim (λ (q : x ≡ c). rw q (omega arith)) (λ k. omega (arith, ltb-false (e .to) (c .to) l, f .lowest x k (trigger-chain u (trigger-chain (trigger-turn s) t)))) (List·Memᴰ·cases-cons m) }, s)
 
@@ -91,7 +91,7 @@ first-or d (c ∷ es) = ⊎-elim (λ t. inl (same (trigger-test d c t) (first-or
     other o (inl (e, f, t)) = inl (e, record { one = List·Memᴰ·tail (f .one); lowest = λ x m u. ⊎-elim (λ (q : x ≡ c). absurd (o (rw q at (trigger-chain t (trigger-turn u))))) (λ k. f .lowest x k u) (List·Memᴰ·cases-cons m) }, t)
     other o (inr n) = inr (λ e m s. ⊎-elim (λ (q : e ≡ c). o (rw q at s)) (λ k. n e k s) (List·Memᴰ·cases-cons m))
 
-pub first-exists : (es : List Transition) (d : Transition) → d ∈ es → (e : Transition) × First es e × SameTrigger d e
+pub first-exists : (es : List Transition) (d : Transition) → d ∈ es → (e : Transition) × FirstOfTrigger es e × SameTrigger d e
 first-exists es d m = ⊎-elim (λ f. f) (λ n. absurd (n d m (trigger-self d))) (first-or d es)
 
 -- triggers of ds among those of es

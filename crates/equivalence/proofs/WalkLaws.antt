@@ -23,13 +23,13 @@ use Rattle.sheets.specs.Sheet.{stateCount, read}
 use Rattle.sheets.proofs.Meaning.{read-well}
 use Rattle.sheets.proofs.Runs.{run-at, starts-indexed}
 use Rattle.automata.proofs.Leaving.{leaves}
-use Rattle.dsu.specs.declared.Answer.{Answer}
+use Rattle.dsu.specs.declared.SetsAnswer.{SetsAnswer}
 use Rattle.dsu.specs.Sets.{newOf}
 use Rattle.pairs.specs.inner.Pairs.{Pairs, classes, oneAt, twoAt, ValidPairs, NoPairs, PairFits, PairJoined}
 use Rattle.pairs.proofs.Laws.{no-pairs, pairs-few, pair-fits}
 use Rattle.equivalence.specs.Equivalent.{ReachedByTriggers, start, step, Alike, equivalent}
 use Rattle.equivalence.specs.inner.Walking.{Runs, ComparableRuns, RunsAlike, RunsCompared, IndexedSheets}
-use Rattle.equivalence.specs.Triggers.{SameTrigger, First}
+use Rattle.equivalence.specs.Triggers.{SameTrigger, FirstOfTrigger}
 use Rattle.equivalence.proofs.Triggers.{trigger-turn, trigger-chain, first-target}
 use Rattle.equivalence.proofs.Exact.{reached-in, exact, exact-false}
 use Rattle.equivalence.proofs.Rows.{Sorted, leaders-ascend, leaders-first, leaders-led}
@@ -37,7 +37,7 @@ use Rattle.equivalence.proofs.Bisimulation.{walked-alike}
 
 -- the first records of equal triggers of two states lead into one class
 abbrev FirstTargetsJoined : List ℕ → List ℕ → Pairs → ℕ → ℕ → Type 0
-FirstTargetsJoined a b w p q = (d e : Transition) → First (leaving (read a) p) d → First (leaving (read b) q) e → SameTrigger d e → classes w (d .to) ≡ classes w (stateCount a + e .to)
+FirstTargetsJoined a b w p q = (d e : Transition) → FirstOfTrigger (leaving (read a) p) d → FirstOfTrigger (leaving (read b) q) e → SameTrigger d e → classes w (d .to) ≡ classes w (stateCount a + e .to)
 
 -- the pairs w, of which the first `head` are compared
 pub record WalkInvariant (a b starts-a starts-b : List ℕ) (n1 head : ℕ) (w : Pairs) : Type 0 where
@@ -65,7 +65,7 @@ walk-indexed a b old-a starts-a old-b starts-b first second is-a is-b la lb = re
 }
 
 -- the walk begins with the starts
-module _ (a b starts-a starts-b : List ℕ) (s : IndexedSheets a b starts-a starts-b) (f : Answer) (is-f : f ≡ newOf (getD a 2 0 + getD b 2 0)) (queue : List ℕ) (long : length queue ≡ 1024) where
+module _ (a b starts-a starts-b : List ℕ) (s : IndexedSheets a b starts-a starts-b) (f : SetsAnswer) (is-f : f ≡ newOf (getD a 2 0 + getD b 2 0)) (queue : List ℕ) (long : length queue ≡ 1024) where
   abbrev none : Pairs
   none = record { sets = f .sets; queue = queue; made = 0 }
 

@@ -10,12 +10,12 @@ use Rattle.automata.specs.WellFormed.{WellFormed}
 use Rattle.ranges.proofs.Held.{held}
 use Rattle.automata.proofs.Leaving.{leaves, leaving-in}
 use Rattle.ranges.proofs.Functional.{Functional}
-use Rattle.equivalence.specs.Triggers.{First}
+use Rattle.equivalence.specs.Triggers.{FirstOfTrigger}
 use Rattle.equivalence.specs.Equivalent.{ReachedByTriggers, start, step, Alike}
 use Rattle.equivalence.proofs.Triggers.{trigger-turn}
 
 -- every transition is the first of its trigger
-own-first : (A : Automaton) → WellFormed A → Functional A → (p : ℕ) (d : Transition) → d ∈ leaving A p → First (leaving A p) d
+own-first : (A : Automaton) → WellFormed A → Functional A → (p : ℕ) (d : Transition) → d ∈ leaving A p → FirstOfTrigger (leaving A p) d
 own-first A v f p d m =
     let l = leaves A p d m in
     record {

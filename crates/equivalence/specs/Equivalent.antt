@@ -12,12 +12,12 @@ use Rattle.search.specs.Search.{Graph, SearchResult, over, found, table}
 use Rattle.sheets.specs.Checked.{sheetFirst}
 use Rattle.sheets.specs.Sheet.{read}
 use Rattle.automata.specs.Pairs.{Pair, samePair}
-use Rattle.equivalence.specs.Triggers.{SameTrigger, First, TriggersWithin, sameTrigger, firsts, triggersWithin}
+use Rattle.equivalence.specs.Triggers.{SameTrigger, FirstOfTrigger, TriggersWithin, sameTrigger, firsts, triggersWithin}
 
 -- the pair of the starts is reached, and the first records of equal triggers lead from a reached pair to another
 pub data ReachedByTriggers (A B : Automaton) : ℕ → ℕ → Type 0 where
   start : ReachedByTriggers A B (A .start) (B .start)
-  step : {p q : ℕ} {d e : Transition} → ReachedByTriggers A B p q → First (leaving A p) d → First (leaving B q) e → SameTrigger d e → ReachedByTriggers A B (d .to) (e .to)
+  step : {p q : ℕ} {d e : Transition} → ReachedByTriggers A B p q → FirstOfTrigger (leaving A p) d → FirstOfTrigger (leaving B q) e → SameTrigger d e → ReachedByTriggers A B (d .to) (e .to)
 
 -- a state of A and one of B differ neither in acceptance nor in their triggers
 pub record Alike (A B : Automaton) (p q : ℕ) : Type 0 where
@@ -32,17 +32,17 @@ alike A B p =
     && (triggersWithin (leaving A (p .left)) (leaving B (p .right)) && triggersWithin (leaving B (p .right)) (leaving A (p .left)))
 
 -- the pairs to which equal triggers of ds and es lead
-unfoldable pub targetsWith : List Transition → Transition → List Pair
-targetsWith es d = map (λ e. record { left = d .to; right = e .to }) (filter (sameTrigger d) es)
+unfoldable pub triggerTargetsWith : List Transition → Transition → List Pair
+triggerTargetsWith es d = map (λ e. record { left = d .to; right = e .to }) (filter (sameTrigger d) es)
 
-unfoldable pub targets : List Transition → List Transition → List Pair
-targets ds es = flatMap (targetsWith es) ds
+unfoldable pub triggerTargets : List Transition → List Transition → List Pair
+triggerTargets ds es = flatMap (triggerTargetsWith es) ds
 
 -- pairs lead to pairs by the first records of equal triggers
 unfoldable pub triggerPairs : Automaton → Automaton → Graph Pair
 triggerPairs A B = record {
   same = samePair;
-  next = λ p. targets (firsts (leaving A (p .left))) (firsts (leaving B (p .right)));
+  next = λ p. triggerTargets (firsts (leaving A (p .left))) (firsts (leaving B (p .right)));
   start = record { left = A .start; right = B .start };
 }
 

@@ -13,7 +13,7 @@ pub record SameTrigger (d e : Transition) : Type 0 where
   pub last : d .last ≡ e .last
 
 -- the first of the transitions es of its trigger: none of them has a lower target
-pub record First (es : List Transition) (e : Transition) : Type 0 where
+pub record FirstOfTrigger (es : List Transition) (e : Transition) : Type 0 where
   pub one : e ∈ es
   pub lowest : (d : Transition) → d ∈ es → SameTrigger d e → e .to ≤ d .to
 

@@ -8,7 +8,7 @@ use native.Mathlib.Omega.{arith}
 use lib.ListN.{length, getD, set, length-set}
 use lib.Seq.{getD-set-same, getD-set-other}
 use Rattle.dsu.specs.declared.DSU.{DSU}
-use Rattle.dsu.specs.declared.Answer.{Answer}
+use Rattle.dsu.specs.declared.SetsAnswer.{SetsAnswer}
 use Rattle.dsu.specs.inner.Generated.{Spanned}
 use Rattle.dsu.specs.Sets.{newOf}
 use Rattle.dsu.specs.Laws.{classOf}
@@ -17,7 +17,7 @@ use Rattle.dsu.proofs.Generated.{generated-into, spanned-alone, spanned-more, s
 use Rattle.dsu.proofs.Laws.{new-law}
 use Rattle.pairs.specs.inner.Pairs.{Pairs, classes, oneAt, twoAt, ValidPairs, NoPairs, PairsKept, PairFits, PairJoined}
 
-pub no-pairs : (n : ℕ) → n ≤ 512 → (f : Answer) → f ≡ newOf n → (queue : List ℕ) → length queue ≡ 1024 → NoPairs n (record { sets = f .sets; queue = queue; made = 0 })
+pub no-pairs : (n : ℕ) → n ≤ 512 → (f : SetsAnswer) → f ≡ newOf n → (queue : List ℕ) → length queue ≡ 1024 → NoPairs n (record { sets = f .sets; queue = queue; made = 0 })
 no-pairs n few f e queue long =
     let l = new-law n f e few in
     let w : Pairs = record { sets = f .sets; queue = queue; made = 0 } in
