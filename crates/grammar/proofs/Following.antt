@@ -6,10 +6,10 @@ use mathlib.Core.Path.{_≡_, sym, _∙_, ap}
 use borrow.Author.Needs.{needs}
 use borrow.Author.Tests.{le-leb, lt-leb}
 use lib.Dec.{leb}
-use Rattle.grammar.specs.Grammar.{ReadResult, nothing, found, follow, Mark, mark, Ends, nextNames}
-use Rattle.grammar.specs.inner.Pieces.{pieceOf, nameOf, numberOf, rangeOf, acceptingOf}
+use Rattle.grammar.specs.Grammar.{ReadResult, nothing, found, follow, Mark, mark, RangeEnds, nextNames}
+use Rattle.grammar.specs.inner.Pieces.{pieceOf, nameOf, numberPieceOf, rangeOf, acceptingOf}
 use Rattle.grammar.specs.declared.tokens.Cursor.{Cursor}
-use Rattle.grammar.specs.declared.tokens.Span.{Span}
+use Rattle.grammar.specs.declared.tokens.TextSpan.{TextSpan}
 use Rattle.grammar.specs.declared.tokens.Piece.{Piece}
 use Rattle.grammar.specs.declared.tokens.Piece.the-variants.{Read as PieceRead, Nothing as NoPiece}
 use Rattle.grammar.specs.declared.tokens.NamePiece.{NamePiece}
@@ -38,32 +38,32 @@ module _ {Y : Type 0} where
     pub a-piece : (c : Cursor) (z : ReadResult Y) → p ≡ PieceRead c → z ≡ f mark (c .at) → z ≡ follow r f
     a-piece c z h = after-found f mark (c .at) z (sym e ∙ ap pieceOf h)
 
-  module _ (r : ReadResult Span) (f : Span → ℕ → ReadResult Y) (p : NamePiece) (e : nameOf p ≡ r) where
+  module _ (r : ReadResult TextSpan) (f : TextSpan → ℕ → ReadResult Y) (p : NamePiece) (e : nameOf p ≡ r) where
     pub no-name : p ≡ NoName → nothing ≡ follow r f
     no-name h = after-nothing f (sym e ∙ ap nameOf h)
 
-    pub a-name : (s : Span) (c : Cursor) (z : ReadResult Y) → p ≡ NameRead s c → z ≡ f s (c .at) → z ≡ follow r f
+    pub a-name : (s : TextSpan) (c : Cursor) (z : ReadResult Y) → p ≡ NameRead s c → z ≡ f s (c .at) → z ≡ follow r f
     a-name s c z h = after-found f s (c .at) z (sym e ∙ ap nameOf h)
 
-  module _ (r : ReadResult ℕ) (f : ℕ → ℕ → ReadResult Y) (p : NumberPiece) (e : numberOf p ≡ r) where
+  module _ (r : ReadResult ℕ) (f : ℕ → ℕ → ReadResult Y) (p : NumberPiece) (e : numberPieceOf p ≡ r) where
     pub no-number : p ≡ NoNumber → nothing ≡ follow r f
-    no-number h = after-nothing f (sym e ∙ ap numberOf h)
+    no-number h = after-nothing f (sym e ∙ ap numberPieceOf h)
 
     pub a-number : (v : ℕ) (c : Cursor) (z : ReadResult Y) → p ≡ NumberRead v c → z ≡ f v (c .at) → z ≡ follow r f
-    a-number v c z h = after-found f v (c .at) z (sym e ∙ ap numberOf h)
+    a-number v c z h = after-found f v (c .at) z (sym e ∙ ap numberPieceOf h)
 
-  module _ (r : ReadResult Ends) (f : Ends → ℕ → ReadResult Y) (p : RangePiece) (e : rangeOf p ≡ r) where
+  module _ (r : ReadResult RangeEnds) (f : RangeEnds → ℕ → ReadResult Y) (p : RangePiece) (e : rangeOf p ≡ r) where
     pub no-range : p ≡ NoRange → nothing ≡ follow r f
     no-range h = after-nothing f (sym e ∙ ap rangeOf h)
 
     pub a-range : (v w : ℕ) (c : Cursor) (z : ReadResult Y) → p ≡ RangeRead v w c → z ≡ f (record { first = v; last = w }) (c .at) → z ≡ follow r f
     a-range v w c z h = after-found f _ (c .at) z (sym e ∙ ap rangeOf h)
 
-  module _ (t : List ℕ) (r : ReadResult (List Span)) (f : List Span → ℕ → ReadResult Y) (p : AcceptingPiece) (e : acceptingOf t p ≡ r) where
+  module _ (t : List ℕ) (r : ReadResult (List TextSpan)) (f : List TextSpan → ℕ → ReadResult Y) (p : AcceptingPiece) (e : acceptingOf t p ≡ r) where
     pub no-accepting : p ≡ NoAccepting → nothing ≡ follow r f
     no-accepting h = after-nothing f (sym e ∙ ap (acceptingOf t) h)
 
-    pub an-accepting : (s : Span) (more c : Cursor) (z : ReadResult Y) → p ≡ AcceptingRead s more c → z ≡ f (s ∷ nextNames t (more .at) .items) (c .at) → z ≡ follow r f
+    pub an-accepting : (s : TextSpan) (more c : Cursor) (z : ReadResult Y) → p ≡ AcceptingRead s more c → z ≡ f (s ∷ nextNames t (more .at) .items) (c .at) → z ≡ follow r f
     an-accepting s more c z h = after-found f _ (c .at) z (sym e ∙ ap (acceptingOf t) h)
 
 -- the ends of a range

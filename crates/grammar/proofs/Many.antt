@@ -9,7 +9,7 @@ use Rattle.grammar.specs.Grammar.{ReadResult, nothing, found, space, tra
 use Rattle.grammar.specs.inner.Pieces.{nameOf, arrowOf}
 use Rattle.grammar.specs.inner.Places.{Spelt, Drawn}
 use Rattle.grammar.specs.declared.tokens.Cursor.{Cursor}
-use Rattle.grammar.specs.declared.tokens.Span.{Span}
+use Rattle.grammar.specs.declared.tokens.TextSpan.{TextSpan}
 use Rattle.grammar.specs.declared.pieces.Arrow.{Arrow}
 use Rattle.grammar.specs.declared.tokens.NamePiece.{NamePiece}
 use Rattle.grammar.specs.declared.tokens.NamePiece.the-variants.{Read as NameRead, Nothing as NoName}
@@ -86,7 +86,7 @@ module _ (t : List ℕ) where
     unfolding nextNames
     names-ended h = many-nothing _ (length t) names-advance at (sym told ∙ ap nameOf h)
 
-    module _ (s : Span) (c : Cursor) (h : p ≡ NameRead s c) where
+    module _ (s : TextSpan) (c : Cursor) (h : p ≡ NameRead s c) where
       pub names-more : nextNames t at ≡ record { items = s ∷ nextNames t (c .at) .items; behind = nextNames t (c .at) .behind }
       unfolding nextNames
       names-more = many-found _ (length t) names-advance at s (c .at) (sym told ∙ ap nameOf h)
@@ -102,10 +102,10 @@ module _ (t : List ℕ) where
 
     module _ (n : ℕ) (i : n ≡ nextNames t at .behind) where
       pub names-behind : p ≡ NoName → at ≡ n
-      names-behind h = sym (i ∙ ap (λ (m : Items Span). m .behind) (names-ended h))
+      names-behind h = sym (i ∙ ap (λ (m : Items TextSpan). m .behind) (names-ended h))
 
-      pub names-next : (s : Span) (b : ℕ) → p ≡ NameRead s (record { at = b }) → n ≡ nextNames t b .behind
-      names-next s b h = i ∙ ap (λ (m : Items Span). m .behind) (names-more s _ h)
+      pub names-next : (s : TextSpan) (b : ℕ) → p ≡ NameRead s (record { at = b }) → n ≡ nextNames t b .behind
+      names-next s b h = i ∙ ap (λ (m : Items TextSpan). m .behind) (names-more s _ h)
 
 pub ruleset arrowsLoop = (arrows-behind, arrows-less, needs)
 

@@ -9,7 +9,7 @@ use Rattle.grammar.specs.inner.Pieces.{nameOf, acceptingOf}
 use Rattle.grammar.specs.inner.Places.{Spelt}
 use Rattle.grammar.specs.Places.{toldAt}
 use Rattle.grammar.specs.declared.tokens.Cursor.{Cursor}
-use Rattle.grammar.specs.declared.tokens.Span.{Span}
+use Rattle.grammar.specs.declared.tokens.TextSpan.{TextSpan}
 use Rattle.grammar.specs.declared.tokens.NamePiece.{NamePiece}
 use Rattle.grammar.specs.declared.tokens.NamePiece.the-variants.{Read as NameRead, Nothing as NoName}
 use Rattle.grammar.specs.declared.pieces.AcceptingPiece.{AcceptingPiece}
@@ -28,10 +28,10 @@ follow-ext nothing f g h = refl
 follow-ext (found x at) f g h = h x at
 
 module _ (t : List ℕ) where
-  tells : Span → ℕ → List Span → ℕ → ReadResult TextParts
+  tells : TextSpan → ℕ → List TextSpan → ℕ → ReadResult TextParts
   tells s b names d = found (record { start = s; arrows = transitions t b .items; accepts = names }) d
 
-  told-parts : (s : Span) (b : ℕ) → toldFrom t s b ≡ follow (accepting t (space t (transitions t b .behind))) (λ names c. follow (ending t c) (λ _ d. tells s b names d))
+  told-parts : (s : TextSpan) (b : ℕ) → toldFrom t s b ≡ follow (accepting t (space t (transitions t b .behind))) (λ names c. follow (ending t c) (λ _ d. tells s b names d))
   unfolding toldFrom closing follow tells
   told-parts s b =
       follow-follow (accepting t (space t (transitions t b .behind))) _ _
@@ -53,27 +53,27 @@ module _ (t : List ℕ) where
   module _ (p : NamePiece) (told : nameOf p ≡ opening t) where
     pub opens-nothing : p ≡ NoName → wholeText t ≡ nothing
     unfolding follow
-    opens-nothing e = whole-parts ∙ ap (λ (r : ReadResult Span). follow r (toldFrom t)) (sym told ∙ ap nameOf e)
+    opens-nothing e = whole-parts ∙ ap (λ (r : ReadResult TextSpan). follow r (toldFrom t)) (sym told ∙ ap nameOf e)
 
-    module _ (s : Span) (b : Cursor) (e : p ≡ NameRead s b) where
+    module _ (s : TextSpan) (b : Cursor) (e : p ≡ NameRead s b) where
       pub opens-found : wholeText t ≡ toldFrom t s (b .at)
       unfolding follow
-      opens-found = whole-parts ∙ ap (λ (r : ReadResult Span). follow r (toldFrom t)) (sym told ∙ ap nameOf e)
+      opens-found = whole-parts ∙ ap (λ (r : ReadResult TextSpan). follow r (toldFrom t)) (sym told ∙ ap nameOf e)
 
       pub start-spelt : Spelt t s
       start-spelt = holds-found _ opening-holds (sym told ∙ ap nameOf e)
 
   -- and the closing, which is read behind the transitions: q is its answer
-  module _ (s : Span) (b : Cursor) (at : ℕ) (behind : at ≡ transitions t (b .at) .behind) (q : AcceptingPiece) (told : acceptingOf t q ≡ closing t at) where
-    closes : (r : ReadResult (List Span)) → acceptingOf t q ≡ r → toldFrom t s (b .at) ≡ follow r (tells s (b .at))
+  module _ (s : TextSpan) (b : Cursor) (at : ℕ) (behind : at ≡ transitions t (b .at) .behind) (q : AcceptingPiece) (told : acceptingOf t q ≡ closing t at) where
+    closes : (r : ReadResult (List TextSpan)) → acceptingOf t q ≡ r → toldFrom t s (b .at) ≡ follow r (tells s (b .at))
     unfolding toldFrom tells
-    closes r e = ap (λ (k : ℕ). follow (closing t k) (tells s (b .at))) (sym behind) ∙ ap (λ (k : ReadResult (List Span)). follow k (tells s (b .at))) (sym told ∙ e)
+    closes r e = ap (λ (k : ℕ). follow (closing t k) (tells s (b .at))) (sym behind) ∙ ap (λ (k : ReadResult (List TextSpan)). follow k (tells s (b .at))) (sym told ∙ e)
 
     pub closes-nothing : q ≡ NoAccepting → toldFrom t s (b .at) ≡ nothing
     unfolding follow
     closes-nothing e = closes _ (ap (acceptingOf t) e)
 
-    module _ (first : Span) (more c : Cursor) (e : q ≡ AcceptingRead first more c) where
+    module _ (first : TextSpan) (more c : Cursor) (e : q ≡ AcceptingRead first more c) where
       pub closes-found : toldFrom t s (b .at) ≡ found (toldAt t (record { initial = s; arrows = b; first = first; more = more })) (c .at)
       unfolding follow tells
       closes-found = closes _ (ap (acceptingOf t) e)
@@ -89,11 +89,11 @@ module _ (t : List ℕ) (p : NamePiece) (told : nameOf p ≡ opening t) where
   pub whole-nothing : p ≡ NoName → nothing ≡ wholeText t
   whole-nothing e = sym (opens-nothing t p told e)
 
-  module _ (s : Span) (b : Cursor) (e : p ≡ NameRead s b) (at : ℕ) (behind : at ≡ transitions t (b .at) .behind) (q : AcceptingPiece) (closed : acceptingOf t q ≡ closing t at) where
+  module _ (s : TextSpan) (b : Cursor) (e : p ≡ NameRead s b) (at : ℕ) (behind : at ≡ transitions t (b .at) .behind) (q : AcceptingPiece) (closed : acceptingOf t q ≡ closing t at) where
     pub whole-open : q ≡ NoAccepting → nothing ≡ wholeText t
     whole-open f = sym (opens-found t p told s b e ∙ closes-nothing t s b at behind q closed f)
 
-    pub whole-found : (first : Span) (more c : Cursor) → q ≡ AcceptingRead first more c
+    pub whole-found : (first : TextSpan) (more c : Cursor) → q ≡ AcceptingRead first more c
         → found (toldAt t (record { initial = s; arrows = b; first = first; more = more })) (c .at) ≡ wholeText t
     whole-found first more c f = sym (opens-found t p told s b e ∙ closes-found t s b at behind q closed first more c f)
 

@@ -12,7 +12,7 @@ use Rattle.lists.proofs.Tests.{and-parts}
 use Rattle.grammar.specs.Bytes.{isLetter, isNameByte}
 use Rattle.grammar.specs.Grammar.{ReadResult, nothing, found, follow, mark, run, space, neededSpace, begins, token, name, number, ends, range, target, transition, initial, nextName, transitions, nextNames, accepting, heading, ending, wholeText}
 use Rattle.grammar.specs.inner.Places.{Spelt, Drawn}
-use Rattle.grammar.specs.declared.tokens.Span.{Span}
+use Rattle.grammar.specs.declared.tokens.TextSpan.{TextSpan}
 use Rattle.grammar.proofs.Letters.{letter-named}
 use Rattle.grammar.proofs.Runs.{run-short, run-more, run-within}
 
@@ -167,8 +167,8 @@ module _ (t : List ℕ) where
       some (u .0)
 
   -- the first of some names stands in the text
-  pub data FirstSpelt : List Span → Type 0 where
-    leads : {s : Span} {xs : List Span} → Spelt t s → FirstSpelt (s ∷ xs)
+  pub data FirstSpelt : List TextSpan → Type 0 where
+    leads : {s : TextSpan} {xs : List TextSpan} → Spelt t s → FirstSpelt (s ∷ xs)
 
   pub accepting-holds : (at : ℕ) → Holds (λ names b. FirstSpelt names) (accepting t at)
   unfolding accepting

@@ -8,7 +8,7 @@ use lib.ListN.{length, getD, take, drop}
 use Rattle.decimal.specs.Decimal.{isDigit, value}
 use Rattle.grammar.specs.Bytes.{isSpace, isLetter, isNameByte}
 use Rattle.grammar.specs.Words.{automatonWord, initWord, acceptingWord, arrowSign, leftBrace, rightBrace, leftBracket, rightBracket, comma, semicolon}
-use Rattle.grammar.specs.declared.tokens.Span.{Span}
+use Rattle.grammar.specs.declared.tokens.TextSpan.{TextSpan}
 use Rattle.grammar.specs.declared.pieces.Arrow.{Arrow}
 
 pub data ReadResult (X : Type 0) : Type 0 where
@@ -48,7 +48,7 @@ unfoldable pub token : List ℕ → List ℕ → ℕ → ReadResult Mark
 token w t at = cond (begins w (drop at t)) (found mark (at + length w)) nothing
 
 -- an ASCII letter, then letters, digits, _; at most 64 bytes
-unfoldable pub name : List ℕ → ℕ → ReadResult Span
+unfoldable pub name : List ℕ → ℕ → ReadResult TextSpan
 name t at =
     let n = run isNameByte (drop at t) in
     cond (isLetter (getD t at 0) && leb n 64) (found (record { start = at; end = at + n }) (at + n)) nothing
@@ -61,12 +61,12 @@ number t at =
     cond (ltb 0 n && leb v 4294967295) (found v (at + n)) nothing
 
 -- first and last of a range
-pub record Ends : Type 0 where
+pub record RangeEnds : Type 0 where
   pub first : ℕ
   pub last : ℕ
 
 -- first, last; first is at most last
-unfoldable pub ends : List ℕ → ℕ → ReadResult Ends
+unfoldable pub ends : List ℕ → ℕ → ReadResult RangeEnds
 ends t at =
     follow (number t (space t at)) λ first a.
     follow (token comma t (space t a)) λ _ b.
@@ -74,7 +74,7 @@ ends t at =
     cond (leb first last) (found (record { first = first; last = last }) c) nothing
 
 -- [first, last];
-unfoldable pub range : List ℕ → ℕ → ReadResult Ends
+unfoldable pub range : List ℕ → ℕ → ReadResult RangeEnds
 range t at =
     follow (token leftBracket t (space t at)) λ _ a.
     follow (ends t a) λ r b.
@@ -83,7 +83,7 @@ range t at =
     found r d
 
 -- -> b
-unfoldable pub target : List ℕ → ℕ → ReadResult Span
+unfoldable pub target : List ℕ → ℕ → ReadResult TextSpan
 target t at = follow (token arrowSign t (space t at)) λ _ a. name t (space t a)
 
 -- a -> b [first, last];
@@ -95,7 +95,7 @@ transition t at =
     found (record { from = from; to = to; first = r .first; last = r .last }) c
 
 -- init a;
-unfoldable pub initial : List ℕ → ℕ → ReadResult Span
+unfoldable pub initial : List ℕ → ℕ → ReadResult TextSpan
 initial t at =
     follow (token initWord t at) λ _ a.
     follow (neededSpace t a) λ _ b.
@@ -104,7 +104,7 @@ initial t at =
     found s d
 
 -- a comma and a name
-unfoldable pub nextName : List ℕ → ℕ → ReadResult Span
+unfoldable pub nextName : List ℕ → ℕ → ReadResult TextSpan
 nextName t at = follow (token comma t (space t at)) λ _ a. name t (space t a)
 
 -- values, one behind the other, and the place behind the last
@@ -126,11 +126,11 @@ unfoldable pub transitions : List ℕ → ℕ → Items Arrow
 transitions t = many (λ at. transition t (space t at)) (length t)
 
 -- the names from a place on, each behind a comma
-unfoldable pub nextNames : List ℕ → ℕ → Items Span
+unfoldable pub nextNames : List ℕ → ℕ → Items TextSpan
 nextNames t = many (nextName t) (length t)
 
 -- accepting a, b;
-unfoldable pub accepting : List ℕ → ℕ → ReadResult (List Span)
+unfoldable pub accepting : List ℕ → ℕ → ReadResult (List TextSpan)
 accepting t at =
     follow (token acceptingWord t at) λ _ a.
     follow (neededSpace t a) λ _ b.
@@ -152,9 +152,9 @@ ending t at = follow (token rightBrace t (space t at)) λ _ a. token semicolon t
 
 -- what a text tells
 pub record TextParts : Type 0 where
-  pub start : Span
+  pub start : TextSpan
   pub arrows : List Arrow
-  pub accepts : List Span
+  pub accepts : List TextSpan
 
 -- a whole text
 unfoldable pub wholeText : List ℕ → ReadResult TextParts

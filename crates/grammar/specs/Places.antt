@@ -3,11 +3,11 @@ use Prim.Native.Nat.{ℕ, _-_}
 use mathlib.Core.List.{List, _∷_}
 use lib.ListN.{take, drop}
 use Rattle.grammar.specs.Grammar.{TextParts, transitions, nextNames}
-use Rattle.grammar.specs.declared.tokens.Span.{Span}
+use Rattle.grammar.specs.declared.tokens.TextSpan.{TextSpan}
 use Rattle.grammar.specs.declared.text.Layout.{Layout}
 
 -- the bytes of a name
-abbrev pub spelled : List ℕ → Span → List ℕ
+abbrev pub spelled : List ℕ → TextSpan → List ℕ
 spelled t s = take (s .end - s .start) (drop (s .start) t)
 
 -- what the text tells by a layout: the text gives the transitions and the accepting names behind the first

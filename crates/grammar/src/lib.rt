@@ -19,5 +19,5 @@ pub use text::opening;
 pub use text::whole_text;
 pub use tokens::Cursor;
 pub use tokens::NamePiece;
-pub use tokens::Span;
+pub use tokens::TextSpan;
 pub use tokens::space;

@@ -7,12 +7,12 @@ use crate::ranges::RangePiece;
 use crate::tokens::Cursor;
 use crate::tokens::NamePiece;
 use crate::tokens::Piece;
-use crate::tokens::Span;
+use crate::tokens::TextSpan;
 
 // A transition as the text tells it: the names of its states, and its range.
 pub struct Arrow {
-    pub from: Span,
-    pub to: Span,
+    pub from: TextSpan,
+    pub to: TextSpan,
     pub first: u32,
     pub last: u32,
 }
@@ -24,7 +24,7 @@ pub enum ArrowPiece {
 
 // What `accepting` answers: the first name, the cursor behind it from which the others go on, and the cursor behind the piece.
 pub enum AcceptingPiece {
-    Read(Span, Cursor, Cursor),
+    Read(TextSpan, Cursor, Cursor),
     Nothing,
 }
 

@@ -4,7 +4,7 @@ ghost use mathlib.Core.Bool.{cond};
 ghost use Prim.Native.Nat.{_^_, _<_};
 ghost use lib.Dec.{eqb};
 ghost use Rattle.grammar.specs.Grammar.{nothing, found, space, number, ends, range};
-ghost use Rattle.grammar.specs.inner.Pieces.{numberOf, rangeOf};
+ghost use Rattle.grammar.specs.inner.Pieces.{numberPieceOf, rangeOf};
 use crate::tokens::Cursor;
 use crate::tokens::Piece;
 
@@ -21,7 +21,7 @@ pub enum RangePiece {
 // The number v of the digits from start to at, of which there has to be one.
 fn digits_read(start: usize, at: usize, v: u64) -> NumberPiece
     requires { ⌜ v < 2 ^ 32 ⌝ }
-    ensures { λ r. ⌜ numberOf r ≡ cond (eqb at start) nothing (found v at) ⌝ }
+    ensures { λ r. ⌜ numberPieceOf r ≡ cond (eqb at start) nothing (found v at) ⌝ }
 {
     if at == start {
         return NumberPiece::Nothing;
@@ -31,7 +31,7 @@ fn digits_read(start: usize, at: usize, v: u64) -> NumberPiece
 
 // Digits, leading zeros allowed, that fit u32.
 fn number(text: &[u8], c: Cursor) -> NumberPiece
-    ensures { λ r. ⌜ numberOf r ≡ number (now (text .entry)) (c .at) ⌝ }
+    ensures { λ r. ⌜ numberPieceOf r ≡ number (now (text .entry)) (c .at) ⌝ }
 {
     let start = c.at;
     let mut at = start;
@@ -52,7 +52,7 @@ fn number(text: &[u8], c: Cursor) -> NumberPiece
 
 // A number behind optional space.
 fn spaced_number(text: &[u8], c: Cursor) -> NumberPiece
-    ensures { λ r. ⌜ numberOf r ≡ number (now (text .entry)) (space (now (text .entry)) (c .at)) ⌝ }
+    ensures { λ r. ⌜ numberPieceOf r ≡ number (now (text .entry)) (space (now (text .entry)) (c .at)) ⌝ }
 {
     number(text, crate::tokens::space(text, c))
 }

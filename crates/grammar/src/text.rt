@@ -8,14 +8,14 @@ use crate::pieces::AcceptingPiece;
 use crate::tokens::Cursor;
 use crate::tokens::NamePiece;
 use crate::tokens::Piece;
-use crate::tokens::Span;
+use crate::tokens::TextSpan;
 
 // Where the parts of a text stand: the name of the initial state, the cursors from which the transitions and the accepting
 // names behind the first one go on, and the first accepting name.
 pub struct Layout {
-    pub initial: Span,
+    pub initial: TextSpan,
     pub arrows: Cursor,
-    pub first: Span,
+    pub first: TextSpan,
     pub more: Cursor,
 }
 

@@ -12,7 +12,7 @@ pub struct Cursor {
 }
 
 // The bytes of a text from start to end.
-pub struct Span {
+pub struct TextSpan {
     pub start: usize,
     pub end: usize,
 }
@@ -24,7 +24,7 @@ pub enum Piece {
 }
 
 pub enum NamePiece {
-    Read(Span, Cursor),
+    Read(TextSpan, Cursor),
     Nothing,
 }
 
@@ -101,7 +101,7 @@ pub fn name(text: &[u8], c: Cursor) -> NamePiece
     if 64 < end - at {
         return NamePiece::Nothing;
     }
-    NamePiece::Read(Span { start: at, end }, Cursor { at: end })
+    NamePiece::Read(TextSpan { start: at, end }, Cursor { at: end })
 }
 
 // A word behind optional space.

@@ -8,11 +8,13 @@ use lib.ListN.{length}
 use Rattle.automata.specs.Automaton.{Transition}
 use Rattle.grammar.specs.Places.{spelled}
 use Rattle.grammar.specs.inner.Places.{Drawn, Spelt}
-use Rattle.grammar.specs.declared.tokens.Span.{Span}
+use Rattle.grammar.specs.declared.tokens.TextSpan.{TextSpan}
 use Rattle.grammar.specs.declared.pieces.Arrow.{Arrow}
 use Rattle.labels.specs.Labels.{sameLabel}
 use Rattle.lists.specs.Lists.{_∈_}
 use Rattle.lists.proofs.Index.{index-le, index-lt, index-before, index-behind, same-decides}
+use Rattle.name_table.specs.declared.Added.{Added}
+use Rattle.name_table.specs.declared.Added.the-variants.{Kept, Full}
 use Rattle.output.specs.declared.gathering.Filled.{Filled}
 use Rattle.output.specs.inner.Gathering.{Open, Held, Gathered}
 use Rattle.output.specs.inner.Ordered.{recordsIn}
@@ -21,13 +23,11 @@ use Rattle.search.proofs.Tables.{extends-length, meet-extends, meet-in, add-kno
 use Rattle.syntax.specs.Syntax.{Move}
 use Rattle.syntax.specs.Spelled.{spellMove}
 use Rattle.name_table.proofs.Finding.{names-count}
-use Rattle.parser.specs.Pattern.{bothNames, transitionOf}
+use Rattle.parser.specs.Pattern.{bothNames, transitionOfMove}
 use Rattle.parser.specs.inner.Arrows.{Entered, Entering, Noting, ArrowNoted}
-use Rattle.parser.specs.inner.Names.{Table, namesIn, Addition}
+use Rattle.parser.specs.inner.Names.{SpeltTable, namesIn, SpeltAddition}
 use Rattle.parser.specs.declared.arrows.Entry.{Entry}
 use Rattle.parser.specs.declared.arrows.Entry.the-variants.{At as EntryAt, Full as NoEntry}
-use Rattle.parser.specs.declared.names.Added.{Added}
-use Rattle.parser.specs.declared.names.Added.the-variants.{Kept, Full}
 use Rattle.parser.proofs.Tables.{added-table, added-names, added-full}
 
 -- the number of a name among names to which others are added
@@ -35,7 +35,7 @@ number-stays : (x : List ℕ) (xs T : List (List ℕ)) → x ∈ T → index sam
 number-stays x xs T m = let p = meet-extends sameLabel xs T in ap (index sameLabel x) (p .is) ∙ index-before sameLabel x T (p .rest) (index-lt sameLabel same-decides x m)
 
 -- and a transition between them
-pub transition-stays : (m : Move) (xs T : List (List ℕ)) → m .from ∈ T → m .to ∈ T → transitionOf T m ≡ transitionOf (meet sameLabel xs T) m
+pub transition-stays : (m : Move) (xs T : List (List ℕ)) → m .from ∈ T → m .to ∈ T → transitionOfMove T m ≡ transitionOfMove (meet sameLabel xs T) m
 transition-stays m xs T p q = rw (number-stays (m .from) xs T p, number-stays (m .to) xs T q)
 
 added-in : (x : List ℕ) (T : List (List ℕ)) → x ∈ add sameLabel x T
@@ -49,13 +49,13 @@ added-number x T h =
     e ∙ sym (ap (index sameLabel x) (add-new sameLabel x T h) ∙ index-behind sameLabel x x T h ∙ rw (same-decides .same-self x))
 
 -- a name whose number was sought
-module _ (text t : List ℕ) (n : ℕ) (k : Table text t n) (x : Span) (i : ℕ) (e : i ≡ index sameLabel (spelled text x) (namesIn text t n)) where
+module _ (text t : List ℕ) (n : ℕ) (k : SpeltTable text t n) (x : TextSpan) (i : ℕ) (e : i ≡ index sameLabel (spelled text x) (namesIn text t n)) where
   pub enter-known : i < n → Entered text (spelled text x) (namesIn text t n) t i n
   enter-known h =
       let q = add-known sameLabel (spelled text x) (namesIn text t n) (omega (arith, e, names-count text t n)) in
       record { table = k; names = sym q; number = e ∙ ap (index sameLabel (spelled text x)) (sym q) }
 
-  module _ (m : List ℕ) (r : Added) (a : Addition text (add sameLabel (spelled text x) (namesIn text t n)) m r) where
+  module _ (m : List ℕ) (r : Added) (a : SpeltAddition text (add sameLabel (spelled text x) (namesIn text t n)) m r) where
     pub enter-full : r ≡ Full → 256 < length (add sameLabel (spelled text x) (namesIn text t n))
     enter-full q = added-full _ _ m r a q
 
@@ -77,7 +77,7 @@ module _ (text x : List ℕ) (ls : List (List ℕ)) (t : List ℕ) (r : Entry) (
   pub entry-none : r ≡ NoEntry → 256 < length (add sameLabel x ls)
   entry-none e = subst (Entering text x ls t) e a
 
-  pub entry-table : (i n : ℕ) → r ≡ EntryAt i n → Table text t n
+  pub entry-table : (i n : ℕ) → r ≡ EntryAt i n → SpeltTable text t n
   entry-table i n e = entry-at i n e .table
 
 -- the record is put, unless there are too many

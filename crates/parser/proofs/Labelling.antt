@@ -15,7 +15,7 @@ use Rattle.lists.specs.Lists.{tabulate}
 use Rattle.stores.specs.Written.{Written}
 use Rattle.lists.proofs.Lists.{tabulate-end}
 use Rattle.name_table.proofs.Finding.{names-count}
-use Rattle.parser.specs.inner.Names.{spanAt, namesIn, Table}
+use Rattle.parser.specs.inner.Names.{spanAt, namesIn, SpeltTable}
 use Rattle.parser.proofs.Tables.{spelt-label}
 
 -- no name is written
@@ -24,7 +24,7 @@ unfolding namesIn tabulate
 names-none text t m i = list-none m i
 
 -- j of n names are written behind the count: l is the memory before, m after the count, o after the names
-module _ (text t : List ℕ) (n : ℕ) (k : Table text t n) (j : ℕ) where
+module _ (text t : List ℕ) (n : ℕ) (k : SpeltTable text t n) (j : ℕ) where
   pub name-there : j < n → Spelt text (spanAt t j)
   name-there h = k .spelt j h
 
@@ -51,7 +51,7 @@ module _ (text t : List ℕ) (n : ℕ) (k : Table text t n) (j : ℕ) where
         let e : j ≡ n = le-antisymm g h in
         subst (λ (v : ℕ). Written l 0 (writeLabels (namesIn text t v)) o at) e (list-done l m o (namesIn text t j) n i at c w (omega (arith, names-count text t j)))
 
-pub count-small : (text t : List ℕ) (n : ℕ) → Table text t n → n < 65536
+pub count-small : (text t : List ℕ) (n : ℕ) → SpeltTable text t n → n < 65536
 count-small text t n k = omega (arith, k .few)
 
 pub count-room : (l : List ℕ) → 16642 ≤ length l → 2 ≤ length l

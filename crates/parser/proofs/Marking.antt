@@ -13,7 +13,7 @@ use lib.Seq.{getD-set-same, getD-set-other, getD-take, ext-getD, length-take-le}
 use Rattle.grammar.specs.Grammar.{Items, nextName, nextNames}
 use Rattle.grammar.specs.Places.{spelled}
 use Rattle.grammar.specs.inner.Pieces.{nameOf}
-use Rattle.grammar.specs.declared.tokens.Span.{Span}
+use Rattle.grammar.specs.declared.tokens.TextSpan.{TextSpan}
 use Rattle.grammar.specs.declared.tokens.NamePiece.{NamePiece}
 use Rattle.grammar.specs.declared.tokens.NamePiece.the-variants.{Read as NameRead, Nothing as NoName}
 use Rattle.grammar.proofs.Many.{names-ended, names-more, names-less, name-spelt}
@@ -26,11 +26,11 @@ use Rattle.search.specs.Search.{index}
 use Rattle.name_table.proofs.Finding.{names-count}
 use Rattle.parser.specs.inner.Accepts.{markOne, markAll}
 use Rattle.parser.specs.inner.Memory.{Zeros}
-use Rattle.parser.specs.inner.Names.{Table, namesIn}
+use Rattle.parser.specs.inner.Names.{SpeltTable, namesIn}
 use Rattle.parser.specs.Pattern.{acceptWord}
 
 -- the state's word is marked, or there is none
-module _ (t b : List ℕ) (n : ℕ) (k : Table t b n) (x : Span) (ws : List ℕ) (i : ℕ) (e : i ≡ index sameLabel (spelled t x) (namesIn t b n)) where
+module _ (t b : List ℕ) (n : ℕ) (k : SpeltTable t b n) (x : TextSpan) (ws : List ℕ) (i : ℕ) (e : i ≡ index sameLabel (spelled t x) (namesIn t b n)) where
   pub mark-none : n ≤ i → ws ≡ markOne t (namesIn t b n) ws x
   unfolding markOne
   mark-none h = sym (rw (← e, names-count t b n, le-ltb i n h))
@@ -49,21 +49,21 @@ module _ (t : List ℕ) (at : ℕ) (p : NamePiece) (told : nameOf p ≡ nextName
     (i : markAll t ls ws (nextNames t at .items) ≡ all) where
   pub marks-ended : p ≡ NoName → ws ≡ all
   unfolding markAll
-  marks-ended h = sym (sym i ∙ ap (λ (m : Items Span). markAll t ls ws (m .items)) (names-ended t at p told h))
+  marks-ended h = sym (sym i ∙ ap (λ (m : Items TextSpan). markAll t ls ws (m .items)) (names-ended t at p told h))
 
-  pub marks-next : (x : Span) (next : ℕ) → p ≡ NameRead x (record { at = next }) → (m : List ℕ) → m ≡ markOne t ls ws x → markAll t ls m (nextNames t next .items) ≡ all
+  pub marks-next : (x : TextSpan) (next : ℕ) → p ≡ NameRead x (record { at = next }) → (m : List ℕ) → m ≡ markOne t ls ws x → markAll t ls m (nextNames t next .items) ≡ all
   unfolding markAll
-  marks-next x next h m q = sym (sym i ∙ ap (λ (k : Items Span). markAll t ls ws (k .items)) (names-more t at p told x (record { at = next }) h) ∙ ap (λ (v : List ℕ). markAll t ls v (nextNames t next .items)) (sym q))
+  marks-next x next h m q = sym (sym i ∙ ap (λ (k : Items TextSpan). markAll t ls ws (k .items)) (names-more t at p told x (record { at = next }) h) ∙ ap (λ (v : List ℕ). markAll t ls v (nextNames t next .items)) (sym q))
 
 pub ruleset marksLaws = (marks-ended, names-less, name-spelt, needs)
 
-pub marks-first : (t : List ℕ) (ls : List (List ℕ)) (ws m n : List ℕ) (x : Span) (xs : List Span) → m ≡ markOne t ls ws x → n ≡ markAll t ls m xs → n ≡ markAll t ls ws (x ∷ xs)
+pub marks-first : (t : List ℕ) (ls : List (List ℕ)) (ws m n : List ℕ) (x : TextSpan) (xs : List TextSpan) → m ≡ markOne t ls ws x → n ≡ markAll t ls m xs → n ≡ markAll t ls ws (x ∷ xs)
 unfolding markAll
 marks-first t ls ws m n x xs p q = q ∙ ap (λ (v : List ℕ). markAll t ls v xs) p
 
 module _ (t : List ℕ) (ls : List (List ℕ)) (d : Distinct ls) where
   -- one name marks the word of its state and no other
-  one-mark : (ws : List ℕ) (x : Span) (j : ℕ) → length ls ≤ length ws → j < length ls → getD (markOne t ls ws x) j 0 ≡ cond (sameLabel (getD ls j []) (spelled t x)) 1 (getD ws j 0)
+  one-mark : (ws : List ℕ) (x : TextSpan) (j : ℕ) → length ls ≤ length ws → j < length ls → getD (markOne t ls ws x) j 0 ≡ cond (sameLabel (getD ls j []) (spelled t x)) 1 (getD ws j 0)
   unfolding markOne
   one-mark ws x j g h = rw (index-same sameLabel same-decides [] (spelled t x) j d h) (go (index sameLabel (spelled t x) ls))
     where
@@ -76,7 +76,7 @@ module _ (t : List ℕ) (ls : List (List ℕ)) (d : Distinct ls) where
           (test (ltb i (length ls))))
           (test (eqb i j))
 
-  mark-length : (ws : List ℕ) (x : Span) → length (markOne t ls ws x) ≡ length ws
+  mark-length : (ws : List ℕ) (x : TextSpan) → length (markOne t ls ws x) ≡ length ws
   unfolding markOne
   mark-length ws x = go (ltb (index sameLabel (spelled t x) ls) (length ls))
     where
@@ -84,12 +84,12 @@ module _ (t : List ℕ) (ls : List (List ℕ)) (d : Distinct ls) where
       go true = length-set ws (index sameLabel (spelled t x) ls) 1
       go false = refl
 
-  pub marks-length : (ws : List ℕ) (xs : List Span) → length (markAll t ls ws xs) ≡ length ws
+  pub marks-length : (ws : List ℕ) (xs : List TextSpan) → length (markAll t ls ws xs) ≡ length ws
   unfolding markAll
   marks-length ws [] = refl
   marks-length ws (x ∷ xs) = marks-length (markOne t ls ws x) xs ∙ mark-length ws x
 
-  all-marks : (ws : List ℕ) (xs : List Span) (j : ℕ) → length ls ≤ length ws → j < length ls → getD (markAll t ls ws xs) j 0 ≡ cond (any (sameLabel (getD ls j [])) (map (spelled t) xs)) 1 (getD ws j 0)
+  all-marks : (ws : List ℕ) (xs : List TextSpan) (j : ℕ) → length ls ≤ length ws → j < length ls → getD (markAll t ls ws xs) j 0 ≡ cond (any (sameLabel (getD ls j [])) (map (spelled t) xs)) 1 (getD ws j 0)
   unfolding markAll any
   all-marks ws [] j g h = refl
   all-marks ws (x ∷ xs) j g h =
@@ -104,7 +104,7 @@ module _ (t : List ℕ) (ls : List (List ℕ)) (d : Distinct ls) where
       either false false w = refl
 
   -- the words are those of the states
-  pub marks-words : (ws : List ℕ) (xs : List Span) → Zeros 256 ws → length ls ≤ 256 → take (length ls) (markAll t ls ws xs) ≡ map (acceptWord (map (spelled t) xs)) ls
+  pub marks-words : (ws : List ℕ) (xs : List TextSpan) → Zeros 256 ws → length ls ≤ 256 → take (length ls) (markAll t ls ws xs) ≡ map (acceptWord (map (spelled t) xs)) ls
   unfolding acceptWord
   marks-words ws xs z g =
       let l : length (markAll t ls ws xs) ≡ 256 = marks-length ws xs ∙ z .long in

@@ -15,7 +15,7 @@ use Rattle.grammar.specs.Grammar.{space, transition, transitions, Items}
 use Rattle.grammar.specs.Places.{spelled}
 use Rattle.grammar.specs.inner.Pieces.{arrowOf}
 use Rattle.grammar.specs.declared.tokens.Cursor.{Cursor}
-use Rattle.grammar.specs.declared.tokens.Span.{Span}
+use Rattle.grammar.specs.declared.tokens.TextSpan.{TextSpan}
 use Rattle.grammar.specs.declared.pieces.Arrow.{Arrow}
 use Rattle.grammar.specs.declared.pieces.ArrowPiece.{ArrowPiece}
 use Rattle.grammar.specs.declared.pieces.ArrowPiece.the-variants.{Read as ArrowRead, Nothing as NoArrow}
@@ -24,6 +24,8 @@ use Rattle.labels.specs.Labels.{sameLabel}
 use Rattle.lists.specs.Lists.{_∈_, tabulate}
 use Rattle.lists.proofs.Index.{same-decides}
 use Rattle.lists.proofs.Tests.{test}
+use Rattle.name_table.specs.declared.Added.{Added}
+use Rattle.name_table.specs.declared.Added.the-variants.{Kept, Full}
 use Rattle.stores.specs.Written.{Written}
 use Rattle.stores.proofs.Written.{written-length}
 use Rattle.output.proofs.Halves.{inOrder-length}
@@ -35,9 +37,9 @@ use Rattle.search.specs.Search.{index, add, meet}
 use Rattle.search.proofs.Tables.{extends-length, meet-append, meet-extends, meet-in}
 use Rattle.syntax.specs.Syntax.{Move}
 use Rattle.syntax.specs.Spelled.{spellMove}
-use Rattle.parser.specs.Pattern.{bothNames, namesOf, transitionOf}
-use Rattle.parser.specs.inner.Arrows.{Noting, ArrowNoted, ArrowNoting, allNames, numbered, ReadInvariant, Fitting, ArrowsRead, StoppedAt, Beginning, Continuing}
-use Rattle.parser.specs.inner.Names.{Table, namesIn, Addition, kept, full}
+use Rattle.parser.specs.Pattern.{bothNames, namesOf, transitionOfMove}
+use Rattle.parser.specs.inner.Arrows.{Noting, ArrowNoted, ArrowNoting, allNames, numberedTransitions, ReadInvariant, Fitting, ArrowsRead, StoppedAt, Beginning, Continuing}
+use Rattle.parser.specs.inner.Names.{SpeltTable, namesIn, SpeltAddition, kept, full}
 use Rattle.parser.specs.inner.Places.{movesAt}
 use Rattle.parser.specs.declared.arrows.Arrows.{Arrows}
 use Rattle.parser.specs.declared.arrows.Begun.{Begun}
@@ -45,8 +47,6 @@ use Rattle.parser.specs.declared.arrows.Begun.the-variants.{Ended, Stopp
 use Rattle.parser.specs.declared.arrows.Stop.{Stop}
 use Rattle.parser.specs.declared.arrows.Noted.{Noted}
 use Rattle.parser.specs.declared.arrows.Noted.the-variants.{At as NotedAt, Full as NotNoted}
-use Rattle.parser.specs.declared.names.Added.{Added}
-use Rattle.parser.specs.declared.names.Added.the-variants.{Kept, Full}
 use Rattle.parser.proofs.Entering.{transition-stays}
 use Rattle.parser.proofs.Tables.{table-none, added-table, added-names, added-full}
 
@@ -69,9 +69,9 @@ note-few old new f g e h l n = ⊎-elim (λ (k : g .end < length new). k) (λ (k
         let v : length new / 9 * 8 / 5 ≡ length old / 45 * 8 = omega (arith, n .long) in
         omega (arith, length-append (recordsIn old 0 (f .end)) (e ∷ []), records-count old (f .sorted) (f .end) o)
 
-pub going-begin : (text t buf : List ℕ) (at n : ℕ) → Table text t n → Memory buf → ReadInvariant text at (namesIn text t n) t buf at n (record { sorted = 0; end = 0 })
+pub going-begin : (text t buf : List ℕ) (at n : ℕ) → SpeltTable text t n → Memory buf → ReadInvariant text at (namesIn text t n) t buf at n (record { sorted = 0; end = 0 })
 going-begin text t buf at n k h =
-    let r = rest-none buf h (numbered text at (allNames text at (namesIn text t n))) in
+    let r = rest-none buf h (numberedTransitions text at (allNames text at (namesIn text t n))) in
     record { table = k; place = refl; names = refl; held = record { memory = h; room = λ l. r .room }; left = λ l. r; over = λ l. absurd (omega (arith, h .some)) }
 
 -- what the answer of `note_arrow` says
@@ -83,7 +83,7 @@ module _ (text : List ℕ) (m : Move) (ls : List (List ℕ)) (t old : List ℕ) 
   noted-full e = subst (ArrowNoting text m ls t old f new) e a
 
 module _ (text : List ℕ) (start : ℕ) (ls : List (List ℕ)) (t buf : List ℕ) (at n : ℕ) (f : Filled) (g : ReadInvariant text start ls t buf at n f) where
-  pub going-table : Table text t n
+  pub going-table : SpeltTable text t n
   going-table = g .table
 
   pub going-held : Held buf (f .sorted) (f .end)
@@ -99,25 +99,25 @@ module _ (text : List ℕ) (start : ℕ) (ls : List (List ℕ)) (t buf : List �
       unfolding allNames meet namesOf flatMap
       ended-names = sym (sym (g .names) ∙ ap (λ (i : Items Arrow). meet sameLabel (namesOf (map (spellMove text) (i .items))) (namesIn text t n)) ended)
 
-      ended-gathered : Gathered buf (f .sorted) (f .end) (numbered text start (allNames text start ls))
-      unfolding numbered
+      ended-gathered : Gathered buf (f .sorted) (f .end) (numberedTransitions text start (allNames text start ls))
+      unfolding numberedTransitions
       ended-gathered =
           ⊎-elim
           (λ (l : f .end < length buf).
           rest-end buf (f .sorted) (f .end) _
-          (subst (λ (i : Items Arrow). Rest buf (f .sorted) (f .end) (map (transitionOf (allNames text start ls)) (map (spellMove text) (i .items))) (numbered text start (allNames text start ls))) ended (g .left l)))
+          (subst (λ (i : Items Arrow). Rest buf (f .sorted) (f .end) (map (transitionOfMove (allNames text start ls)) (map (spellMove text) (i .items))) (numberedTransitions text start (allNames text start ls))) ended (g .left l)))
           (λ (l : length buf ≤ f .end). record { held = g .held; same = λ k. absurd (omega arith); over = λ k. g .over k })
           (below-or (f .end) (length buf))
 
       pub going-ended : Fitting buf f → ArrowsRead text start ls t buf (record { behind = record { at = at }; added = Kept n; filled = f })
-      unfolding allNames numbered
+      unfolding allNames numberedTransitions
       going-ended u =
           record {
             behind = sym (ap (λ (i : Items Arrow). i .behind) ended) ∙ g .place;
             names = kept (g .table) ended-names;
             gathered = λ k e.
                 let q : n ≡ k = cc in
-                subst (λ (v : ℕ). Gathered buf (f .sorted) (f .end) (map (transitionOf (namesIn text t v)) (movesAt text start))) q (rw ended-names ended-gathered);
+                subst (λ (v : ℕ). Gathered buf (f .sorted) (f .end) (map (transitionOfMove (namesIn text t v)) (movesAt text start))) q (rw ended-names ended-gathered);
             fitting = λ k e. u;
           }
 
@@ -156,20 +156,20 @@ module _ (text : List ℕ) (start : ℕ) (ls : List (List ℕ)) (t buf : List �
 
         -- the record is that between the final numbers
         abbrev e′ : Transition
-        e′ = transitionOf (allNames text start ls) (spellMove text e)
+        e′ = transitionOfMove (allNames text start ls) (spellMove text e)
 
-        final : transitionOf (namesIn text m u) (spellMove text e) ≡ e′
+        final : transitionOfMove (namesIn text m u) (spellMove text e) ≡ e′
         unfolding allNames
         final =
             transition-stays (spellMove text e) (namesOf (movesAt text (next .at))) (namesIn text m u)
             (subst (λ (T : List (List ℕ)). spelled text (e .from) ∈ T) (sym (noted .names)) (meet-in sameLabel same-decides (bothNames (spellMove text e)) (namesIn text t n) _ (List·Memᴰ·head refl)))
             (subst (λ (T : List (List ℕ)). spelled text (e .to) ∈ T) (sym (noted .names)) (meet-in sameLabel same-decides (bothNames (spellMove text e)) (namesIn text t n) _ (List·Memᴰ·tail (List·Memᴰ·head refl))))
-            ∙ ap (λ (T : List (List ℕ)). transitionOf T (spellMove text e)) next-names
+            ∙ ap (λ (T : List (List ℕ)). transitionOfMove T (spellMove text e)) next-names
 
-        parts : f .end < length buf → Rest buf (f .sorted) (f .end) ((e′ ∷ []) ++ numbered text (next .at) (allNames text start ls)) (numbered text start (allNames text start ls))
-        unfolding numbered
+        parts : f .end < length buf → Rest buf (f .sorted) (f .end) ((e′ ∷ []) ++ numberedTransitions text (next .at) (allNames text start ls)) (numberedTransitions text start (allNames text start ls))
+        unfolding numberedTransitions
         parts l =
-            subst (λ (i : Items Arrow). Rest buf (f .sorted) (f .end) (map (transitionOf (allNames text start ls)) (map (spellMove text) (i .items))) (numbered text start (allNames text start ls))) moved
+            subst (λ (i : Items Arrow). Rest buf (f .sorted) (f .end) (map (transitionOfMove (allNames text start ls)) (map (spellMove text) (i .items))) (numberedTransitions text start (allNames text start ls))) moved
             (g .left l)
 
         put : f .end < length buf → Gathered new (d .sorted) (d .end) (recordsIn buf 0 (f .end) ++ e′ ∷ [])
@@ -207,16 +207,16 @@ pub ruleset goingLaws = (going-begin, going-table, going-held, going-ended, goin
 
 -- whatever was read with t₀ and buf₀ up to the place at₀ is read up to the place at
 pub record ReadOnInvariant (text t₀ buf₀ : List ℕ) (at₀ n₀ : ℕ) (f₀ : Filled) (t buf : List ℕ) (at n : ℕ) (f : Filled) : Type 0 where
-  pub table : Table text t n
+  pub table : SpeltTable text t n
   pub held : Held buf (f .sorted) (f .end)
   pub large : length buf ≡ 11520
   pub all : (start : ℕ) (ls : List (List ℕ)) → ReadInvariant text start ls t₀ buf₀ at₀ n₀ f₀ → ReadInvariant text start ls t buf at n f
 
-pub carry-begin : (text t buf : List ℕ) (at n : ℕ) (f : Filled) → Table text t n → Held buf (f .sorted) (f .end) → length buf ≡ 11520 → ReadOnInvariant text t buf at n f t buf at n f
+pub carry-begin : (text t buf : List ℕ) (at n : ℕ) (f : Filled) → SpeltTable text t n → Held buf (f .sorted) (f .end) → length buf ≡ 11520 → ReadOnInvariant text t buf at n f t buf at n f
 carry-begin text t buf at n f k h l = record { table = k; held = h; large = l; all = λ start ls g. g }
 
 module _ (text t₀ buf₀ : List ℕ) (at₀ n₀ : ℕ) (f₀ : Filled) (t buf : List ℕ) (at n : ℕ) (f : Filled) (g : ReadOnInvariant text t₀ buf₀ at₀ n₀ f₀ t buf at n f) where
-  pub carry-table : Table text t n
+  pub carry-table : SpeltTable text t n
   carry-table = g .table
 
   pub carry-held : Held buf (f .sorted) (f .end)
@@ -300,7 +300,7 @@ module _ (text : List ℕ) (at : ℕ) (ls : List (List ℕ)) (t small : List ℕ
   smaller : length small ≤ length big
   smaller = omega (arith, opened .packed .memory .most, length-replicate {A = ℕ} 11520 0)
 
-  pub more-table : Table text t (s .count)
+  pub more-table : SpeltTable text t (s .count)
   more-table = a .going .table
 
   pub more-held : Held m 0 (s .filled .end)
@@ -321,7 +321,7 @@ module _ (text : List ℕ) (at : ℕ) (ls : List (List ℕ)) (t buf : List ℕ) 
   begun-stopped s e = subst (Beginning text at ls t buf) e a
 
 -- the name of the initial state in an empty table
-module _ (text b m : List ℕ) (x : Span) (r : Added) (a : Addition text (add sameLabel (spelled text x) (namesIn text b 0)) m r) where
+module _ (text b m : List ℕ) (x : TextSpan) (r : Added) (a : SpeltAddition text (add sameLabel (spelled text x) (namesIn text b 0)) m r) where
   one-name : add sameLabel (spelled text x) (namesIn text b 0) ≡ spelled text x ∷ []
   unfolding add namesIn tabulate index
   one-name = refl

@@ -16,13 +16,14 @@ use Rattle.grammar.specs.inner.Parts.{opening, closing, toldFrom}
 use Rattle.grammar.specs.inner.Pieces.{nameOf, acceptingOf}
 use Rattle.grammar.specs.inner.Places.{Spelt, Laid}
 use Rattle.grammar.specs.declared.tokens.Cursor.{Cursor}
-use Rattle.grammar.specs.declared.tokens.Span.{Span}
+use Rattle.grammar.specs.declared.tokens.TextSpan.{TextSpan}
 use Rattle.grammar.specs.declared.tokens.NamePiece.{NamePiece}
 use Rattle.grammar.specs.declared.tokens.NamePiece.the-variants.{Read as NameRead, Nothing as NoName}
 use Rattle.grammar.specs.declared.pieces.AcceptingPiece.{AcceptingPiece}
 use Rattle.grammar.specs.declared.pieces.AcceptingPiece.the-variants.{Read as AcceptingRead, Nothing as NoAccepting}
 use Rattle.grammar.specs.declared.text.Layout.{Layout}
 use Rattle.grammar.proofs.Parts.{opens-nothing, opens-found, start-spelt, closes-nothing, closes-found, first-spelt}
+use Rattle.name_table.specs.declared.Added.the-variants.{Kept, Full}
 use Rattle.stores.specs.Written.{Written}
 use Rattle.stores.proofs.Written.{written-append}
 use Rattle.automata.specs.Automaton.{Transition}
@@ -48,14 +49,13 @@ use Rattle.name_table.proofs.Finding.{names-count}
 use Rattle.parser.specs.inner.Accepts.{markAll}
 use Rattle.parser.specs.inner.Arrows.{Fitting, ArrowsRead}
 use Rattle.parser.specs.inner.Memory.{Zeros}
-use Rattle.parser.specs.inner.Names.{Table, namesIn}
+use Rattle.parser.specs.inner.Names.{SpeltTable, namesIn}
 use Rattle.parser.specs.Parsed.{ReadLengths, parsed, parsedOf}
 use Rattle.parser.specs.inner.Records.{Recorded}
-use Rattle.parser.specs.Pattern.{namesOf, statesOf, transitionOf, acceptWord, automatonOf, patternOf, fewTransitions, meant, meaning, readingAnswer, parseAnswer}
+use Rattle.parser.specs.Pattern.{namesOf, statesOf, transitionOfMove, acceptWord, automatonOf, patternOf, fewTransitions, meant, meaning, readingAnswer, parseAnswer}
 use Rattle.parser.specs.inner.Places.{saidAt, movesAt, transitionsAt, patternAt}
 use Rattle.parser.specs.declared.Parsed.the-variants.{Read, Refused}
 use Rattle.parser.specs.declared.arrows.Arrows.{Arrows}
-use Rattle.parser.specs.declared.names.Added.the-variants.{Kept, Full}
 use Rattle.parser.proofs.ReadInvariant.{below-or}
 use Rattle.parser.proofs.Marking.{marks-words}
 use Rattle.parser.proofs.Tables.{added-table, added-names, added-full}
@@ -73,7 +73,7 @@ parsed-given o l o′ l′ n w k P p q =
     let b : k ≡ length (writeLabels (P .labels)) = omega (arith, q .behind) in
     rw (p .stored, a, q .stored, b)
 
-module _ (t : List ℕ) (l : Layout) (b : List ℕ) (i : ℕ) (k : Table t b i) where
+module _ (t : List ℕ) (l : Layout) (b : List ℕ) (i : ℕ) (k : SpeltTable t b i) where
   -- the accept words
   words-marked : (vs ws : List ℕ) → Zeros 256 vs → ws ≡ markAll t (namesIn t b i) vs (l .first ∷ nextNames t (l .more .at) .items) → take i ws ≡ map (acceptWord (map (spelled t) (l .first ∷ nextNames t (l .more .at) .items))) (namesIn t b i)
   words-marked vs ws z h =
@@ -92,7 +92,7 @@ module _ (t : List ℕ) (l : Layout) (b : List ℕ) (i : ℕ) (k : Table t b i) 
       parsed-given o n o′ n′ c w j (patternAt t l (namesIn t b i)) (rw (x, g .words, y, z) at p) q
 
 -- as many words as names
-module _ (t b : List ℕ) (i : ℕ) (k : Table t b i) (ws : List ℕ) (h : length ws ≡ 256) where
+module _ (t b : List ℕ) (i : ℕ) (k : SpeltTable t b i) (ws : List ℕ) (h : length ws ≡ 256) where
   pub words-counted : i ≡ length (take i ws)
   words-counted = sym (length-take-le i ws (omega (arith, k .few)))
 
@@ -103,9 +103,9 @@ pub gathered-held : (buf : List ℕ) (sorted end : ℕ) (es : List Transition) �
 gathered-held buf sorted end es g = g .held
 
 -- 22, or the pattern
-module _ (t : List ℕ) (l : Layout) (ls : List (List ℕ)) (old : List ℕ) (f : Filled) (g : Gathered old (f .sorted) (f .end) (map (transitionOf ls) (movesAt t (l .arrows .at))))
+module _ (t : List ℕ) (l : Layout) (ls : List (List ℕ)) (old : List ℕ) (f : Filled) (g : Gathered old (f .sorted) (f .end) (map (transitionOfMove ls) (movesAt t (l .arrows .at))))
     (buf : List ℕ) (end : ℕ) (s : Settled old (f .sorted) (f .end) buf end) where
-  a : Collected buf end (map (transitionOf ls) (movesAt t (l .arrows .at)))
+  a : Collected buf end (map (transitionOfMove ls) (movesAt t (l .arrows .at)))
   a = s .all _ g
 
   -- where the memory is not the largest, no more transitions are gathered than it is for
@@ -131,13 +131,13 @@ module _ (t : List ℕ) (l : Layout) (ls : List (List ℕ)) (old : List ℕ) (f 
     within-22 o n c x q = q ∙ sym (rw (le-ltb 2048 (length (transitionsAt t l ls)) (omega (arith, a .listed h .behind, a .memory .most))))
 
 -- 8, 21, or what follows: the initial state is x, the transitions go on from arrows, r is what was read of them and q what closes the text
-module _ (t : List ℕ) (x : Span) (arrows : Cursor) (b buf : List ℕ) (r : Arrows) (a : ArrowsRead t (arrows .at) (spelled t x ∷ []) b buf r)
+module _ (t : List ℕ) (x : TextSpan) (arrows : Cursor) (b buf : List ℕ) (r : Arrows) (a : ArrowsRead t (arrows .at) (spelled t x ∷ []) b buf r)
     (q : AcceptingPiece) (told : acceptingOf t q ≡ closing t (r .behind .at)) where
   pub open-8 : q ≡ NoAccepting → (o n : List ℕ) → parsedOf (Refused (Input Grammar)) o n ≡ parsed o n (meaning t (toldFrom t x (arrows .at)))
   unfolding parsed
   open-8 e o n = sym (ap (λ (f : ReadResult TextParts). parsed o n (meaning t f)) (closes-nothing t x arrows (r .behind .at) (a .behind) q told e))
 
-  module _ (first : Span) (more c : Cursor) (e : q ≡ AcceptingRead first more c) where
+  module _ (first : TextSpan) (more c : Cursor) (e : q ≡ AcceptingRead first more c) where
     abbrev l : Layout
     l = record { initial = x; arrows = arrows; first = first; more = more }
 
@@ -159,10 +159,10 @@ module _ (t : List ℕ) (x : Span) (arrows : Cursor) (b buf : List ℕ) (r : Arr
       names-states : namesIn t b i ≡ statesOf (saidAt t l)
       names-states = added-names _ _ b (r .added) (a .names) i f ∙ sym said-states
 
-      pub states-table : Table t b i
+      pub states-table : SpeltTable t b i
       states-table = added-table _ _ b (r .added) (a .names) i f
 
-      pub states-gathered : Gathered buf (r .filled .sorted) (r .filled .end) (map (transitionOf (namesIn t b i)) (movesAt t (arrows .at)))
+      pub states-gathered : Gathered buf (r .filled .sorted) (r .filled .end) (map (transitionOfMove (namesIn t b i)) (movesAt t (arrows .at)))
       states-gathered = a .gathered i f
 
       pub states-fitting : Fitting buf (r .filled)
@@ -187,7 +187,7 @@ module _ (t o n : List ℕ) (f : Bool) (room : f ≡ (ltb (length o) 10500 || lt
     unfolding parsed readingAnswer parseAnswer
     outside-8 e = sym (ap (parsed o n) (room-enough o n (readingAnswer t) f room h ∙ ap (meaning t) (opens-nothing t p told e)))
 
-    pub text-read : (x : Span) (c : Cursor) → p ≡ NameRead x c → (y : Outcome ReadLengths Outputs) → y ≡ parsed o n (meaning t (toldFrom t x (c .at))) → y ≡ parsed o n (parseAnswer t o n)
+    pub text-read : (x : TextSpan) (c : Cursor) → p ≡ NameRead x c → (y : Outcome ReadLengths Outputs) → y ≡ parsed o n (meaning t (toldFrom t x (c .at))) → y ≡ parsed o n (parseAnswer t o n)
     unfolding readingAnswer parseAnswer
     text-read x c e y q = q ∙ sym (ap (parsed o n) (room-enough o n (readingAnswer t) f room h ∙ ap (meaning t) (opens-found t p told x c e)))
 

@@ -26,7 +26,7 @@ use Rattle.search.proofs.Tables.{extends-in, extends-length, meet-extends, meet
 use Rattle.syntax.specs.Syntax as syntax
 use Rattle.syntax.specs.Syntax.{Name, named, Move, Said, Text, says}
 use Rattle.parser.specs.Moves.{IsMove}
-use Rattle.parser.specs.Pattern.{bothNames, namesOf, statesOf, transitionOf, acceptWord, automatonOf, patternOf, fewTransitions, meant}
+use Rattle.parser.specs.Pattern.{bothNames, namesOf, statesOf, transitionOfMove, acceptWord, automatonOf, patternOf, fewTransitions, meant}
 
 -- a name is a label
 name-label : {x : List ℕ} → Name x → Label x
@@ -38,11 +38,11 @@ pub record IsDrawn (m : Move) : Type 0 where
   pub to-label : Label (m .to)
   pub full : m .first ≤ m .last
 
-all-drawn : {u : List ℕ} {ms : List Move} → syntax.Transitions u ms → (m : Move) → m ∈ ms → IsDrawn m
-all-drawn syntax.Transitions.none m i = elim i [ ]
-all-drawn (syntax.Transitions.more g (syntax.moves a g₁ g₂ b g₃ g₄ v g₅ g₆ w h) r) m (List·Memᴰ·head q) =
+all-drawn : {u : List ℕ} {ms : List Move} → syntax.TransitionsText u ms → (m : Move) → m ∈ ms → IsDrawn m
+all-drawn syntax.TransitionsText.none m i = elim i [ ]
+all-drawn (syntax.TransitionsText.more g (syntax.moves a g₁ g₂ b g₃ g₄ v g₅ g₆ w h) r) m (List·Memᴰ·head q) =
     subst IsDrawn (sym q) (record { from-label = name-label a; to-label = name-label b; full = h })
-all-drawn (syntax.Transitions.more g e r) m (List·Memᴰ·tail i) = all-drawn r m i
+all-drawn (syntax.TransitionsText.more g e r) m (List·Memᴰ·tail i) = all-drawn r m i
 
 -- what a text says: its names are labels, and its ranges are not empty
 pub record Sayable (s : Said) : Type 0 where
@@ -90,7 +90,7 @@ module _ (s : Said) where
       }
 
   -- the text's transitions as those of the automaton, and back: a label's place is found by the label
-  pub is-move : (m : Move) → m ∈ s .moves → IsMove (statesOf s) (transitionOf (statesOf s) m) m
+  pub is-move : (m : Move) → m ∈ s .moves → IsMove (statesOf s) (transitionOfMove (statesOf s) m) m
   is-move m i =
       let from-in = names-in m i (m .from) (List·Memᴰ·head refl) in
       let to-in = names-in m i (m .to) (List·Memᴰ·tail (List·Memᴰ·head refl)) in
@@ -104,7 +104,7 @@ module _ (s : Said) where
         last = refl;
       }
 
-  pub move-is : (e : Transition) (m : Move) → IsMove (statesOf s) e m → transitionOf (statesOf s) m ≡ e
+  pub move-is : (e : Transition) (m : Move) → IsMove (statesOf s) e m → transitionOfMove (statesOf s) m ≡ e
   move-is e m k =
       let f : index sameLabel (m .from) (statesOf s) ≡ e .from = rw (← k .from-name) (index-place sameLabel same-decides [] states-distinct (e .from) (k .from-state)) in
       let g : index sameLabel (m .to) (statesOf s) ≡ e .to = rw (← k .to-name) (index-place sameLabel same-decides [] states-distinct (e .to) (k .to-state)) in
@@ -114,9 +114,9 @@ module _ (s : Said) where
       sym (rw (← f, ← g, a, b, c))
 
   -- a transition comes from one that the text says
-  pub origin : (e : Transition) → e ∈ automatonOf s (statesOf s) .transitions → (m : Move) × m ∈ s .moves × (e ≡ transitionOf (statesOf s) m)
+  pub origin : (e : Transition) → e ∈ automatonOf s (statesOf s) .transitions → (m : Move) × m ∈ s .moves × (e ≡ transitionOfMove (statesOf s) m)
   unfolding automatonOf
-  origin e i = map-out (transitionOf (statesOf s)) (s .moves) e (inOrder-out e _ i)
+  origin e i = map-out (transitionOfMove (statesOf s)) (s .moves) e (inOrder-out e _ i)
 
   number-below : (m : Move) → m ∈ s .moves → (x : List ℕ) → x ∈ bothNames m → index sameLabel x (statesOf s) < length (statesOf s)
   number-below m i x k = index-lt sameLabel same-decides x (names-in m i x k)
@@ -153,7 +153,7 @@ module _ (s : Said) where
       accept-words = accept-low (statesOf s);
       sound = λ e i. let o = origin e i in
           subst Sound (sym (o .2)) (record { known = omega arith; full = ok .drawn (o .0) (o .1) .full; blank = λ z. absurd (omega arith) });
-      ascends = inOrder-ascending (map (transitionOf (statesOf s)) (s .moves));
+      ascends = inOrder-ascending (map (transitionOfMove (statesOf s)) (s .moves));
     }
 
     -- the pattern can be written where it is within the limits

@@ -10,26 +10,24 @@ use borrow.Author.Needs.{needs}
 use lib.ListN.{length, getD, length-take, length-drop}
 use Rattle.grammar.specs.Places.{spelled}
 use Rattle.grammar.specs.inner.Places.{Spelt}
-use Rattle.grammar.specs.declared.tokens.Span.{Span}
+use Rattle.grammar.specs.declared.tokens.TextSpan.{TextSpan}
 use Rattle.labels.specs.Labels.{Label, sameLabel}
 use Rattle.lists.specs.Lists.{_∈_, tabulate}
 use Rattle.lists.proofs.Every.{tabulate-in, tabulate-out}
 use Rattle.lists.proofs.Index.{index-le}
+use Rattle.name_table.specs.declared.Added.{Added}
+use Rattle.name_table.specs.declared.Added.the-variants.{Kept, Full}
 use Rattle.name_table.specs.inner.Names.{nameAt, Inside}
 use Rattle.name_table.specs.inner.Names as Names
-use Rattle.name_table.specs.declared.Added as Answer
-use Rattle.name_table.specs.declared.Added.the-variants as Variants
 use Rattle.name_table.proofs.Adding as Adding
 use Rattle.search.specs.Search.{index, add, meet}
 use Rattle.search.proofs.Tables.{meet-out}
 use Rattle.name_table.proofs.Finding.{names-count}
 use Rattle.parser.specs.inner.Memory.{Zeros}
-use Rattle.parser.specs.inner.Names.{spanAt, namesIn, Table, Addition, kept, full}
-use Rattle.parser.specs.declared.names.Added.{Added}
-use Rattle.parser.specs.declared.names.Added.the-variants.{Kept, Full}
+use Rattle.parser.specs.inner.Names.{spanAt, namesIn, SpeltTable, SpeltAddition, kept, full}
 
 -- a name of a text is a label
-module _ (t : List ℕ) (x : Span) (p : Spelt t x) where
+module _ (t : List ℕ) (x : TextSpan) (p : Spelt t x) where
   pub spelt-label : Label (spelled t x)
   spelt-label =
       let n : length (spelled t x) ≡ x .end - x .start = simp (length-take, length-drop) (omega (arith, p .inside)) in
@@ -42,7 +40,7 @@ module _ (t : List ℕ) (x : Span) (p : Spelt t x) where
   spelt-inside = p .inside
 
 -- the table is one of crate `name_table`, in which each name is a label
-pub named : (text t : List ℕ) (n : ℕ) → Table text t n → Names.Table text t n
+pub named : (text t : List ℕ) (n : ℕ) → SpeltTable text t n → Names.Table text t n
 named text t n k =
     record {
       room = k .room;
@@ -52,7 +50,7 @@ named text t n k =
       arranged = k .arranged;
     }
 
-labelled : (text t : List ℕ) (n : ℕ) → Table text t n → (x : List ℕ) → x ∈ namesIn text t n → Label x
+labelled : (text t : List ℕ) (n : ℕ) → SpeltTable text t n → (x : List ℕ) → x ∈ namesIn text t n → Label x
 unfolding namesIn
 labelled text t n k x m = let r = tabulate-out n (nameAt text t) x m in rw (r .2) (spelt-label text (spanAt t (r .0)) (k .spelt (r .0) (r .1)))
 
@@ -62,7 +60,7 @@ label-spelt text t j i l =
     let n : length (nameAt text t j) ≡ getD t (768 + j) 0 - getD t (512 + j) 0 = simp (length-take, length-drop) (omega (arith, i .within)) in
     record { some = omega (arith, l .some); short = omega (arith, l .short); inside = i .within }
 
-labels-table : (text t : List ℕ) (n : ℕ) → Names.Table text t n → ((x : List ℕ) → x ∈ namesIn text t n → Label x) → Table text t n
+labels-table : (text t : List ℕ) (n : ℕ) → Names.Table text t n → ((x : List ℕ) → x ∈ namesIn text t n → Label x) → SpeltTable text t n
 labels-table text t n k l =
     record {
       room = k .room;
@@ -77,11 +75,11 @@ unfolding namesIn tabulate
 nowhere text t x m = List·Memᴰ·not-nil m
 
 -- a table without names
-pub table-none : (text t : List ℕ) → Zeros 1024 t → Table text t 0
+pub table-none : (text t : List ℕ) → Zeros 1024 t → SpeltTable text t 0
 table-none text t e = labels-table text t 0 (Adding.table-none text t (e .long)) (λ x m. absurd (nowhere text t x m))
 
 -- a name is added to a table
-module _ (text t : List ℕ) (n : ℕ) (k : Table text t n) (x : Span) (p : Spelt text x) (u : List ℕ) (r : Answer.Added)
+module _ (text t : List ℕ) (n : ℕ) (k : SpeltTable text t n) (x : TextSpan) (p : Spelt text x) (u : List ℕ) (r : Added)
     (a : Names.Addition text (add sameLabel (spelled text x) (namesIn text t n)) u r) where
   labels-added : (y : List ℕ) → y ∈ add sameLabel (spelled text x) (namesIn text t n) → Label y
   unfolding meet
@@ -89,41 +87,40 @@ module _ (text t : List ℕ) (n : ℕ) (k : Table text t n) (x : Span) (p : Spel
       ⊎-elim (labelled text t n k y) (λ l. let e : y ≡ spelled text x = List·Memᴰ·eq-of-singleton l in rw e (spelt-label text x p))
       (meet-out sameLabel (spelled text x ∷ []) (namesIn text t n) y m)
 
-  pub add-kept : (m : ℕ) → r ≡ Variants.Kept m → Addition text (add sameLabel (spelled text x) (namesIn text t n)) u (Kept m)
-  add-kept m e =
-      let h = Adding.added-names text _ u r a m e in
-      kept (labels-table text u m (Adding.added-table text _ u r a m e) (λ y l. labels-added y (subst (λ (ls : List (List ℕ)). y ∈ ls) h l))) h
+  pub spelt-addition : SpeltAddition text (add sameLabel (spelled text x) (namesIn text t n)) u r
+  spelt-addition = by-case a
+    where
+      by-case : {v : Added} → Names.Addition text (add sameLabel (spelled text x) (namesIn text t n)) u v → SpeltAddition text (add sameLabel (spelled text x) (namesIn text t n)) u v
+      by-case (Names.kept {n = m} j h) = kept (labels-table text u m j (λ y l. labels-added y (subst (λ (ls : List (List ℕ)). y ∈ ls) h l))) h
+      by-case (Names.full h) = full h
 
-  pub add-full : r ≡ Variants.Full → Addition text (add sameLabel (spelled text x) (namesIn text t n)) u Full
-  add-full e = full (Adding.added-full text _ u r a e)
-
-pub ruleset addLaws = (named, spelt-order, spelt-inside, add-kept, add-full, needs)
+pub ruleset addLaws = (named, spelt-order, spelt-inside, spelt-addition, needs)
 
 -- the number of a name fits a word
-pub number-fits : (text t : List ℕ) (n : ℕ) → Table text t n → (x : List ℕ) (i : ℕ) → i ≡ index sameLabel x (namesIn text t n) → Fits w32 i
+pub number-fits : (text t : List ℕ) (n : ℕ) → SpeltTable text t n → (x : List ℕ) (i : ℕ) → i ≡ index sameLabel x (namesIn text t n) → Fits w32 i
 number-fits text t n k x i e = record { fits = omega (arith, e, index-le sameLabel x (namesIn text t n), names-count text t n, k .few) }
 
 pub ruleset numberLaws = (named, number-fits, spelt-order, spelt-inside, needs)
 
 -- what an addition says by its answer
-module _ (text : List ℕ) (ls : List (List ℕ)) (t : List ℕ) (r : Added) (a : Addition text ls t r) where
-  pub added-table : (n : ℕ) → r ≡ Kept n → Table text t n
+module _ (text : List ℕ) (ls : List (List ℕ)) (t : List ℕ) (r : Added) (a : SpeltAddition text ls t r) where
+  pub added-table : (n : ℕ) → r ≡ Kept n → SpeltTable text t n
   added-table n e = elim-kept a e
     where
-      elim-kept : {r : Added} → Addition text ls t r → r ≡ Kept n → Table text t n
-      elim-kept (kept {n = u} k h) e = let q : u ≡ n = cc in subst (Table text t) q k
+      elim-kept : {r : Added} → SpeltAddition text ls t r → r ≡ Kept n → SpeltTable text t n
+      elim-kept (kept {n = u} k h) e = let q : u ≡ n = cc in subst (SpeltTable text t) q k
       elim-kept (full h) e = let z : _≡_ {A = ℕ} 0 1 = cc in absurd (omega arith)
 
   pub added-names : (n : ℕ) → r ≡ Kept n → namesIn text t n ≡ ls
   added-names n e = elim-kept a e
     where
-      elim-kept : {r : Added} → Addition text ls t r → r ≡ Kept n → namesIn text t n ≡ ls
+      elim-kept : {r : Added} → SpeltAddition text ls t r → r ≡ Kept n → namesIn text t n ≡ ls
       elim-kept (kept {n = u} k h) e = let q : u ≡ n = cc in subst (λ (v : ℕ). namesIn text t v ≡ ls) q h
       elim-kept (full h) e = let z : _≡_ {A = ℕ} 0 1 = cc in absurd (omega arith)
 
   pub added-full : r ≡ Full → 256 < length ls
   added-full e = elim-full a e
     where
-      elim-full : {r : Added} → Addition text ls t r → r ≡ Full → 256 < length ls
+      elim-full : {r : Added} → SpeltAddition text ls t r → r ≡ Full → 256 < length ls
       elim-full (kept k h) e = let z : _≡_ {A = ℕ} 0 1 = cc in absurd (omega arith)
       elim-full (full h) e = h

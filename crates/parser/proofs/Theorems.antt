@@ -38,7 +38,7 @@ use Rattle.syntax.specs.Syntax.{Move, Said, Text, BeginsWith}
 use Rattle.syntax.proofs.Theorems.{front}
 use Rattle.parser.specs.Moves.{IsMove}
 use Rattle.parser.specs.Parsed.{parsed, parsedOf, parsedNumber}
-use Rattle.parser.specs.Pattern.{bothNames, namesOf, statesOf, transitionOf, acceptWord, automatonOf, patternOf, readingAnswer, parseAnswer}
+use Rattle.parser.specs.Pattern.{bothNames, namesOf, statesOf, transitionOfMove, acceptWord, automatonOf, patternOf, readingAnswer, parseAnswer}
 use Rattle.parser.specs.declared.Parsed.{Parsed}
 use Rattle.parser.specs.declared.Parsed.the-variants.{Read}
 use Rattle.parser.proofs.Appearance.{meet-order}
@@ -86,8 +86,8 @@ module _ (s : Said) where
   unfolding automatonOf
   parse-transitions e = (
     λ i. let o = origin s e i in (o .0, o .1, subst (λ (d : Transition). IsMove (statesOf s) d (o .0)) (sym (o .2)) (is-move s (o .0) (o .1))),
-    λ h. subst (λ (d : Transition). d ∈ inOrder (map (transitionOf (statesOf s)) (s .moves))) (move-is s e (h .0) (h .2))
-        (inOrder-in (map-in (transitionOf (statesOf s)) (h .1))),
+    λ h. subst (λ (d : Transition). d ∈ inOrder (map (transitionOfMove (statesOf s)) (s .moves))) (move-is s e (h .0) (h .2))
+        (inOrder-in (map-in (transitionOfMove (statesOf s)) (h .1))),
   )
 
   -- a state accepts exactly where its label is among the accepting names

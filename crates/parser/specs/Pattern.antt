@@ -28,8 +28,8 @@ unfoldable pub statesOf : Said → List (List ℕ)
 statesOf s = meet sameLabel (namesOf (s .moves)) (s .start ∷ [])
 
 -- a transition between the numbers of its states
-abbrev pub transitionOf : List (List ℕ) → Move → Transition
-transitionOf ls m = record { from = index sameLabel (m .from) ls; kind = 1; first = m .first; last = m .last; to = index sameLabel (m .to) ls }
+abbrev pub transitionOfMove : List (List ℕ) → Move → Transition
+transitionOfMove ls m = record { from = index sameLabel (m .from) ls; kind = 1; first = m .first; last = m .last; to = index sameLabel (m .to) ls }
 
 -- 1 where l is one of the accepting names
 unfoldable pub acceptWord : List (List ℕ) → List ℕ → ℕ
@@ -41,7 +41,7 @@ automatonOf s ls = record {
   size = length ls;
   start = 0;
   accept = map (acceptWord (s .accepts)) ls;
-  transitions = inOrder (map (transitionOf ls) (s .moves));
+  transitions = inOrder (map (transitionOfMove ls) (s .moves));
 }
 
 -- the automaton that a text means, with the names of its states for labels

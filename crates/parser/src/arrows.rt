@@ -9,12 +9,12 @@ ghost use Rattle.output.specs.inner.Gathering.{Memory, Held};
 ghost use Rattle.syntax.specs.Spelled.{spellMove};
 ghost use Rattle.parser.specs.inner.Arrows.{Entering, Noting, ArrowNoting, Beginning, Continuing};
 ghost use Rattle.parser.specs.inner.Memory.{Zeros};
-ghost use Rattle.parser.specs.inner.Names.{Table, namesIn};
-use crate::names::Added;
+ghost use Rattle.parser.specs.inner.Names.{SpeltTable, namesIn};
 use grammar::Arrow;
 use grammar::ArrowPiece;
 use grammar::Cursor;
-use grammar::Span;
+use grammar::TextSpan;
+use name_table::Added;
 use output::Filled;
 
 // The answer of entering a name: its number and how many names the table has, or that there would be over 256.
@@ -50,8 +50,8 @@ pub enum Begun {
 }
 
 // The number of the name that stands in the text, which goes behind the others unless it is one of them.
-fn enter(text: &[u8], t: &mut [usize], n: usize, x: Span) -> Entry
-    requires { ⌜ Table (now text) (now t) n × Spelt (now text) x ⌝ }
+fn enter(text: &[u8], t: &mut [usize], n: usize, x: TextSpan) -> Entry
+    requires { ⌜ SpeltTable (now text) (now t) n × Spelt (now text) x ⌝ }
     ensures { λ r. ⌜ Entering (now (text .entry)) (spelled (now (text .entry)) x) (namesIn (now (text .entry)) (now (t .entry)) n) (now (t .exit)) r ⌝ }
 {
     let i = crate::names::number_of(text, t, n, x);
@@ -77,7 +77,7 @@ fn note(buf: &mut [u32], f: Filled, from: u32, first: u32, last: u32, to: u32) -
 
 // The names and the record of a transition.
 fn note_arrow(text: &[u8], e: Arrow, t: &mut [usize], n: usize, buf: &mut [u32], f: Filled) -> Noted
-    requires { ⌜ Table (now text) (now t) n × Drawn (now text) e × Held (now buf) (f .sorted) (f .end) ⌝ }
+    requires { ⌜ SpeltTable (now text) (now t) n × Drawn (now text) e × Held (now buf) (f .sorted) (f .end) ⌝ }
     ensures { λ r. ⌜ ArrowNoting (now (text .entry)) (spellMove (now (text .entry)) e) (namesIn (now (text .entry)) (now (t .entry)) n) (now (t .exit)) (now (buf .entry)) f (now (buf .exit)) r ⌝ }
 {
     let Entry::At(from, m) = enter(text, t, n, e.from) else {
@@ -93,7 +93,7 @@ fn note_arrow(text: &[u8], e: Arrow, t: &mut [usize], n: usize, buf: &mut [u32],
 // The names and the records of the transitions from a cursor on, until all of the memory but the ninth part for those that come is filled. Where the names are too many the others are only
 // read.
 fn read_first(text: &[u8], c: Cursor, t: &mut [usize], n: usize, buf: &mut [u32]) -> Begun
-    requires { ⌜ Table (now text) (now t) n × Memory (now buf) ⌝ }
+    requires { ⌜ SpeltTable (now text) (now t) n × Memory (now buf) ⌝ }
     ensures { λ r. ⌜ Beginning (now (text .entry)) (c .at) (namesIn (now (text .entry)) (now (t .entry)) n) (now (t .exit)) (now (buf .exit)) r ⌝ }
 {
     let mut at = c.at;
@@ -127,7 +127,7 @@ fn read_first(text: &[u8], c: Cursor, t: &mut [usize], n: usize, buf: &mut [u32]
 }
 
 // The same behind the name of the initial state, which comes first.
-pub fn read_states(text: &[u8], x: Span, c: Cursor, t: &mut [usize], buf: &mut [u32]) -> Begun
+pub fn read_states(text: &[u8], x: TextSpan, c: Cursor, t: &mut [usize], buf: &mut [u32]) -> Begun
     requires { ⌜ Spelt (now text) x × Zeros 1024 (now t) × Memory (now buf) ⌝ }
     ensures { λ r. ⌜ Beginning (now (text .entry)) (c .at) (spelled (now (text .entry)) x ∷ []) (now (t .exit)) (now (buf .exit)) r ⌝ }
 {
@@ -150,7 +150,7 @@ pub fn read_rest(
     buf: &mut [u32],
     f: Filled,
 ) -> Arrows
-    requires { ⌜ Table (now text) (now t) n × Held (now buf) (f .sorted) (f .end) × (length (now buf) ≡ 11520) ⌝ }
+    requires { ⌜ SpeltTable (now text) (now t) n × Held (now buf) (f .sorted) (f .end) × (length (now buf) ≡ 11520) ⌝ }
     ensures { λ r. ⌜ Continuing (now (text .entry)) (now (t .entry)) (now (buf .entry)) (c .at) n f (now (t .exit)) (now (buf .exit)) r ⌝ }
 {
     let mut at = c.at;

@@ -12,10 +12,10 @@ ghost use Rattle.output.specs.inner.Gathering.{Memory, Gathered};
 ghost use Rattle.refusal.specs.Answer.{given};
 ghost use Rattle.parser.specs.inner.Arrows.{Fitting, ArrowsRead, StoppedAt};
 ghost use Rattle.parser.specs.inner.Memory.{Zeros};
-ghost use Rattle.parser.specs.inner.Names.{spanAt, namesIn, Table};
+ghost use Rattle.parser.specs.inner.Names.{spanAt, namesIn, SpeltTable};
 ghost use Rattle.parser.specs.inner.Records.{Recorded};
 ghost use Rattle.parser.specs.Parsed.{parsedOf, parsed};
-ghost use Rattle.parser.specs.Pattern.{transitionOf, fewTransitions, meaning, parseAnswer};
+ghost use Rattle.parser.specs.Pattern.{transitionOfMove, fewTransitions, meaning, parseAnswer};
 ghost use Rattle.parser.specs.inner.Places.{movesAt, transitionsAt, patternAt};
 ghost use Rattle.output.specs.Output.{labelsSize, sheetSize};
 use arrows::Arrows;
@@ -25,8 +25,8 @@ use grammar::AcceptingPiece;
 use grammar::Cursor;
 use grammar::Layout;
 use grammar::NamePiece;
-use grammar::Span;
-use names::Added;
+use grammar::TextSpan;
+use name_table::Added;
 use output::Filled;
 use refusal::InputRefusal;
 use refusal::Refusal;
@@ -65,7 +65,7 @@ fn put_name(names: &mut [u8], at: usize, text: &[u8], t: &[usize], j: usize) -> 
 
 // The label list with the names of a table.
 fn write_labels(names: &mut [u8], text: &[u8], t: &[usize], n: usize) -> usize
-    requires { ⌜ Table (now text) (now t) n × (labelsSize ≤ length (now names)) ⌝ }
+    requires { ⌜ SpeltTable (now text) (now t) n × (labelsSize ≤ length (now names)) ⌝ }
     ensures { λ r. ⌜ Written (now (names .entry)) 0 (writeLabels (namesIn (now (text .entry)) (now (t .entry)) n)) (now (names .exit)) r ⌝ }
 {
     let mut at = labels::put_count(names, n);
@@ -89,7 +89,7 @@ fn write_pattern(
     out: &mut [u32],
     names: &mut [u8],
 ) -> Parsed
-    requires { ⌜ Table (now text) (now t) n × Laid (now text) l ⌝ }
+    requires { ⌜ SpeltTable (now text) (now t) n × Laid (now text) l ⌝ }
     requires { ⌜ Recorded (now records) (transitionsAt (now text) l (namesIn (now text) (now t) n)) × Zeros 256 (now words) ⌝ }
     requires { ⌜ (sheetSize ≤ length (now out)) × (labelsSize ≤ length (now names)) ⌝ }
     ensures { λ r. ⌜ parsedOf r (now (out .exit)) (now (names .exit)) ≡ parsed (now (out .entry)) (now (names .entry)) (given (record { pattern = patternAt (now (text .entry)) l (namesIn (now (text .entry)) (now (t .entry)) n); read = c .at })) ⌝ }
@@ -113,9 +113,9 @@ fn with_names(
     out: &mut [u32],
     names: &mut [u8],
 ) -> Parsed
-    requires { ⌜ Table (now text) (now t) n × Laid (now text) l ⌝ }
+    requires { ⌜ SpeltTable (now text) (now t) n × Laid (now text) l ⌝ }
     requires { ⌜ Fitting (now buf) f ⌝ }
-    requires { ⌜ Gathered (now buf) (f .sorted) (f .end) (map (transitionOf (namesIn (now text) (now t) n)) (movesAt (now text) (l .arrows .at))) × Zeros 256 (now words) ⌝ }
+    requires { ⌜ Gathered (now buf) (f .sorted) (f .end) (map (transitionOfMove (namesIn (now text) (now t) n)) (movesAt (now text) (l .arrows .at))) × Zeros 256 (now words) ⌝ }
     requires { ⌜ (sheetSize ≤ length (now out)) × (labelsSize ≤ length (now names)) ⌝ }
     ensures { λ r. ⌜ parsedOf r (now (out .exit)) (now (names .exit)) ≡ parsed (now (out .entry)) (now (names .entry)) (fewTransitions (patternAt (now (text .entry)) l (namesIn (now (text .entry)) (now (t .entry)) n)) (c .at)) ⌝ }
 {
@@ -130,7 +130,7 @@ fn with_names(
 // before it is said that there are too many states or transitions.
 fn with_read(
     text: &[u8],
-    x: Span,
+    x: TextSpan,
     arrows: Cursor,
     read: Arrows,
     t: &[usize],
@@ -162,7 +162,7 @@ fn with_read(
 // The same of a text whose transitions were read up to a stop: the records move to the largest memory, and the others follow.
 fn with_more(
     text: &[u8],
-    x: Span,
+    x: TextSpan,
     arrows: Cursor,
     s: Stop,
     t: &mut [usize],
@@ -192,7 +192,7 @@ fn with_more(
 // The same of a text whose transitions are not read yet, by tables that are lent.
 fn with_tables(
     text: &[u8],
-    x: Span,
+    x: TextSpan,
     arrows: Cursor,
     t: &mut [usize],
     buf: &mut [u32],
@@ -212,7 +212,7 @@ fn with_tables(
 }
 
 // The same by tables of its own.
-fn from_start(text: &[u8], x: Span, arrows: Cursor, out: &mut [u32], names: &mut [u8]) -> Parsed
+fn from_start(text: &[u8], x: TextSpan, arrows: Cursor, out: &mut [u32], names: &mut [u8]) -> Parsed
     requires { ⌜ Spelt (now text) x ⌝ }
     requires { ⌜ (sheetSize ≤ length (now out)) × (labelsSize ≤ length (now names)) ⌝ }
     ensures { λ r. ⌜ parsedOf r (now (out .exit)) (now (names .exit)) ≡ parsed (now (out .entry)) (now (names .entry)) (meaning (now (text .entry)) (toldFrom (now (text .entry)) x (arrows .at))) ⌝ }

@@ -4,18 +4,13 @@ ghost use Rattle.grammar.specs.Places.{spelled};
 ghost use Rattle.grammar.specs.inner.Places.{Spelt};
 ghost use Rattle.labels.specs.Labels.{sameLabel};
 ghost use Rattle.search.specs.Search.{index, add};
-ghost use Rattle.parser.specs.inner.Names.{namesIn, Table, Addition};
-use grammar::Span;
-
-// The answer of adding names: how many the table has, or that there would be over 256.
-pub enum Added {
-    Kept(usize),
-    Full,
-}
+ghost use Rattle.parser.specs.inner.Names.{namesIn, SpeltTable, SpeltAddition};
+use grammar::TextSpan;
+use name_table::Added;
 
 // The number of the state that the text names.
-pub fn number_of(text: &[u8], t: &[usize], n: usize, x: Span) -> u32
-    requires { ⌜ Table (now text) (now t) n × Spelt (now text) x ⌝ }
+pub fn number_of(text: &[u8], t: &[usize], n: usize, x: TextSpan) -> u32
+    requires { ⌜ SpeltTable (now text) (now t) n × Spelt (now text) x ⌝ }
     ensures { λ r. ⌜ r ≡ index sameLabel (spelled (now (text .entry)) x) (namesIn (now (text .entry)) (now (t .entry)) n) ⌝ }
 {
     let first = x.start;
@@ -24,12 +19,9 @@ pub fn number_of(text: &[u8], t: &[usize], n: usize, x: Span) -> u32
 }
 
 // The name that stands in the text behind the others, unless it is one of them.
-pub fn add_name(text: &[u8], t: &mut [usize], n: usize, x: Span) -> Added
-    requires { ⌜ Table (now text) (now t) n × Spelt (now text) x ⌝ }
-    ensures { λ r. ⌜ Addition (now (text .entry)) (add sameLabel (spelled (now (text .entry)) x) (namesIn (now (text .entry)) (now (t .entry)) n)) (now (t .exit)) r ⌝ }
+pub fn add_name(text: &[u8], t: &mut [usize], n: usize, x: TextSpan) -> Added
+    requires { ⌜ SpeltTable (now text) (now t) n × Spelt (now text) x ⌝ }
+    ensures { λ r. ⌜ SpeltAddition (now (text .entry)) (add sameLabel (spelled (now (text .entry)) x) (namesIn (now (text .entry)) (now (t .entry)) n)) (now (t .exit)) r ⌝ }
 {
-    let name_table::Added::Kept(m) = name_table::add(text, t, n, x.start, x.end) else {
-        return Added::Full;
-    };
-    Added::Kept(m)
+    name_table::add(text, t, n, x.start, x.end)
 }

@@ -25,8 +25,8 @@ use Rattle.sheets.specs.declared.Checked.the-variants as sheets
 use Rattle.sheets.proofs.Accepted.{check-accepted}
 use Rattle.sheets.proofs.Checking.{sheet-passed, sheet-refused}
 use Rattle.subautomaton.specs.Inclusion.{isSubautomaton}
-use Rattle.subautomaton.specs.inner.Tables.{Inputs}
-use Rattle.subautomaton.specs.Answer.{patternOf, subautomatonAnswer}
+use Rattle.subautomaton.specs.inner.Tables.{LabelledSheets}
+use Rattle.subautomaton.specs.Answer.{readPattern, subautomatonAnswer}
 
 pub count-inside : (s : List ℕ) → Accepted s → 2 < length s
 count-inside s a = omega (arith, a .whole)
@@ -55,7 +55,7 @@ module _ (a al b bl : List ℕ) (r : Checked) (e : checkedNumber r ≡ fault a) 
         second-labels-faulty i n = sym (sheet-passed a _ r e h ∙ sheet-passed b _ q f g ∙ labels-passed (stateCount a) al _ s k l ∙ labels-refused (stateCount b) bl _ t m i n)
 
         module _ (n : t ≡ labels.Accepted) where
-          pub inputs-passed : Inputs a al b bl
+          pub inputs-passed : LabelledSheets a al b bl
           inputs-passed = record {
             first = check-accepted r a e h;
             second = check-accepted q b f g;
@@ -63,7 +63,7 @@ module _ (a al b bl : List ℕ) (r : Checked) (e : checkedNumber r ≡ fault a) 
             second-labels = labels-accepted (stateCount b) bl t m n;
           }
 
-          pub answered : (x : Bool) → x ≡ isSubautomaton (patternOf a al) (patternOf b bl) → given x ≡ subautomatonAnswer a al b bl
+          pub answered : (x : Bool) → x ≡ isSubautomaton (readPattern a al) (readPattern b bl) → given x ≡ subautomatonAnswer a al b bl
           unfolding subautomatonAnswer
           answered x o = ap given o ∙ sym (sheet-passed a _ r e h ∙ sheet-passed b _ q f g ∙ labels-passed (stateCount a) al _ s k l ∙ labels-passed (stateCount b) bl _ t m n)
 

@@ -16,7 +16,7 @@ use Rattle.labels.proofs.Places.{place-first, place-next}
 use Rattle.lists.specs.Lists.{tabulate}
 use Rattle.name_table.specs.declared.Added.{Added}
 use Rattle.name_table.specs.declared.Added.the-variants.{Kept, Full}
-use Rattle.name_table.specs.inner.Names.{part, namesIn, Table, Addition}
+use Rattle.name_table.specs.inner.Names.{slice, namesIn, Table, Addition}
 use Rattle.name_table.proofs.Adding.{table-none, added-table, added-names, added-full}
 use Rattle.name_table.proofs.Finding.{names-count}
 use Rattle.search.specs.Search.{add, meet}
@@ -50,17 +50,17 @@ module _ (b t : List ℕ) (m n i at : ℕ) (ok : labelsFault m b ≡ 0) (p : at 
     pub enter-place : next ≡ labelPlace b (i + 1)
     enter-place = e ∙ rw p (sym (place-next b i))
 
-    label : part b (at + 1) next ≡ getD (readLabels b) i []
-    label = label-is b m at i ok p (part b (at + 1) next) h (rw (e, add-sub-cancel-left))
+    label : slice b (at + 1) next ≡ getD (readLabels b) i []
+    label = label-is b m at i ok p (slice b (at + 1) next) h (rw (e, add-sub-cancel-left))
 
-    here : drop i (readLabels b) ≡ part b (at + 1) next ∷ drop (i + 1) (readLabels b)
+    here : drop i (readLabels b) ≡ slice b (at + 1) next ∷ drop (i + 1) (readLabels b)
     here =
         drop-cons (readLabels b) i [] (omega (arith, length-read m b ok)) ∙ ap (λ (x : List ℕ). x ∷ drop (suc i) (readLabels b)) (sym label)
-        ∙ ap (λ (j : ℕ). part b (at + 1) next ∷ drop j (readLabels b)) (sym (add-one i))
+        ∙ ap (λ (j : ℕ). slice b (at + 1) next ∷ drop j (readLabels b)) (sym (add-one i))
 
-    module _ (u : List ℕ) (r : Added) (a : Addition b (add sameLabel (part b (at + 1) next) (namesIn b t n)) u r) where
-      short : length (add sameLabel (part b (at + 1) next) (namesIn b t n)) ≤ i + 1
-      short = omega (arith, add-length sameLabel (part b (at + 1) next) (namesIn b t n), names-count b t n, k .few)
+    module _ (u : List ℕ) (r : Added) (a : Addition b (add sameLabel (slice b (at + 1) next) (namesIn b t n)) u r) where
+      short : length (add sameLabel (slice b (at + 1) next) (namesIn b t n)) ≤ i + 1
+      short = omega (arith, add-length sameLabel (slice b (at + 1) next) (namesIn b t n), names-count b t n, k .few)
 
       pub enter-next : (v : ℕ) → r ≡ Kept v → Entered b u v (i + 1)
       unfolding meet

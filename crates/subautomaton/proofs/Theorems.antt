@@ -32,7 +32,7 @@ use Rattle.sheets.specs.Fault.{fault}
 use Rattle.sheets.specs.Sheet.{stateCount}
 use Rattle.sheets.proofs.Decisions.{number-some, call-is, call-refused, sheet-either, given-not}
 use Rattle.sheets.proofs.Numbers.{sheet-given, sheet-number, sheet-fault}
-use Rattle.subautomaton.specs.Answer.{patternOf, subautomatonAnswer}
+use Rattle.subautomaton.specs.Answer.{readPattern, subautomatonAnswer}
 use Rattle.subautomaton.specs.Inclusion.{labelOf, isSame, hasState, covers, isCovered, isSubautomaton, Covers, Sub}
 use Rattle.lists.proofs.Every.{all-out, all-in}
 use Rattle.automata.proofs.States.{states-in, states-out}
@@ -139,7 +139,7 @@ labels-either n l y = (out (labelsOk n l) refl, ⊎-elim (into (labelsOk n l) re
 -- the contract of the call: r is its answer for the sheets a and b with the label lists al and bl
 module _ (a al b bl : List ℕ) (r : Decision) (call : decisionOf r ≡ subautomatonAnswer a al b bl) where
   abbrev truth : Answer Bool
-  truth = given (isSubautomaton (patternOf a al) (patternOf b bl))
+  truth = given (isSubautomaton (readPattern a al) (readPattern b bl))
 
   abbrev behindSheets : Answer Bool
   behindSheets = labelsFirst (stateCount a) al (labelsFirst (stateCount b) bl truth)
@@ -157,18 +157,18 @@ module _ (a al b bl : List ℕ) (r : Decision) (call : decisionOf r ≡ subautom
       )
 
   -- true exactly when the pattern of the first sheet is a subautomaton of that of the second
-  pub subautomaton-call : (x : Bool) → r ≡ Is x → (x ≡ true) ↔ Sub (patternOf a al) (patternOf b bl)
+  pub subautomaton-call : (x : Bool) → r ≡ Is x → (x ≡ true) ↔ Sub (readPattern a al) (readPattern b bl)
   subautomaton-call x e =
       let (f, g, h, i, z) = answer-is x .0 e in
-      let is : isSubautomaton (patternOf a al) (patternOf b bl) ≡ x = cc in
-      let words = subautomaton-words (patternOf a al) (patternOf b bl) in
+      let is : isSubautomaton (readPattern a al) (readPattern b bl) ≡ x = cc in
+      let words = subautomaton-words (readPattern a al) (readPattern b bl) in
       (λ t. words .0 (is ∙ t), λ s. sym is ∙ words .1 s)
 
   -- a truth is answered exactly when neither a sheet nor a label list has a fault
   pub subautomaton-answers : ((x : Bool) × (r ≡ Is x)) ↔ ((fault a ≡ 0) × (fault b ≡ 0) × (labelsFault (stateCount a) al ≡ 0) × (labelsFault (stateCount b) bl ≡ 0))
   subautomaton-answers = (
     λ (x, e). let (f, g, h, i, z) = answer-is x .0 e in (f, g, h, i),
-    λ (f, g, h, i). (isSubautomaton (patternOf a al) (patternOf b bl), answer-is _ .1 (f, g, h, i, refl)),
+    λ (f, g, h, i). (isSubautomaton (readPattern a al) (readPattern b bl), answer-is _ .1 (f, g, h, i, refl)),
   )
 
   -- 1 to 6 exactly when it is the first sheet's fault or, where that has none, the second's

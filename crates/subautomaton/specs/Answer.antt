@@ -10,9 +10,9 @@ use Rattle.sheets.specs.Sheet.{stateCount, read}
 use Rattle.subautomaton.specs.Inclusion.{isSubautomaton}
 
 -- a sheet with its label list
-abbrev pub patternOf : List ℕ → List ℕ → Pattern
-patternOf s l = record { automaton = read s; labels = readLabels l }
+abbrev pub readPattern : List ℕ → List ℕ → Pattern
+readPattern s l = record { automaton = read s; labels = readLabels l }
 
 unfoldable pub subautomatonAnswer : List ℕ → List ℕ → List ℕ → List ℕ → Answer Bool
 subautomatonAnswer a al b bl =
-    sheetFirst a (sheetFirst b (labelsFirst (stateCount a) al (labelsFirst (stateCount b) bl (given (isSubautomaton (patternOf a al) (patternOf b bl))))))
+    sheetFirst a (sheetFirst b (labelsFirst (stateCount a) al (labelsFirst (stateCount b) bl (given (isSubautomaton (readPattern a al) (readPattern b bl))))))

@@ -14,8 +14,8 @@ ghost use Rattle.sheets.specs.inner.Accepted.{Accepted};
 ghost use Rattle.sheets.specs.Sheet.{stateCount, read};
 ghost use Rattle.subautomaton.specs.Inclusion.{isSubautomaton};
 ghost use Rattle.sheets.specs.inner.Runs.{Named, IndexedSheet};
-ghost use Rattle.subautomaton.specs.inner.Tables.{LabelTable, Numbered, isHeld, isHeldIn, fits, reaching, Ordered, fitsFrom, fitsIn, Inputs, Tabled};
-ghost use Rattle.subautomaton.specs.Answer.{patternOf, subautomatonAnswer};
+ghost use Rattle.subautomaton.specs.inner.Tables.{LabelTable, Numbered, isHeld, isHeldIn, fits, reaching, Ordered, fitsFrom, fitsIn, LabelledSheets, Tabled};
+ghost use Rattle.subautomaton.specs.Answer.{readPattern, subautomatonAnswer};
 use refusal::Decision;
 
 // The different labels among the m labels of b into the table t; how many there are.
@@ -213,7 +213,7 @@ fn decide(
     bl: &[u8],
 ) -> bool
     requires { ⌜ Tabled (now a) (now al) (now b) (now bl) (now starts) (now ca) (now cb) ⌝ }
-    ensures { λ r. ⌜ r ≡ isSubautomaton (patternOf (now (a .entry)) (now (al .entry))) (patternOf (now (b .entry)) (now (bl .entry))) ⌝ }
+    ensures { λ r. ⌜ r ≡ isSubautomaton (readPattern (now (a .entry)) (now (al .entry))) (readPattern (now (b .entry)) (now (bl .entry))) ⌝ }
 {
     if !has_states(a, b, ca, cb) {
         return false;
@@ -227,8 +227,8 @@ fn decide(
 
 // The answer for two accepted sheets with their labels.
 fn compare(a: &[u32], al: &[u8], b: &[u32], bl: &[u8]) -> bool
-    requires { ⌜ Inputs (now a) (now al) (now b) (now bl) ⌝ }
-    ensures { λ r. ⌜ r ≡ isSubautomaton (patternOf (now (a .entry)) (now (al .entry))) (patternOf (now (b .entry)) (now (bl .entry))) ⌝ }
+    requires { ⌜ LabelledSheets (now a) (now al) (now b) (now bl) ⌝ }
+    ensures { λ r. ⌜ r ≡ isSubautomaton (readPattern (now (a .entry)) (now (al .entry))) (readPattern (now (b .entry)) (now (bl .entry))) ⌝ }
 {
     let n = a[2] as usize;
     let m = b[2] as usize;

@@ -11,14 +11,14 @@ use lib.ListN.{length, getD, drop, length-drop, length-append}
 use lib.Seq.{drop-drop, drop-append-seam, take-append-seam, getD-drop}
 use Rattle.decimal.specs.Decimal.{isDigit, value}
 use Rattle.grammar.specs.Bytes.{isSpace, isLetter, isNameByte}
-use Rattle.grammar.specs.Grammar.{ReadResult, nothing, found, follow, mark, run, space, neededSpace, begins, token, name, number, Ends, ends, range, target, transition, initial, nextName, Items, transitions, nextNames, accepting, heading, ending, wholeText}
+use Rattle.grammar.specs.Grammar.{ReadResult, nothing, found, follow, mark, run, space, neededSpace, begins, token, name, number, RangeEnds, ends, range, target, transition, initial, nextName, Items, transitions, nextNames, accepting, heading, ending, wholeText}
 use Rattle.grammar.specs.Places.{spelled}
 use Rattle.grammar.proofs.Letters.{letter-named}
 use Rattle.grammar.specs.declared.tokens.NamePiece.the-variants.{Read as NameRead, Nothing as NoName}
 use Rattle.grammar.specs.declared.pieces.ArrowPiece.the-variants.{Read as ArrowRead, Nothing as NoArrow}
 use Rattle.grammar.proofs.Many.{arrows-ended, arrows-more, names-ended, names-more}
 use Rattle.grammar.specs.Words.{automatonWord, initWord, acceptingWord, leftBrace, rightBrace, leftBracket, rightBracket, comma, semicolon}
-use Rattle.syntax.specs.Syntax.{_⨾_, Each, none, more, Gap, Space, spaces, Name, named, Number, digits, Move, Said, Transition, moves, Transitions, MoreNames, Text, says}
+use Rattle.syntax.specs.Syntax.{_⨾_, Each, none, more, Gap, Space, spaces, Name, named, Number, digits, Move, Said, TransitionText, moves, TransitionsText, MoreNames, Text, says}
 use Rattle.syntax.specs.Spelled.{spellMove, spell}
 use Rattle.syntax.proofs.Runs.{letter-high, Stop, run-each, gap-name, gap-digit, space-name, name-space, number-space}
 
@@ -117,10 +117,10 @@ module _ (t : List ℕ) where
       a-name n z (gap g₂ (name-space l n) a)
 
   some-ends : {v w first last : ℕ} {l : List ℕ} (b : ℕ) → first ≡ v → last ≡ w → v ≤ w → At b l
-      → Finds {Y = Ends} itself (cond (leb first last) (found (record { first = first; last = last }) b) nothing) (record { first = v; last = w }) l
+      → Finds {Y = RangeEnds} itself (cond (leb first last) (found (record { first = first; last = last }) b) nothing) (record { first = v; last = w }) l
   some-ends b e f h a = rw (e, f, le-leb _ _ h) (finding _ b refl a)
 
-  a-transition : {p : ℕ} {u l : List ℕ} {e : Move} → Transition u e → At p (u ++ l) → Finds (spellMove t) (transition t p) e l
+  a-transition : {p : ℕ} {u l : List ℕ} {e : Move} → TransitionText u e → At p (u ++ l) → Finds (spellMove t) (transition t p) e l
   unfolding transition target range ends run isSpace isLetter isDigit isNameByte
   a-transition (moves {first = v} {last = w} x g₁ g₂ y g₃ g₄ m g₅ g₆ n h) q =
       then (a-name x (gap-name _ g₁ refl) (simp append-assoc at q)) λ from c e q.
@@ -135,7 +135,7 @@ module _ (t : List ℕ) where
       finding r c i q) λ r c i q.
       finding _ c (rw (e, f, i)) q
 
-  transition-space : {u : List ℕ} {e : Move} (l : List ℕ) → Transition u e → Stop isSpace (u ++ l)
+  transition-space : {u : List ℕ} {e : Move} (l : List ℕ) → TransitionText u e → Stop isSpace (u ++ l)
   transition-space l (moves x g₁ g₂ y g₃ g₄ v g₅ g₆ w h) = rw append-assoc (name-space _ x)
 
   -- pieces one behind the other say ys, and l stands behind them
@@ -143,10 +143,10 @@ module _ (t : List ℕ) where
     pub saying : map say (r .items) ≡ ys
     pub behind : At (r .behind) l
 
-  all-transitions : {p : ℕ} {u l : List ℕ} {es : List Move} → Transitions u es → ((b : ℕ) → At b l → transition t (space t b) ≡ nothing) → At p (u ++ l)
+  all-transitions : {p : ℕ} {u l : List ℕ} {es : List Move} → TransitionsText u es → ((b : ℕ) → At b l → transition t (space t b) ≡ nothing) → At p (u ++ l)
       → FindsAll (spellMove t) (transitions t p) es l
-  all-transitions {p} Transitions.none z a = rw (arrows-ended t p NoArrow (sym (z p a)) refl) record { saying = refl; behind = a }
-  all-transitions {p} (Transitions.more g e r) z a =
+  all-transitions {p} TransitionsText.none z a = rw (arrows-ended t p NoArrow (sym (z p a)) refl) record { saying = refl; behind = a }
+  all-transitions {p} (TransitionsText.more g e r) z a =
       let h = a-transition e (gap g (transition-space _ e) (simp append-assoc at a)) in
       let i = all-transitions r z (h .behind) in
       rw (arrows-more t p (ArrowRead (h .what) (record { at = h .place })) (sym (h .reads)) (h .what) (record { at = h .place }) refl)

@@ -17,7 +17,7 @@ use Rattle.grammar.proofs.Letters.{letter-named}
 use Rattle.grammar.proofs.Runs.{run-short}
 use Rattle.grammar.proofs.Progress.{Holds, none, some, holds-follow, holds-weaker}
 use Rattle.grammar.specs.Words.{automatonWord, initWord, acceptingWord, arrowSign, leftBrace, rightBrace, leftBracket, rightBracket, comma, semicolon}
-use Rattle.syntax.specs.Syntax.{_⨾_, Gap, Space, spaces, Name, named, Number, digits, Transition, moves, Transitions, MoreNames, Text, says}
+use Rattle.syntax.specs.Syntax.{_⨾_, Gap, Space, spaces, Name, named, Number, digits, TransitionText, moves, TransitionsText, MoreNames, Text, says}
 use Rattle.syntax.specs.Spelled.{spellMove, spell}
 use Rattle.syntax.proofs.Runs.{each-run}
 
@@ -121,7 +121,7 @@ module _ (t : List ℕ) where
       v : ℕ
       v = value (take n (drop p t))
 
-  a-transition : (p : ℕ) → Holds (λ e b. Took p b (λ u. Transition u (spellMove t e))) (transition t p)
+  a-transition : (p : ℕ) → Holds (λ e b. Took p b (λ u. TransitionText u (spellMove t e))) (transition t p)
   unfolding transition target range ends
   a-transition p =
       holds-follow _ (a-name p) λ from a x.
@@ -153,12 +153,12 @@ module _ (t : List ℕ) where
       go nothing none ih = record { part = []; reads = record { bytes = refl }; holds = z }
       go (found x b) (some i) ih = record { part = _; reads = i .reads ▸ ih b .reads; holds = i .holds _ _ (ih b .holds) }
 
-  all-transitions : (p : ℕ) → Took p (transitions t p .behind) (λ u. Transitions u (map (spellMove t) (transitions t p .items)))
+  all-transitions : (p : ℕ) → Took p (transitions t p .behind) (λ u. TransitionsText u (map (spellMove t) (transitions t p .items)))
   unfolding transitions
   all-transitions =
-      all-pieces (λ at. transition t (space t at)) (λ u es. Transitions u (map (spellMove t) es)) Transitions.none
+      all-pieces (λ at. transition t (space t at)) (λ u es. TransitionsText u (map (spellMove t) es)) TransitionsText.none
       (λ p. holds-weaker (a-transition (space t p)) λ e b h.
-      record { part = _; reads = gap p .reads ▸ h .reads; holds = λ v es r. rw append-assoc (Transitions.more (gap p .holds) (h .holds) r) })
+      record { part = _; reads = gap p .reads ▸ h .reads; holds = λ v es r. rw append-assoc (TransitionsText.more (gap p .holds) (h .holds) r) })
       (length t)
 
   all-names : (p : ℕ) → Took p (nextNames t p .behind) (λ u. MoreNames u (map (spelled t) (nextNames t p .items)))

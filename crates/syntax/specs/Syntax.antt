@@ -51,17 +51,17 @@ pub record Said : Type 0 where
 
 -- a transition, `a -> b [first, last];`: space is optional before every token but `]` and `;`, before which it never stands; first is at most last.
 -- Any name may be that of its states, `accepting` too
-pub data Transition : List ℕ → Move → Type 0 where
+pub data TransitionText : List ℕ → Move → Type 0 where
   moves : {a b m n s₁ s₂ s₃ s₄ s₅ s₆ : List ℕ} {first last : ℕ} →
       Name a → Gap s₁ → Gap s₂ → Name b → Gap s₃ → Gap s₄ → Number m first → Gap s₅ → Gap s₆ → Number n last → first ≤ last →
-      Transition
+      TransitionText
       (a ⨾ s₁ ⨾ arrowSign ⨾ s₂ ⨾ b ⨾ s₃ ⨾ leftBracket ⨾ s₄ ⨾ m ⨾ s₅ ⨾ comma ⨾ s₆ ⨾ n ⨾ rightBracket ⨾ semicolon)
       (record { from = a; to = b; first = first; last = last })
 
 -- transitions, any number of them, with optional space before each
-pub data Transitions : List ℕ → List Move → Type 0 where
-  none : Transitions [] []
-  more : {s u v : List ℕ} {e : Move} {es : List Move} → Gap s → Transition u e → Transitions v es → Transitions (s ⨾ u ⨾ v) (e ∷ es)
+pub data TransitionsText : List ℕ → List Move → Type 0 where
+  none : TransitionsText [] []
+  more : {s u v : List ℕ} {e : Move} {es : List Move} → Gap s → TransitionText u e → TransitionsText v es → TransitionsText (s ⨾ u ⨾ v) (e ∷ es)
 
 -- the accepting names behind the first, any number of them: a comma before each, with optional space before the comma and before the name
 pub data MoreNames : List ℕ → List (List ℕ) → Type 0 where
@@ -72,7 +72,7 @@ pub data MoreNames : List ℕ → List (List ℕ) → Type 0 where
 -- a name and `;`, the transitions, `accepting`, space, names by commas and `;`, and `}` with `;` directly behind it
 pub data Text : List ℕ → Said → Type 0 where
   says : {A s₁ s₂ s₃ s₄ a ts s₅ s₆ b bs s₇ : List ℕ} {es : List Move} {ns : List (List ℕ)} →
-      Space s₁ → Name A → Gap s₂ → Gap s₃ → Space s₄ → Name a → Transitions ts es → Gap s₅ → Space s₆ → Name b → MoreNames bs ns → Gap s₇ →
+      Space s₁ → Name A → Gap s₂ → Gap s₃ → Space s₄ → Name a → TransitionsText ts es → Gap s₅ → Space s₆ → Name b → MoreNames bs ns → Gap s₇ →
       Text
       (automatonWord ⨾ s₁ ⨾ A ⨾ s₂ ⨾ leftBrace ⨾ s₃ ⨾ initWord ⨾ s₄ ⨾ a ⨾ semicolon ⨾ ts ⨾ s₅ ⨾ acceptingWord ⨾ s₆ ⨾ b ⨾ bs ⨾ semicolon ⨾ s₇ ⨾ rightBrace ⨾ semicolon)
       (record { start = a; moves = es; accepts = b ∷ ns })

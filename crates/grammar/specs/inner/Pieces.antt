@@ -1,8 +1,8 @@
 -- For inner contracts. What the answers of the pieces stand for.
-use Rattle.grammar.specs.Grammar.{ReadResult, nothing, found, Mark, mark, Ends, nextNames}
+use Rattle.grammar.specs.Grammar.{ReadResult, nothing, found, Mark, mark, RangeEnds, nextNames}
 use mathlib.Core.List.{List, _∷_}
 use Prim.Native.Nat.{ℕ}
-use Rattle.grammar.specs.declared.tokens.Span.{Span}
+use Rattle.grammar.specs.declared.tokens.TextSpan.{TextSpan}
 use Rattle.grammar.specs.declared.pieces.Arrow.{Arrow}
 use Rattle.grammar.specs.declared.tokens.Piece.{Piece}
 use Rattle.grammar.specs.declared.tokens.Piece.the-variants.{Read as PieceRead, Nothing as NoPiece}
@@ -21,15 +21,15 @@ abbrev pub pieceOf : Piece → ReadResult Mark
 pieceOf (PieceRead c) = found mark (c .at)
 pieceOf NoPiece = nothing
 
-abbrev pub nameOf : NamePiece → ReadResult Span
+abbrev pub nameOf : NamePiece → ReadResult TextSpan
 nameOf (NameRead s c) = found s (c .at)
 nameOf NoName = nothing
 
-abbrev pub numberOf : NumberPiece → ReadResult ℕ
-numberOf (NumberRead v c) = found v (c .at)
-numberOf NoNumber = nothing
+abbrev pub numberPieceOf : NumberPiece → ReadResult ℕ
+numberPieceOf (NumberRead v c) = found v (c .at)
+numberPieceOf NoNumber = nothing
 
-abbrev pub rangeOf : RangePiece → ReadResult Ends
+abbrev pub rangeOf : RangePiece → ReadResult RangeEnds
 rangeOf (RangeRead v w c) = found (record { first = v; last = w }) (c .at)
 rangeOf NoRange = nothing
 
@@ -38,6 +38,6 @@ arrowOf (ArrowRead e c) = found e (c .at)
 arrowOf NoArrow = nothing
 
 -- the text t gives the names behind the first
-abbrev pub acceptingOf : List ℕ → AcceptingPiece → ReadResult (List Span)
+abbrev pub acceptingOf : List ℕ → AcceptingPiece → ReadResult (List TextSpan)
 acceptingOf t (AcceptingRead s more c) = found (s ∷ nextNames t (more .at) .items) (c .at)
 acceptingOf t NoAccepting = nothing

@@ -2,12 +2,12 @@
 use Prim.Native.Nat.{ℕ, _-_, _≤_, _<_}
 use mathlib.Core.List.{List}
 use lib.ListN.{length}
-use Rattle.grammar.specs.declared.tokens.Span.{Span}
+use Rattle.grammar.specs.declared.tokens.TextSpan.{TextSpan}
 use Rattle.grammar.specs.declared.pieces.Arrow.{Arrow}
 use Rattle.grammar.specs.declared.text.Layout.{Layout}
 
 -- a name stands in the text: one to 64 bytes
-pub record Spelt (t : List ℕ) (s : Span) : Type 0 where
+pub record Spelt (t : List ℕ) (s : TextSpan) : Type 0 where
   pub some : s .start < s .end
   pub short : s .end - s .start ≤ 64
   pub inside : s .end ≤ length t

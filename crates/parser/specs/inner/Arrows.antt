@@ -8,13 +8,14 @@ use Rattle.automata.specs.Automaton.{Transition}
 use Rattle.automata.specs.Ordered.{inOrder}
 use Rattle.grammar.specs.Grammar.{transitions}
 use Rattle.labels.specs.Labels.{sameLabel}
+use Rattle.name_table.specs.declared.Added.the-variants.{Kept}
 use Rattle.output.specs.declared.gathering.Filled.{Filled}
 use Rattle.output.specs.inner.Gathering.{Held, Gathered, Rest}
 use Rattle.output.specs.inner.Ordered.{recordsIn}
 use Rattle.search.specs.Search.{index, add, meet}
 use Rattle.syntax.specs.Syntax.{Move}
-use Rattle.parser.specs.Pattern.{bothNames, namesOf, transitionOf}
-use Rattle.parser.specs.inner.Names.{Table, namesIn, Addition}
+use Rattle.parser.specs.Pattern.{bothNames, namesOf, transitionOfMove}
+use Rattle.parser.specs.inner.Names.{SpeltTable, namesIn, SpeltAddition}
 use Rattle.parser.specs.inner.Places.{movesAt}
 use Rattle.parser.specs.declared.arrows.Arrows.{Arrows}
 use Rattle.parser.specs.declared.arrows.Begun.{Begun}
@@ -24,11 +25,10 @@ use Rattle.parser.specs.declared.arrows.Entry.{Entry}
 use Rattle.parser.specs.declared.arrows.Entry.the-variants.{At as EntryAt, Full as NoEntry}
 use Rattle.parser.specs.declared.arrows.Noted.{Noted}
 use Rattle.parser.specs.declared.arrows.Noted.the-variants.{At as NotedAt, Full as NotNoted}
-use Rattle.parser.specs.declared.names.Added.the-variants.{Kept}
 
 -- the n names of the table t are ls and x, and i is the number of x
 pub record Entered (text x : List ℕ) (ls : List (List ℕ)) (t : List ℕ) (i n : ℕ) : Type 0 where
-  pub table : Table text t n
+  pub table : SpeltTable text t n
   pub names : namesIn text t n ≡ add sameLabel x ls
   pub number : i ≡ index sameLabel x (add sameLabel x ls)
 
@@ -46,9 +46,9 @@ pub record Noting (old : List ℕ) (f : Filled) (e : Transition) (new : List ℕ
 
 -- the n names of the table t are ls and those of the transition m, whose record is with the others
 pub record ArrowNoted (text : List ℕ) (m : Move) (ls : List (List ℕ)) (t old : List ℕ) (f : Filled) (new : List ℕ) (n : ℕ) (g : Filled) : Type 0 where
-  pub table : Table text t n
+  pub table : SpeltTable text t n
   pub names : namesIn text t n ≡ meet sameLabel (bothNames m) ls
-  pub noting : Noting old f (transitionOf (namesIn text t n) m) new g
+  pub noting : Noting old f (transitionOfMove (namesIn text t n) m) new g
 
 -- so by the answer, or the names are over 256
 abbrev pub ArrowNoting : List ℕ → Move → List (List ℕ) → List ℕ → List ℕ → Filled → List ℕ → Noted → Type 0
@@ -60,18 +60,18 @@ unfoldable pub allNames : List ℕ → ℕ → List (List ℕ) → List (List �
 allNames text at ls = meet sameLabel (namesOf (movesAt text at)) ls
 
 -- the transitions from a place on between the numbers of these names
-unfoldable pub numbered : List ℕ → ℕ → List (List ℕ) → List Transition
-numbered text at ls = map (transitionOf ls) (movesAt text at)
+unfoldable pub numberedTransitions : List ℕ → ℕ → List (List ℕ) → List Transition
+numberedTransitions text at ls = map (transitionOfMove ls) (movesAt text at)
 
 -- the transitions from start on, with the names ls before theirs, are read up to the place at: what is left of them gives all names with those of the
 -- table, and all records with those in memory, unless these are too many
 pub record ReadInvariant (text : List ℕ) (start : ℕ) (ls : List (List ℕ)) (t buf : List ℕ) (at n : ℕ) (f : Filled) : Type 0 where
-  pub table : Table text t n
+  pub table : SpeltTable text t n
   pub place : transitions text at .behind ≡ transitions text start .behind
   pub names : allNames text at (namesIn text t n) ≡ allNames text start ls
   pub held : Held buf (f .sorted) (f .end)
-  pub left : f .end < length buf → Rest buf (f .sorted) (f .end) (numbered text at (allNames text start ls)) (numbered text start (allNames text start ls))
-  pub over : length buf ≤ f .end → length buf / 9 * 8 / 5 < length (inOrder (numbered text start (allNames text start ls)))
+  pub left : f .end < length buf → Rest buf (f .sorted) (f .end) (numberedTransitions text at (allNames text start ls)) (numberedTransitions text start (allNames text start ls))
+  pub over : length buf ≤ f .end → length buf / 9 * 8 / 5 < length (inOrder (numberedTransitions text start (allNames text start ls)))
 
 -- the records take at most eight ninths of the memory, unless it is the largest
 pub record Fitting (buf : List ℕ) (f : Filled) : Type 0 where
@@ -80,8 +80,8 @@ pub record Fitting (buf : List ℕ) (f : Filled) : Type 0 where
 -- the transitions from a place on were read, with the names ls before theirs
 pub record ArrowsRead (text : List ℕ) (at : ℕ) (ls : List (List ℕ)) (t buf : List ℕ) (r : Arrows) : Type 0 where
   pub behind : r .behind .at ≡ transitions text at .behind
-  pub names : Addition text (meet sameLabel (namesOf (movesAt text at)) ls) t (r .added)
-  pub gathered : (n : ℕ) → r .added ≡ Kept n → Gathered buf (r .filled .sorted) (r .filled .end) (map (transitionOf (namesIn text t n)) (movesAt text at))
+  pub names : SpeltAddition text (meet sameLabel (namesOf (movesAt text at)) ls) t (r .added)
+  pub gathered : (n : ℕ) → r .added ≡ Kept n → Gathered buf (r .filled .sorted) (r .filled .end) (map (transitionOfMove (namesIn text t n)) (movesAt text at))
   pub fitting : (n : ℕ) → r .added ≡ Kept n → Fitting buf (r .filled)
 
 -- so far, and the memory has room

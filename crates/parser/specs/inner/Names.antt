@@ -4,19 +4,19 @@ use mathlib.Core.List.{List}
 use mathlib.Core.Path.{_≡_}
 use lib.ListN.{length, getD}
 use Rattle.grammar.specs.inner.Places.{Spelt}
-use Rattle.grammar.specs.declared.tokens.Span.{Span}
+use Rattle.grammar.specs.declared.tokens.TextSpan.{TextSpan}
 use Rattle.lists.specs.Lists.{Distinct}
+use Rattle.name_table.specs.declared.Added.{Added}
+use Rattle.name_table.specs.declared.Added.the-variants.{Kept, Full}
 use Rattle.name_table.specs.inner.Names.{Arranged}
 unfoldable pub use Rattle.name_table.specs.inner.Names.{namesIn}
-use Rattle.parser.specs.declared.names.Added.{Added}
-use Rattle.parser.specs.declared.names.Added.the-variants.{Kept, Full}
 
 -- where name j stands
-abbrev pub spanAt : List ℕ → ℕ → Span
+abbrev pub spanAt : List ℕ → ℕ → TextSpan
 spanAt t j = record { start = getD t (512 + j) 0; end = getD t (768 + j) 0 }
 
 -- a table of n names: each stands in the text, all are different, and they are in order
-pub record Table (text t : List ℕ) (n : ℕ) : Type 0 where
+pub record SpeltTable (text t : List ℕ) (n : ℕ) : Type 0 where
   pub room : length t ≡ 1024
   pub few : n ≤ 256
   pub spelt : (j : ℕ) → j < n → Spelt text (spanAt t j)
@@ -24,6 +24,6 @@ pub record Table (text t : List ℕ) (n : ℕ) : Type 0 where
   pub arranged : Arranged text t n
 
 -- the table t has the names ls, or these are over 256
-pub data Addition (text : List ℕ) (ls : List (List ℕ)) (t : List ℕ) : Added → Type 0 where
-  kept : {n : ℕ} → Table text t n → namesIn text t n ≡ ls → Addition text ls t (Kept n)
-  full : 256 < length ls → Addition text ls t Full
+pub data SpeltAddition (text : List ℕ) (ls : List (List ℕ)) (t : List ℕ) : Added → Type 0 where
+  kept : {n : ℕ} → SpeltTable text t n → namesIn text t n ≡ ls → SpeltAddition text ls t (Kept n)
+  full : 256 < length ls → SpeltAddition text ls t Full

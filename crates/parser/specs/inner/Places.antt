@@ -9,7 +9,7 @@ use Rattle.grammar.specs.declared.text.Layout.{Layout}
 use Rattle.output.specs.Output.{Pattern}
 use Rattle.syntax.specs.Syntax.{Move, Said}
 use Rattle.syntax.specs.Spelled.{spellMove, spell}
-use Rattle.parser.specs.Pattern.{transitionOf, automatonOf}
+use Rattle.parser.specs.Pattern.{transitionOfMove, automatonOf}
 
 -- what the text says by a layout
 abbrev pub saidAt : List ℕ → Layout → Said
@@ -21,7 +21,7 @@ movesAt t at = map (spellMove t) (transitions t at .items)
 
 -- the same in order, between states with these names
 abbrev pub transitionsAt : List ℕ → Layout → List (List ℕ) → List Transition
-transitionsAt t l ls = inOrder (map (transitionOf ls) (movesAt t (l .arrows .at)))
+transitionsAt t l ls = inOrder (map (transitionOfMove ls) (movesAt t (l .arrows .at)))
 
 -- the pattern whose states have these names
 abbrev pub patternAt : List ℕ → Layout → List (List ℕ) → Pattern

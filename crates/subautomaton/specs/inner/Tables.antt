@@ -61,7 +61,7 @@ unfoldable pub fitsIn : Automaton → List ℕ → List ℕ → Transition → B
 fitsIn B ca cb d = any (fitsFrom B cb (getD ca (d .from) 0) (getD ca (d .to) 0) d) (states (B .size))
 
 -- two sheets with their labels
-pub record Inputs (a al b bl : List ℕ) : Type 0 where
+pub record LabelledSheets (a al b bl : List ℕ) : Type 0 where
   pub first : Accepted a
   pub second : Accepted b
   pub first-labels : labelsFault (stateCount a) al ≡ 0
@@ -69,7 +69,7 @@ pub record Inputs (a al b bl : List ℕ) : Type 0 where
 
 -- and with the tables of both
 pub record Tabled (a al b bl starts ca cb : List ℕ) : Type 0 where
-  pub inputs : Inputs a al b bl
+  pub inputs : LabelledSheets a al b bl
   pub indexed : Indexed b starts
   pub numbered-a : Numbered (stateCount a) (readLabels al) (distinctLabels bl) ca
   pub numbered-b : Numbered (stateCount b) (readLabels bl) (distinctLabels bl) cb

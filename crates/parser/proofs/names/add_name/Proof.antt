@@ -4,7 +4,4 @@ use Rattle.parser.proofs.names.add_name.Statement.{statement}
 use Rattle.parser.proofs.names.add_name.Tie as tie
 
 pub add-name-spec : {M : Type 1} → statement M
-add-name-spec =
-    tie.close
-    (tie.spec (λ c κs. search addLaws) (λ c. search addLaws) (λ c. search addLaws) (λ c. search addLaws) (λ c. search addLaws) (λ c. search addLaws)
-    (λ c. search addLaws))
+add-name-spec = tie.close (tie.spec (λ c κs. search addLaws) (λ c. search addLaws) (λ c. search addLaws))
