@@ -1,1 +1,1 @@
-// Lists: the definitions and laws on tests, lists and written memory that the other crates share, in specs/ and proofs/.
+// Lists: the definitions and laws on tests and lists that the other crates share, in specs/ and proofs/.
