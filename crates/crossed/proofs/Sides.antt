@@ -11,7 +11,7 @@ use Rattle.automata.specs.Deterministic.{Deterministic, Between}
 use Rattle.determinize.specs.Determinize.{determinize}
 use Rattle.determinize.specs.Sheets.{subsetPattern, determinizeAnswer}
 use Rattle.determinize.proofs.Theorems.{determinize-deterministic, determinize-between, determinize-wellformed, determinize-fits}
-use Rattle.labels.specs.Forms.{numbered}
+use Rattle.labels.specs.Forms.{numberedLabels}
 use Rattle.labels.specs.Labels.{labelsFault, readLabels, writeLabels}
 use Rattle.labels.proofs.Labels.{read-write, fault-write}
 use Rattle.labels.proofs.Whole.{labels-numbered, length-numbered}
@@ -79,26 +79,26 @@ module _ (s : List ℕ) (f : fault s ≡ 0) (D : Automaton) (e : determinize 0 l
 
   -- the patterns that the two calls give
   abbrev own : Pattern
-  own = record { automaton = D; labels = numbered (D .size) }
+  own = record { automaton = D; labels = numberedLabels (D .size) }
 
   abbrev other : Pattern
-  other = record { automaton = flipped D; labels = numbered (D .size) }
+  other = record { automaton = flipped D; labels = numberedLabels (D .size) }
 
   determinize-answer : sheetFirst s (subsetPattern (determinize 0 lastSymbol (read s))) ≡ given own
   unfolding sheetFirst subsetPattern
   determinize-answer = rw (f, e)
 
-  labels-pass : labelsFault (D .size) (writeLabels (numbered (D .size))) ≡ 0
-  labels-pass = subst (λ n. labelsFault n (writeLabels (numbered (D .size))) ≡ 0) (length-numbered (D .size)) (fault-write (numbered (D .size)) (labels-numbered (D .size) (fits .few-states)))
+  labels-pass : labelsFault (D .size) (writeLabels (numberedLabels (D .size))) ≡ 0
+  labels-pass = subst (λ n. labelsFault n (writeLabels (numberedLabels (D .size))) ≡ 0) (length-numbered (D .size)) (fault-write (numberedLabels (D .size)) (labels-numbered (D .size) (fits .few-states)))
 
   -- the answer of the complement behind 20
   abbrev complementOf : List ℕ → List ℕ → Answer Pattern
   complementOf s b = sheetFirst s (labelsFirst (stateCount s) b (limited (complementPattern 0 lastSymbol (read s) (readLabels b))))
 
-  complement-answer : complementOf (write D) (writeLabels (numbered (D .size))) ≡ given other
+  complement-answer : complementOf (write D) (writeLabels (numberedLabels (D .size))) ≡ given other
   unfolding sheetFirst labelsFirst complementPattern flipped
   complement-answer =
-      rw (no-fault, read-back, labels-pass, read-write (numbered (D .size)), complement-flips, no-nfa)
+      rw (no-fault, read-back, labels-pass, read-write (numberedLabels (D .size)), complement-flips, no-nfa)
       (limited-given other (fits .few-states) (fits .few-transitions))
 
   -- the two calls, the second on what the first wrote
@@ -107,7 +107,7 @@ module _ (s : List ℕ) (f : fault s ≡ 0) (D : Automaton) (e : determinize 0 l
     unfolding determinizeAnswer
     determinization-left = sheet-left (x .determinization) _ (x .determinizes) own determinize-answer well fits
 
-    names-left : labelsOf (x .determinization) ≡ writeLabels (numbered (D .size))
+    names-left : labelsOf (x .determinization) ≡ writeLabels (numberedLabels (D .size))
     unfolding determinizeAnswer
     names-left =
         labels-left (x .determinization) _ (x .determinizes) own determinize-answer (labels-numbered (D .size) (fits .few-states)) (omega (arith, length-numbered (D .size), fits .few-states))

@@ -19,7 +19,7 @@ use Rattle.sheets.specs.Fault.{fault}
 use Rattle.sheets.specs.Sheet.{read}
 use Rattle.sheets.proofs.Accepted.{accepted}
 use Rattle.sheets.proofs.Meaning.{read-well}
-use Rattle.crossed.specs.Demand.{Compared, Crossing, Empty, beside, EqualWords, Crossed, Report, Demanded}
+use Rattle.crossed.specs.Demand.{ComparedSheets, Crossing, Empty, beside, EqualWords, Crossed, Report, Demanded}
 use Rattle.crossed.proofs.Products.{product-answers, empty-within}
 use Rattle.crossed.proofs.Reports.{reported}
 use Rattle.crossed.proofs.Sides.{determinization-left, complement-left, side-answers}
@@ -41,7 +41,7 @@ module _ (a b : List ℕ) (f : fault a ≡ 0) (g : fault b ≡ 0) (D E : Automat
         λ s. (k .1 (λ w v h. by-b w v .1 (s w v .0 (by-a w v .0 h))), m .1 (λ w v h. by-a w v .1 (s w v .1 (by-b w v .0 h)))),
       )
 
-  crossed : (c : Compared a b) → (c .memory .after .cells .same ≡ 1) ↔ EqualWords a b → (x : Crossing a b) → Crossed c x
+  crossed : (c : ComparedSheets a b) → (c .memory .after .cells .same ≡ 1) ↔ EqualWords a b → (x : Crossing a b) → Crossed c x
   crossed c equal x =
       let k = both-empty x in
       record {
@@ -54,14 +54,14 @@ module _ (a b : List ℕ) (f : fault a ≡ 0) (g : fault b ≡ 0) (D E : Automat
   both : determinized 0 lastSymbol (read a) (read b) ≡ given (beside D E)
   both = determinized-both 0 lastSymbol (read a) (read b) D E d e
 
-  report : (c : Compared a b) → Report a b (beside D E) (c .memory)
+  report : (c : ComparedSheets a b) → Report a b (beside D E) (c .memory)
   report c =
       let m = c .memory in
       let few = total-few 0 lastSymbol (read a) (read b) (read-well a (accepted a f) .states) (read-well b (accepted b g) .states) (beside D E) both in
       reported a b (beside D E) few (m .word) (m .after .memory) (m .same) (m .number) (m .room) (m .after) (c .call .verdict) (c .call .is)
       (equality-exact 0 lastSymbol a b f g (m .word) (m .after .memory) (c .call .verdict) (m .room) (c .call .judged) D E d e)
 
-  demanded : (c : Compared a b) → Demanded c
+  demanded : (c : ComparedSheets a b) → Demanded c
   demanded c =
       record {
         one = D;
@@ -76,7 +76,7 @@ module _ (a b : List ℕ) (f : fault a ≡ 0) (g : fault b ≡ 0) (D E : Automat
       }
 
 -- demand 3: of any two sheets, and of whatever the lent memory held
-pub demand-3 : (a b : List ℕ) (c : Compared a b) → Demanded c
+pub demand-3 : (a b : List ℕ) (c : ComparedSheets a b) → Demanded c
 demand-3 a b c =
     let d = determinize-given 0 lastSymbol (read a) (read-well a (accepted a (c .accepted-a)) .states) (c .limits-a .0) (c .limits-a .1) in
     let e = determinize-given 0 lastSymbol (read b) (read-well b (accepted b (c .accepted-b)) .states) (c .limits-b .0) (c .limits-b .1) in

@@ -1,4 +1,4 @@
--- Demand 3 in the words of the C functions. `Compared` and `Crossing` are what it supposes: each field is a call by its contract, a lent length, or a
+-- Demand 3 in the words of the C functions. `ComparedSheets` and `Crossing` are what it supposes: each field is a call by its contract, a lent length, or a
 -- limit that demand 3 names, and each next call is lent the front of what the last one wrote. `Demanded` is what it asks.
 use Prim.Native.Nat.{ℕ, _+_, _≤_}
 use mathlib.Core.List.{List}
@@ -21,7 +21,7 @@ use Rattle.totality.specs.Totality.{complemented}
 use Rattle.crossed.specs.Calls.{Difference, EqualityCall, OutputsMemory, sheetOf, labelsOf, DeterminizeCall, ComplementCall, IntersectionCall, Question, ReachableCall}
 
 -- any two accepted automata whose determinizations fit, compared
-pub record Compared (a b : List ℕ) : Type 0 where
+pub record ComparedSheets (a b : List ℕ) : Type 0 where
   -- a and b are accepted sheets: epsilons, overlaps and gaps allowed
   pub accepted-a : fault a ≡ 0
   pub accepted-b : fault b ≡ 0
@@ -87,7 +87,7 @@ abbrev pub EqualWords : List ℕ → List ℕ → Type 0
 EqualWords a b = SameWords 0 lastSymbol (read a) (read b)
 
 -- the products of each determinization with the other's complement
-pub record Crossed {a b : List ℕ} (c : Compared a b) (x : Crossing a b) : Type 0 where
+pub record Crossed {a b : List ℕ} (c : ComparedSheets a b) (x : Crossing a b) : Type 0 where
   pub first : ProductAnswers (x .first)
   pub second : ProductAnswers (x .second)
   -- both are empty exactly where the sheets accept the same words, which is where they are reported equal
@@ -111,7 +111,7 @@ pub record Report (a b : List ℕ) (t : Two) (m : Difference) : Type 0 where
   pub kept : m .after .cells .same ≡ 1 → m .after .memory ≡ m .word
 
 -- what demand 3 asks of the comparison c
-pub record Demanded {a b : List ℕ} (c : Compared a b) : Type 1 where
+pub record Demanded {a b : List ℕ} (c : ComparedSheets a b) : Type 1 where
   -- the two determinizations, as document 01 defines them
   pub one : Automaton
   pub two : Automaton

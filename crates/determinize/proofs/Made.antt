@@ -9,7 +9,7 @@ use lib.Dec.{ltb}
 use lib.ListN.{length}
 use Rattle.stores.specs.Written.{Written}
 use Rattle.automata.specs.Automaton.{Automaton}
-use Rattle.labels.specs.Forms.{numbered}
+use Rattle.labels.specs.Forms.{numberedLabels}
 use Rattle.labels.specs.Labels.{writeLabels}
 use Rattle.output.specs.declared.Made.the-variants
 use Rattle.output.specs.Made.{outputOf}
@@ -92,12 +92,12 @@ module _ (s o l : List ℕ) (b : Bool) (f : b ≡ (ltb (length o) 10500 || ltb (
             let t = determinize-fits 0 4294967295 (read s) (read-well s (accepted s (sym e ∙ ap checkedNumber g)) .states) (r .result) (r .is) in
             omega (arith, r .states, t .few-states)
 
-        pub made-done : (l′ : List ℕ) (m : ℕ) → Written l 0 (writeLabels (numbered n)) l′ m → outputOf (the-variants.Lengths w m) o′ l′ ≡ outputs o l (determinizeAnswer s o l)
+        pub made-done : (l′ : List ℕ) (m : ℕ) → Written l 0 (writeLabels (numberedLabels n)) l′ m → outputOf (the-variants.Lengths w m) o′ l′ ≡ outputs o l (determinizeAnswer s o l)
         unfolding subsetPattern
         made-done l′ m v =
             let r = the-given in
             let D = r .result in
-            made-given o l o′ l′ w m (record { automaton = D; labels = numbered (D .size) }) (r .written) (subst (λ i. Written l 0 (writeLabels (numbered i)) l′ m) (r .states) v)
+            made-given o l o′ l′ w m (record { automaton = D; labels = numberedLabels (D .size) }) (r .written) (subst (λ i. Written l 0 (writeLabels (numberedLabels i)) l′ m) (r .states) v)
             ∙ ap (outputs o l) (sym (answer ∙ ap subsetPattern (r .is)))
 
 pub ruleset madeLaws = (made-short, made-faulty, made-refused, made-few, made-done, check-accepted, room-words, room-bytes, needs)

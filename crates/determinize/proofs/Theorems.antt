@@ -23,7 +23,7 @@ use Rattle.lists.specs.Lists.{_∈_, any, filter}
 use Rattle.lists.proofs.Lists.{filter-out, length-tabulate}
 use Rattle.automata.specs.Automaton.{Transition, Automaton, Run, Accepts, Word, InBounds, carries}
 use Rattle.automata.specs.WellFormed.{lastSymbol, WellFormed, Fits}
-use Rattle.labels.specs.Forms.{numberedLabel, numbered}
+use Rattle.labels.specs.Forms.{numberedLabel, numberedLabels}
 use Rattle.labels.proofs.Listing.{labels-tabulate, label-numbered}
 use Rattle.output.specs.declared.Made.{Made}
 use Rattle.output.specs.declared.Made.the-variants.{Lengths}
@@ -226,7 +226,7 @@ pattern-refused (given D) n = (λ e. let z : _≡_ {A = ℕ} 0 1 = cc in absurd 
 
 -- the result with its labels
 abbrev pattern : Automaton → Pattern
-pattern D = record { automaton = D; labels = numbered (D .size) }
+pattern D = record { automaton = D; labels = numberedLabels (D .size) }
 
 pattern-given : (a : Answer Automaton) (P : Pattern) → subsetPattern a ≡ given P → (D : Automaton) × (a ≡ given D)
 unfolding subsetPattern
@@ -260,7 +260,7 @@ module _ (s o l o′ l′ : List ℕ) (r : Made) (call : outputOf r o′ l′ �
         (f, pattern-given (determinize 0 lastSymbol (read s)) P e)
 
     writable : (D : Automaton) → determinize 0 lastSymbol (read s) ≡ given D → Writable (pattern D)
-    unfolding numbered
+    unfolding numberedLabels
     writable D e =
         let ok = well (made .0) in
         let fits = determinize-fits 0 lastSymbol (read s) (ok .states) D e in
@@ -272,7 +272,7 @@ module _ (s o l o′ l′ : List ℕ) (r : Made) (call : outputOf r o′ l′ �
         }
 
     -- the determinization stands in the outputs as an accepted sheet with the labels D0, D1 and so on; nothing behind it is changed
-    pub determinize-left : (D : Automaton) × (determinize 0 lastSymbol (read s) ≡ given D) × Leaves o l o′ l′ w b D (numbered (D .size))
+    pub determinize-left : (D : Automaton) × (determinize 0 lastSymbol (read s) ≡ given D) × Leaves o l o′ l′ w b D (numberedLabels (D .size))
     determinize-left =
         let (D, e) = made .1 in
         (D, e, sheet-call-leaves s o l o′ l′ r answer contract w b lengths (pattern D) (given-pattern (determinize 0 lastSymbol (read s)) D e) (writable D e))

@@ -22,13 +22,13 @@ use crate::Progress;
 use ranges::Ends;
 
 // Where a set stands in the table, and how many sets the table has.
-pub struct Entry {
+pub struct SetEntry {
     pub number: u32,
     pub sets: usize,
 }
 
 // How many sets the table has, and how many transitions are noted.
-pub struct Counts {
+pub struct SetCounts {
     pub sets: usize,
     pub notes: usize,
 }
@@ -40,25 +40,25 @@ pub struct SpanEnd {
 }
 
 // The number of a set in the table of n sets. A nonempty set that the table lacks goes to its end; the empty set has the number 256.
-pub fn place(table: &mut [u64], n: usize, set: &[u64]) -> Entry
+pub fn place(table: &mut [u64], n: usize, set: &[u64]) -> SetEntry
     requires { ⌜ (n < 256) × (length (now table) ≡ 1024) × (4 ≤ length (now set)) ⌝ }
     ensures { λ r. ⌜ SetPlaced (setAt (now (set .entry)) 0) (entries (now (table .entry)) n) (now (table .exit)) (r .sets) (r .number) ⌝ }
 {
     if sets::is_empty(set) {
-        return Entry {
+        return SetEntry {
             number: 256,
             sets: n,
         };
     }
     let j = sets::find(table, n, set);
     if j < n {
-        return Entry {
+        return SetEntry {
             number: j as u32,
             sets: n,
         };
     }
     sets::put_row(table, n, set);
-    Entry {
+    SetEntry {
         number: n as u32,
         sets: n + 1,
     }
@@ -86,7 +86,7 @@ fn visit(
     top: u64,
     table: &mut [u64],
     notes: &mut [u32],
-    counts: Counts,
+    counts: SetCounts,
 ) -> SpanEnd
     requires { ⌜ Tables (now s) (now starts) (now closures) × StateSet (now s) (now set) × (first < top) × (top ≤ 4294967296) ⌝ }
     requires { ⌜ (counts .sets < 256) × (length (now table) ≡ 1024) × (length (now notes) % 5 ≡ 0) ⌝ }
@@ -116,7 +116,7 @@ pub fn visit_spans(
     from: u32,
     table: &mut [u64],
     notes: &mut [u32],
-    counts: Counts,
+    counts: SetCounts,
 ) -> Progress
     requires { ⌜ Tables (now s) (now starts) (now closures) × StateSet (now s) (now set) ⌝ }
     requires { ⌜ TableAndNotes (now s) (now table) (now notes) (counts .sets) (counts .notes) ⌝ }
@@ -139,7 +139,7 @@ pub fn visit_spans(
             top,
             table,
             notes,
-            Counts {
+            SetCounts {
                 sets: n,
                 notes: count,
             },
@@ -221,7 +221,7 @@ fn try_spans(
     from: u32,
     table: &mut [u64],
     notes: &mut [u32],
-    counts: Counts,
+    counts: SetCounts,
 ) -> Exploration
     requires { ⌜ Tables (now s) (now starts) (now closures) × StateSet (now s) (now set) ⌝ }
     requires { ⌜ TableAndNotes (now s) (now table) (now notes) (counts .sets) (counts .notes) × (0 < counts .sets) ⌝ }
@@ -245,7 +245,7 @@ fn try_spans(
             top,
             table,
             notes,
-            Counts {
+            SetCounts {
                 sets: n,
                 notes: count,
             },
@@ -272,7 +272,7 @@ fn visit_set(
     i: usize,
     table: &mut [u64],
     notes: &mut [u32],
-    counts: Counts,
+    counts: SetCounts,
 ) -> Exploration
     requires { ⌜ Tables (now s) (now starts) (now closures) × TableAndNotes (now s) (now table) (now notes) (counts .sets) (counts .notes) × (i < counts .sets) ⌝ }
     ensures { λ r. ⌜ SpansExploration (symbols .lower) (symbols .upper) (read (now (s .entry))) (getD (entries (now (table .entry)) (counts .sets)) i [])
@@ -324,7 +324,7 @@ pub fn explore(
         if is_full(notes, count) {
             return Exploration::Unfinished;
         }
-        let counts = Counts {
+        let counts = SetCounts {
             sets: n,
             notes: count,
         };

@@ -15,8 +15,8 @@ ghost use Rattle.determinize.specs.inner.Notes.{SetPlaced, SpanVisited, 
 ghost use Rattle.determinize.specs.inner.Memory.{TableAndNotes, StartTable};
 ghost use Rattle.determinize.specs.inner.Attempts.{TableResultWithRoom, SetNumbered};
 use crate::Progress;
-use crate::exploring::Counts;
-use crate::exploring::Entry;
+use crate::exploring::SetCounts;
+use crate::exploring::SetEntry;
 use ranges::Ends;
 use sweep::Turn;
 
@@ -32,12 +32,12 @@ fn is_row(table: &[u64], n: usize, set: &[u64], j: usize) -> bool
 }
 
 // The number of a set in the table of n sets, like `place`. Row `near` is compared first.
-fn place_near(table: &mut [u64], n: usize, set: &[u64], near: u32) -> Entry
+fn place_near(table: &mut [u64], n: usize, set: &[u64], near: u32) -> SetEntry
     requires { ⌜ (n < 256) × (length (now table) ≡ 1024) × (4 ≤ length (now set)) × SetNumbered (entries (now table) n) near ⌝ }
     ensures { λ r. ⌜ SetPlaced (setAt (now (set .entry)) 0) (entries (now (table .entry)) n) (now (table .exit)) (r .sets) (r .number) ⌝ }
 {
     if is_row(table, n, set, near as usize) {
-        return Entry {
+        return SetEntry {
             number: near,
             sets: n,
         };
@@ -54,8 +54,8 @@ fn visit_swept(
     near: u32,
     table: &mut [u64],
     notes: &mut [u32],
-    counts: Counts,
-) -> Entry
+    counts: SetCounts,
+) -> SetEntry
     requires { ⌜ (8 ≤ length (now tree)) × (1 ≤ cut) × (cut ≤ 4294967296) × (counts .sets < 256) × (length (now table) ≡ 1024) × (length (now notes) % 5 ≡ 0)
         × SetNumbered (entries (now table) (counts .sets)) near ⌝ }
     ensures visited { λ r. ⌜ SpanVisited (setAt (now (tree .entry)) 4) (entries (now (table .entry)) (counts .sets)) from first (cut - 1)
@@ -81,7 +81,7 @@ fn sweep_spans(
     from: u32,
     table: &mut [u64],
     notes: &mut [u32],
-    counts: Counts,
+    counts: SetCounts,
 ) -> Progress
     requires { ⌜ Closed (now s) (now closures) × Lined 0 (now s) (now opens) × Lined 1 (now s) (now ends) × (4 ≤ length (now set)) ⌝ }
     requires { ⌜ TableAndNotes (now s) (now table) (now notes) (counts .sets) (counts .notes) ⌝ }
@@ -122,7 +122,7 @@ fn sweep_spans(
             near,
             table,
             notes,
-            Counts {
+            SetCounts {
                 sets: n,
                 notes: count,
             },
@@ -148,7 +148,7 @@ fn visit_entry(
     i: usize,
     table: &mut [u64],
     notes: &mut [u32],
-    counts: Counts,
+    counts: SetCounts,
 ) -> Progress
     requires { ⌜ Tables (now s) (now starts) (now closures) × Lined 0 (now s) (now opens) × Lined 1 (now s) (now ends) ⌝ }
     requires { ⌜ TableAndNotes (now s) (now table) (now notes) (counts .sets) (counts .notes) × (i < counts .sets) ⌝ }
@@ -202,7 +202,7 @@ fn explore_swept(
     let mut count: usize = 0;
     let mut i: usize = 0;
     while i < n {
-        let counts = Counts {
+        let counts = SetCounts {
             sets: n,
             notes: count,
         };

@@ -6,11 +6,11 @@ use lib.ListN.{replicate}
 use Rattle.lists.specs.Lists.{tabulate}
 use Rattle.decimal.specs.Decimal.{digits, lastDigits}
 use Rattle.labels.specs.Labels.{writeLabels, writeEntries, readLabels, readEntries, labelsFault, labelsOk, entriesOk}
-use Rattle.labels.specs.Forms.{numbered, pairLabel}
+use Rattle.labels.specs.Forms.{numberedLabels, pairLabel}
 
 -- D0 and D1
-numbered-two : writeLabels (numbered 2) ≡ 2 ∷ 0 ∷ 2 ∷ 68 ∷ 48 ∷ 2 ∷ 68 ∷ 49 ∷ []
-unfolding writeLabels writeEntries numbered tabulate digits lastDigits
+numbered-two : writeLabels (numberedLabels 2) ≡ 2 ∷ 0 ∷ 2 ∷ 68 ∷ 48 ∷ 2 ∷ 68 ∷ 49 ∷ []
+unfolding writeLabels writeEntries numberedLabels tabulate digits lastDigits
 numbered-two = refl
 
 -- (0, 1)

@@ -14,38 +14,38 @@ use Rattle.stores.specs.Written.{Written}
 use Rattle.stores.proofs.Written.{written-length}
 use Rattle.labels.specs.Labels.{entry, writeEntries, countBytes, writeLabels, readLabels, labelCount, labelsFault, AllLabels}
 use Rattle.labels.specs.inner.Places.{LabelList}
-use Rattle.labels.specs.Forms.{numberedLabel, sinkLabel, numbered}
+use Rattle.labels.specs.Forms.{numberedLabel, sinkLabel, numberedLabels}
 use Rattle.labels.proofs.Labels.{sound, length-read, entries-read, labels-read, size-read, write-read}
 use Rattle.labels.proofs.Listing.{list-none, list-next, list-length, list-room, list-done, labels-tabulate, label-numbered}
 
-pub labels-numbered : (n : ℕ) → n ≤ 256 → AllLabels (numbered n)
-unfolding numbered
+pub labels-numbered : (n : ℕ) → n ≤ 256 → AllLabels (numberedLabels n)
+unfolding numberedLabels
 labels-numbered n h = labels-tabulate n numberedLabel (λ k l. label-numbered k (omega arith))
 
-pub length-numbered : (n : ℕ) → length (numbered n) ≡ n
-unfolding numbered
+pub length-numbered : (n : ℕ) → length (numberedLabels n) ≡ n
+unfolding numberedLabels
 length-numbered n = length-tabulate n numberedLabel
 
 -- the numbered labels, of which k are written
-pub numbered-none : (m : List ℕ) (i : ℕ) → Written m i (writeEntries (numbered 0)) m i
-unfolding numbered tabulate
+pub numbered-none : (m : List ℕ) (i : ℕ) → Written m i (writeEntries (numberedLabels 0)) m i
+unfolding numberedLabels tabulate
 numbered-none m i = list-none m i
 
-pub numbered-next : (m o s : List ℕ) (k i at r : ℕ) → Written m i (writeEntries (numbered k)) o at → Written o at (entry (numberedLabel k)) s r → Written m i (writeEntries (numbered (k + 1))) s r
-unfolding numbered
-numbered-next m o s k i at r w v = rw (add-one, tabulate-end k numberedLabel) (list-next m o s (numberedLabel k) (numbered k) i at r w v)
+pub numbered-next : (m o s : List ℕ) (k i at r : ℕ) → Written m i (writeEntries (numberedLabels k)) o at → Written o at (entry (numberedLabel k)) s r → Written m i (writeEntries (numberedLabels (k + 1))) s r
+unfolding numberedLabels
+numbered-next m o s k i at r w v = rw (add-one, tabulate-end k numberedLabel) (list-next m o s (numberedLabel k) (numberedLabels k) i at r w v)
 
-module _ (l m o : List ℕ) (n k i at : ℕ) (c : Written l 0 (countBytes n) m i) (w : Written m i (writeEntries (numbered k)) o at) where
+module _ (l m o : List ℕ) (n k i at : ℕ) (c : Written l 0 (countBytes n) m i) (w : Written m i (writeEntries (numberedLabels k)) o at) where
   pub numbered-length : length o ≡ length l
-  numbered-length = list-length l m o (numbered k) n i at c w
+  numbered-length = list-length l m o (numberedLabels k) n i at c w
 
   pub numbered-room : 16642 ≤ length l → n ≤ 256 → k < n → at + 12 ≤ length o
-  numbered-room r h g = omega (arith, list-room l m o (numbered k) n i at c w (labels-numbered k (omega arith)) (rw (length-numbered k) (omega arith)) r)
+  numbered-room r h g = omega (arith, list-room l m o (numberedLabels k) n i at c w (labels-numbered k (omega arith)) (rw (length-numbered k) (omega arith)) r)
 
-  pub numbered-done : n ≤ k → k ≤ n → Written l 0 (writeLabels (numbered n)) o at
+  pub numbered-done : n ≤ k → k ≤ n → Written l 0 (writeLabels (numberedLabels n)) o at
   numbered-done h g =
       let e : k ≡ n = le-antisymm g h in
-      subst (λ j. Written l 0 (writeLabels (numbered j)) o at) e (list-done l m o (numbered k) n i at c w (length-numbered k ∙ e))
+      subst (λ j. Written l 0 (writeLabels (numberedLabels j)) o at) e (list-done l m o (numberedLabels k) n i at c w (length-numbered k ∙ e))
 
 pub ruleset numberedLaws = (numbered-none, numbered-next, numbered-length, numbered-room, numbered-done, needs)
 

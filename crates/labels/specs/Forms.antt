@@ -17,5 +17,5 @@ abbrev pub sinkLabel : List ℕ
 sinkLabel = 115 ∷ 105 ∷ 110 ∷ 107 ∷ []
 
 -- D0, D1, .. , as many as n
-unfoldable pub numbered : ℕ → List (List ℕ)
-numbered n = tabulate n numberedLabel
+unfoldable pub numberedLabels : ℕ → List (List ℕ)
+numberedLabels n = tabulate n numberedLabel

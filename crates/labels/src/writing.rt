@@ -7,7 +7,7 @@ ghost use Rattle.decimal.specs.Decimal.{digits};
 ghost use Rattle.stores.specs.Written.{Written};
 ghost use Rattle.labels.specs.Labels.{labelsFault, labelCount, readLabels, writeLabels, entry, countBytes};
 ghost use Rattle.labels.specs.inner.Places.{LabelList};
-ghost use Rattle.labels.specs.Forms.{numberedLabel, pairLabel, sinkLabel, numbered};
+ghost use Rattle.labels.specs.Forms.{numberedLabel, pairLabel, sinkLabel, numberedLabels};
 
 // Writes the count of a label list at its front. Like the functions below it answers the place behind what it wrote.
 pub fn put_count(out: &mut [u8], n: usize) -> usize
@@ -82,7 +82,7 @@ pub fn put_pair(out: &mut [u8], at: usize, p: u32, q: u32) -> usize
 pub fn write_numbered(out: &mut [u8], n: usize) -> usize
     requires { ⌜ 16642 ≤ length (now out) ⌝ }
     requires { ⌜ n ≤ 256 ⌝ }
-    ensures { λ r. ⌜ Written (now (out .entry)) 0 (writeLabels (numbered n)) (now (out .exit)) r ⌝ }
+    ensures { λ r. ⌜ Written (now (out .entry)) 0 (writeLabels (numberedLabels n)) (now (out .exit)) r ⌝ }
 {
     let mut at = put_count(out, n);
     let mut k = 0;

@@ -13,7 +13,7 @@ use Rattle.sheets.specs.Fault.{fault}
 use Rattle.sheets.specs.Checked.{checkedNumber}
 use Rattle.sheets.specs.declared.Checked.{Checked}
 use Rattle.sheets.specs.declared.Checked.the-variants.{Accepted, Refused}
-use Rattle.limits.specs.Limits.{loops, sheetOf}
+use Rattle.limits.specs.Limits.{loops, loopSheet}
 
 -- i of m records are stored from start on, and with those that are left all are
 pub record Put (before : List ℕ) (start m i : ℕ) (after : List ℕ) (end : ℕ) : Type 0 where
@@ -63,8 +63,8 @@ module _ (k n m : ℕ) (room : n + 1 + 5 * m ≤ k) where
   head : take (n + 3) (sets (replicate (suc (suc (suc k))) 0) 0 (1 ∷ 0 ∷ n ∷ [])) ≡ 1 ∷ 0 ∷ n ∷ replicate n 0
   head = let z : n + 3 ≡ suc (suc (suc n)) = omega arith in rw z (ap (λ (t : List ℕ). 1 ∷ 0 ∷ n ∷ t) (take-zeros n k (omega arith)))
 
-  sheet-made : (e : ℕ) (a b : List ℕ) → a ≡ sets (replicate (suc (suc (suc k))) 0) 0 (1 ∷ 0 ∷ n ∷ []) → b ≡ sets a (n + 3) (m ∷ loops 0 m) → e ≡ n + 3 + 1 + 5 * m → take e b ≡ sheetOf n m
-  unfolding sheetOf
+  sheet-made : (e : ℕ) (a b : List ℕ) → a ≡ sets (replicate (suc (suc (suc k))) 0) 0 (1 ∷ 0 ∷ n ∷ []) → b ≡ sets a (n + 3) (m ∷ loops 0 m) → e ≡ n + 3 + 1 + 5 * m → take e b ≡ loopSheet n m
+  unfolding loopSheet
   sheet-made e a b f g h =
       let u : List ℕ = 1 ∷ 0 ∷ n ∷ replicate n 0 in
       let v : List ℕ = m ∷ loops 0 m in
@@ -80,15 +80,15 @@ module _ (k n m : ℕ) (room : n + 1 + 5 * m ≤ k) where
 -- the answer of the check of that sheet
 module _ (n m e : ℕ) (a b : List ℕ) (x : Checked) (few : n ≤ 257) (short : m ≤ 2049) where
   module _ (f : a ≡ sets (replicate 10506 0) 0 (1 ∷ 0 ∷ n ∷ [])) (g : b ≡ sets a (n + 3) (m ∷ loops 0 m)) (h : e ≡ n + 3 + 1 + 5 * m) (checked : checkedNumber x ≡ fault (take (e - 0) (drop 0 b))) where
-    its-fault : checkedNumber x ≡ fault (sheetOf n m)
+    its-fault : checkedNumber x ≡ fault (loopSheet n m)
     its-fault =
         let z : e - 0 ≡ e = omega arith in
         checked ∙ ap (λ (t : ℕ). fault (take t b)) z ∙ ap fault (sheet-made 10503 n m (omega (arith, few, short)) e a b f g h)
 
-    pub no-fault : x ≡ Accepted → 0 ≡ fault (sheetOf n m)
+    pub no-fault : x ≡ Accepted → 0 ≡ fault (loopSheet n m)
     no-fault y = sym (ap checkedNumber y) ∙ its-fault
 
-    pub some-fault : (r : InputRefusal) (v : ℕ) → x ≡ Refused r → v ≡ inputNumber r → v ≡ fault (sheetOf n m)
+    pub some-fault : (r : InputRefusal) (v : ℕ) → x ≡ Refused r → v ≡ inputNumber r → v ≡ fault (loopSheet n m)
     some-fault r v y w = w ∙ sym (ap checkedNumber y) ∙ its-fault
 
 pub ruleset faultLaws = (no-fault, some-fault, needs)

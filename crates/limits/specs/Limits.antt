@@ -9,5 +9,5 @@ loops i zero = []
 loops i (suc m) = 0 ∷ 1 ∷ i ∷ i ∷ 0 ∷ loops (suc i) m
 
 -- the sheet with start 0, n states of which none accepts, and m transitions
-unfoldable pub sheetOf : ℕ → ℕ → List ℕ
-sheetOf n m = 1 ∷ 0 ∷ n ∷ replicate n 0 ++ m ∷ loops 0 m
+unfoldable pub loopSheet : ℕ → ℕ → List ℕ
+loopSheet n m = 1 ∷ 0 ∷ n ∷ replicate n 0 ++ m ∷ loops 0 m

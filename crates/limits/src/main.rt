@@ -5,7 +5,7 @@ ghost use mathlib.Core.List.{_∷_};
 ghost use lib.ListN.{length};
 ghost use lib.Seq.{sets};
 ghost use Rattle.sheets.specs.Fault.{fault};
-ghost use Rattle.limits.specs.Limits.{loops, sheetOf};
+ghost use Rattle.limits.specs.Limits.{loops, loopSheet};
 use libc::STDOUT_FILENO;
 use sheets::Checked;
 
@@ -27,7 +27,7 @@ fn put_records(sheet: &mut [u32], at: usize, m: u32) -> usize
 // The number of the fault of a sheet with n states, none of which accepts, and m transitions, or 0.
 fn fault(n: u32, m: u32) -> u32
     requires { ⌜ (n ≤ 257) × (m ≤ 2049) ⌝ }
-    ensures { λ r. ⌜ r ≡ fault (sheetOf n m) ⌝ }
+    ensures { λ r. ⌜ r ≡ fault (loopSheet n m) ⌝ }
 {
     let mut sheet = [0u32; 10506];
     output::put_start(&mut sheet, 0, n);

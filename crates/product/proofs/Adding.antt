@@ -20,7 +20,7 @@ use Rattle.ranges.specs.declared.Common.{Common}
 use Rattle.ranges.specs.declared.Common.the-variants.{Range, Nothing}
 use Rattle.sheets.specs.Sheet.{read}
 use Rattle.automata.specs.Pairs.{Pair}
-use Rattle.product.specs.Product.{jointOf, jointsOf, jointsFrom, transitionOf, transitionsFrom, placeIn}
+use Rattle.product.specs.Product.{jointOf, jointsOf, jointsFrom, transitionOfJoint, transitionsFrom, placeIn}
 use Rattle.product.specs.inner.Tables.{pairOf, tableOf, Queued, RunTo, notEnded, links}
 use Rattle.product.proofs.Joints.{joints-none-left, joints-none-right, joints-left, joints-right, joints-other-left, joints-other-right, joints-two}
 use Rattle.sheets.proofs.Named.{ready-run}
@@ -47,7 +47,7 @@ module _ (buf : List ℕ) (sorted end : ℕ) (k : Open buf sorted end) (T : List
 
     pub joint-put : (a b : ℕ) → x ≡ Range a b → (to : ℕ) → to ≡ placeIn T (record { left = getD d 4 0; right = getD e 4 0 }) → (m : List ℕ) (ahead next : ℕ)
         → Gathered m ahead next (recordsIn buf 0 end ++ record { from = i; kind = 1; first = a; last = b; to = to } ∷ []) → Gathered m ahead next (recordsIn buf 0 end ++ links T i (recordAt d 0 ∷ []) (recordAt e 0 ∷ []))
-    unfolding links jointOf transitionOf
+    unfolding links jointOf transitionOfJoint
     joint-put a b h to q m ahead next g =
         let j : jointsOf (recordAt d 0 ∷ []) (recordAt e 0 ∷ []) ≡ record { span = record { first = a; last = b }; to = record { left = getD d 4 0; right = getD e 4 0 } } ∷ [] =
         joints-two (recordAt d 0) (recordAt e 0) hd he ∙ ap (λ o. jointOf o (record { left = getD d 4 0; right = getD e 4 0 })) (sym told ∙ ap spanOf h) in
@@ -68,11 +68,11 @@ module _ (T : List Pair) (i : ℕ) where
 
   links-left : (d : Transition) (ds es : List Transition) → links T i (d ∷ ds) es ≡ links T i (d ∷ []) es ++ links T i ds es
   unfolding links
-  links-left d ds es = ap (map (transitionOf (placeIn T) i)) (joints-left d ds es) ∙ map-append (transitionOf (placeIn T) i) (jointsOf (d ∷ []) es) (jointsOf ds es)
+  links-left d ds es = ap (map (transitionOfJoint (placeIn T) i)) (joints-left d ds es) ∙ map-append (transitionOfJoint (placeIn T) i) (jointsOf (d ∷ []) es) (jointsOf ds es)
 
   links-right : (d e : Transition) (es : List Transition) → links T i (d ∷ []) (e ∷ es) ≡ links T i (d ∷ []) (e ∷ []) ++ links T i (d ∷ []) es
   unfolding links
-  links-right d e es = ap (map (transitionOf (placeIn T) i)) (joints-right d e es) ∙ map-append (transitionOf (placeIn T) i) (jointsOf (d ∷ []) (e ∷ [])) (jointsOf (d ∷ []) es)
+  links-right d e es = ap (map (transitionOfJoint (placeIn T) i)) (joints-right d e es) ∙ map-append (transitionOfJoint (placeIn T) i) (jointsOf (d ∷ []) (e ∷ [])) (jointsOf (d ∷ []) es)
 
 -- a record with those of a run, which are left from a place on
 pub run-begins : (buf : List ℕ) (sorted end : ℕ) (T : List Pair) (i : ℕ) (d run : List ℕ) → Open buf sorted end
@@ -123,7 +123,7 @@ module _ (buf : List ℕ) (sorted end : ℕ) (T : List Pair) (i : ℕ) (first se
       (s : Gathered m ahead next (recordsIn buf 0 end ++ links T i (recordAt (take (at + 5 - at) (drop at first)) 0 ∷ []) (readRecords (take (length second - past) (drop past second))))) where
     passed : links T i (readRecords (drop at first)) (readRecords (drop from second)) ≡ links T i (readRecords (drop at first)) (readRecords (drop past second))
     unfolding links
-    passed = ap (map (transitionOf (placeIn T) i)) (joints-left-passed q first at r h (readRecords (drop from second)) ∙ ap (jointsOf (readRecords (drop at first))) (sym p))
+    passed = ap (map (transitionOfJoint (placeIn T) i)) (joints-left-passed q first at r h (readRecords (drop from second)) ∙ ap (jointsOf (readRecords (drop at first))) (sym p))
 
     runs-parts : Rest buf sorted end
         (links T i (recordAt (take (at + 5 - at) (drop at first)) 0 ∷ []) (readRecords (take (length second - past) (drop past second))) ++ links T i (readRecords (drop (at + 5) first)) (readRecords (drop past second))) es
@@ -144,7 +144,7 @@ pub ruleset runsLaws = (runs-begins, runs-ended, run-to, run-rest, needs)
 -- the transitions of a pair
 pub pair-links : (a b : List ℕ) (c : ℕ) (first second : List ℕ) → first ≡ writeRecords (leaving (read a) (c / 256)) → second ≡ writeRecords (leaving (read b) (c % 256))
     → (T : List Pair) (i : ℕ) (old : List Transition) (buf : List ℕ) (sorted end : ℕ) → Gathered buf sorted end (old ++ links T i (readRecords first) (readRecords second))
-    → Gathered buf sorted end (old ++ map (transitionOf (placeIn T) i) (jointsFrom (read a) (read b) (pairOf c)))
+    → Gathered buf sorted end (old ++ map (transitionOfJoint (placeIn T) i) (jointsFrom (read a) (read b) (pairOf c)))
 unfolding links jointsFrom
 pair-links a b c first second e f T i old buf sorted end s =
     subst (λ (x : List Transition). Gathered buf sorted end (old ++ x))
@@ -168,14 +168,14 @@ module _ (A B : Automaton) (buf : List ℕ) (sorted end : ℕ) (words t : List �
       (subst (λ (x : List Transition). Rest buf sorted end x es) (ap (transitionsFrom (placeIn (tableOf words n)) A B i) (drop-of-length-le (tableOf words n) {i = i} (omega (arith, count)))) l)
 
   module _ (h : i < n) (m : List ℕ) (ahead next : ℕ)
-      (s : Gathered m ahead next (recordsIn buf 0 end ++ map (transitionOf (placeIn (tableOf words n)) i) (jointsFrom A B (pairOf (getD words i 0))))) where
-    pairs-parts : Rest buf sorted end (map (transitionOf (placeIn (tableOf words n)) i) (jointsFrom A B (pairOf (getD words i 0))) ++ transitionsFrom (placeIn (tableOf words n)) A B (suc i) (drop (suc i) (tableOf words n))) es
+      (s : Gathered m ahead next (recordsIn buf 0 end ++ map (transitionOfJoint (placeIn (tableOf words n)) i) (jointsFrom A B (pairOf (getD words i 0))))) where
+    pairs-parts : Rest buf sorted end (map (transitionOfJoint (placeIn (tableOf words n)) i) (jointsFrom A B (pairOf (getD words i 0))) ++ transitionsFrom (placeIn (tableOf words n)) A B (suc i) (drop (suc i) (tableOf words n))) es
     unfolding transitionsFrom
     pairs-parts =
         let d : Pair = pairOf (getD words i 0) in
         subst (λ (x : List Transition). Rest buf sorted end x es)
         (ap (transitionsFrom (placeIn (tableOf words n)) A B i) (drop-cons (tableOf words n) i d (omega (arith, count)))
-        ∙ ap (λ p. map (transitionOf (placeIn (tableOf words n)) i) (jointsFrom A B p) ++ transitionsFrom (placeIn (tableOf words n)) A B (suc i) (drop (suc i) (tableOf words n)))
+        ∙ ap (λ p. map (transitionOfJoint (placeIn (tableOf words n)) i) (jointsFrom A B p) ++ transitionsFrom (placeIn (tableOf words n)) A B (suc i) (drop (suc i) (tableOf words n)))
         (entry-at words n i d (queued-room words t n k) h)) l
 
     pub pairs-over : length m ≤ next → Gathered m ahead next es

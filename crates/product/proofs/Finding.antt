@@ -24,7 +24,7 @@ use Rattle.sheets.proofs.Named.{ready-run}
 use Rattle.product.proofs.Records.{ready-left, ready-right}
 use Rattle.automata.specs.Pairs.{Pair, samePair}
 use Rattle.product.specs.Product.{Joint, jointsFrom, meetingPairs}
-use Rattle.product.specs.inner.Tables.{pairOf, tableOf, capped, Queued, PairsMet, targets, PairsBelow, foundIn}
+use Rattle.product.specs.inner.Tables.{pairOf, tableOf, capped, Queued, PairsMet, jointTargets, PairsBelow, foundIn}
 use Rattle.product.proofs.Joints.{from-out}
 use Rattle.product.proofs.Queueing.{length-table, entry-at, entry-in, queued-room}
 use Rattle.product.proofs.Result.{startPair}
@@ -42,12 +42,12 @@ module _ (a aruns b bruns : List ℕ) (ra : IndexedSheet a aruns) (rb : IndexedS
   visit-right = ready-run b bruns rb (getD words i 0 % 256) (inside .1)
 
 pub visit-met : (a b : List ℕ) (c : ℕ) (first second : List ℕ) → first ≡ writeRecords (leaving (read a) (c / 256)) → second ≡ writeRecords (leaving (read b) (c % 256))
-    → (T : List Pair) (words t : List ℕ) (m : ℕ) → PairsMet T (targets (readRecords first) (readRecords second)) words t m
+    → (T : List Pair) (words t : List ℕ) (m : ℕ) → PairsMet T (jointTargets (readRecords first) (readRecords second)) words t m
     → PairsMet T (meetingPairs (read a) (read b) .next (pairOf c)) words t m
-unfolding meetingPairs targets jointsFrom
+unfolding meetingPairs jointTargets jointsFrom
 visit-met a b c first second e f T words t m r =
     subst (λ (ps : List Pair). PairsMet T ps words t m)
-    (ap₂ (λ x y. targets x y) (ap readRecords e ∙ read-write (leaving (read a) (c / 256))) (ap readRecords f ∙ read-write (leaving (read b) (c % 256)))) r
+    (ap₂ (λ x y. jointTargets x y) (ap readRecords e ∙ read-write (leaving (read a) (c / 256))) (ap readRecords f ∙ read-write (leaving (read b) (c % 256)))) r
 
 pub ruleset visitLaws = (visit-left, visit-right, ready-left, ready-right, visit-met, needs)
 

@@ -17,7 +17,7 @@ use Rattle.ranges.specs.Span.{intersectRanges}
 use Rattle.automata.specs.Pairs.{Pair}
 use Rattle.product.specs.Product.{Joint, symbolsOf, jointOf, joint, jointsWith, joints, jointsOf, jointsFrom}
 use Rattle.product.specs.Reached.{Meet}
-use Rattle.product.specs.inner.Tables.{ended, notEnded}
+use Rattle.product.specs.inner.Tables.{endsBefore, notEnded}
 
 -- the joint of two ranges that meet
 abbrev pub jointBy : Transition → Transition → Joint
@@ -229,9 +229,9 @@ joints-past (d ∷ ds) e es f =
     let h = f d (List·Memᴰ·head refl) in
     rw (joint-apart d e (omega arith), joints-past ds e es (λ c m. f c (List·Memᴰ·tail m)))
 
-passed-one : (a : ℕ) (ds : List Transition) (e : Transition) (es : List Transition) → ((d : Transition) → d ∈ ds → a ≤ d .first) → ended a e ≡ true
+passed-one : (a : ℕ) (ds : List Transition) (e : Transition) (es : List Transition) → ((d : Transition) → d ∈ ds → a ≤ d .first) → endsBefore a e ≡ true
     → jointsOf ds (e ∷ es) ≡ jointsOf ds es
-unfolding ended jointsOf rangesOf filter
+unfolding endsBefore jointsOf rangesOf filter
 passed-one a ds e es f h = go (eqb (e .kind) 1) refl h
   where
     go : (b : Bool) → eqb (e .kind) 1 ≡ b → (not b || ltb (e .last) a) ≡ true
@@ -244,11 +244,11 @@ passed-one a ds e es f h = go (eqb (e .kind) 1) refl h
 pub joints-passed : (a : ℕ) (ds es : List Transition) → ((d : Transition) → d ∈ ds → a ≤ d .first) → jointsOf ds es ≡ jointsOf ds (notEnded a es)
 unfolding notEnded
 joints-passed a ds [] f = refl
-joints-passed a ds (e ∷ es) f = go (ended a e) refl (joints-passed a ds es f)
+joints-passed a ds (e ∷ es) f = go (endsBefore a e) refl (joints-passed a ds es f)
   where
-    past : ended a e ≡ true → jointsOf ds (e ∷ es) ≡ jointsOf ds es
+    past : endsBefore a e ≡ true → jointsOf ds (e ∷ es) ≡ jointsOf ds es
     past h = passed-one a ds e es f h
 
-    go : (b : Bool) → ended a e ≡ b → jointsOf ds es ≡ jointsOf ds (notEnded a es) → jointsOf ds (e ∷ es) ≡ jointsOf ds (cond b (notEnded a es) (e ∷ es))
+    go : (b : Bool) → endsBefore a e ≡ b → jointsOf ds es ≡ jointsOf ds (notEnded a es) → jointsOf ds (e ∷ es) ≡ jointsOf ds (cond b (notEnded a es) (e ∷ es))
     go true h ih = past h ∙ ih
     go false h ih = refl

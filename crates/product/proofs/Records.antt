@@ -23,7 +23,7 @@ use Rattle.sheets.specs.inner.Runs.{IndexedSheet}
 use Rattle.sheets.proofs.Meaning.{read-well}
 use Rattle.product.specs.Product.{jointsOf}
 use Rattle.product.proofs.Joints.{joints-behind, joints-passed}
-use Rattle.product.specs.inner.Tables.{RunTo, ended, notEnded}
+use Rattle.product.specs.inner.Tables.{RunTo, endsBefore, notEnded}
 
 -- all but the first
 rest-to : (k : ℕ) {e : Transition} {es : List Transition} → RunTo k (e ∷ es) → RunTo k es
@@ -62,7 +62,7 @@ joints-left-passed k t at n h es = joints-passed (getD t (at + 2) 0) (readRecord
 pub passed-to : (k a : ℕ) (es : List Transition) → RunTo k es → RunTo k (notEnded a es)
 unfolding notEnded
 passed-to k a [] r = r
-passed-to k a (e ∷ es) r = go (ended a e) (passed-to k a es (rest-to k r))
+passed-to k a (e ∷ es) r = go (endsBefore a e) (passed-to k a es (rest-to k r))
   where
     go : (b : Bool) → RunTo k (notEnded a es) → RunTo k (cond b (notEnded a es) (e ∷ es))
     go true s = s
@@ -74,12 +74,12 @@ module _ (run : List ℕ) (from a at : ℕ) (e : notEnded a (readRecords (drop a
   unfolding notEnded
   pass-none h = records-end run at h ∙ sym (ap (notEnded a) (records-end run at h)) ∙ e
 
-  module _ (h : 5 ≤ length run - at) (r : Bool) (o : r ≡ ended a (recordAt (take (at + 5 - at) (drop at run)) 0)) where
+  module _ (h : 5 ≤ length run - at) (r : Bool) (o : r ≡ endsBefore a (recordAt (take (at + 5 - at) (drop at run)) 0)) where
     here : notEnded a (readRecords (drop at run)) ≡ cond r (notEnded a (readRecords (drop (at + 5) run))) (readRecords (drop at run))
     unfolding notEnded
     here =
         ap (notEnded a) (records-at run at h)
-        ∙ ap₂ (λ b l. cond b (notEnded a (readRecords (drop (at + 5) run))) l) (sym (o ∙ ap (ended a) (part-record run at))) (sym (records-at run at h))
+        ∙ ap₂ (λ b l. cond b (notEnded a (readRecords (drop (at + 5) run))) l) (sym (o ∙ ap (endsBefore a) (part-record run at))) (sym (records-at run at h))
 
     pub pass-found : not r ≡ true → readRecords (drop at run) ≡ notEnded a (readRecords (drop from run))
     pass-found n = let z : r ≡ false = not-true r n in sym (here ∙ rw z) ∙ e

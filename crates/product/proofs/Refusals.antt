@@ -20,7 +20,7 @@ use Rattle.search.specs.Search.{index, found, table}
 use Rattle.search.proofs.Tables.{index-lt, index-at, index-place}
 use Rattle.search.proofs.Queue.{table-all}
 use Rattle.automata.specs.Pairs.{Pair, samePair}
-use Rattle.product.specs.Product.{Joint, jointsFrom, meetingPairs, transitionOf, placeIn, productAutomaton, isNone, blocked, blockedAt}
+use Rattle.product.specs.Product.{Joint, jointsFrom, meetingPairs, transitionOfJoint, placeIn, productAutomaton, isNone, blocked, blockedAt}
 use Rattle.product.specs.Reached.{PairReached, step, Blocked, PairTransition, Arises, ManyTransitions}
 use Rattle.product.proofs.Joints.{jointBy}
 use Rattle.product.proofs.Joints
@@ -140,7 +140,7 @@ module _ (A B : Automaton) (T : List Pair) (e : table (meetingPairs A B) mostSta
   to-entry t r = rw (to-is t r) (reached-in (step (r .reached) (r .meet)))
 
   arises-in : (t : PairTransition) → Arises A B t → numbered t ∈ productAutomaton A B T .transitions
-  unfolding productAutomaton transitionOf
+  unfolding productAutomaton transitionOfJoint
   arises-in t r =
       let i = index samePair (t .from) T in
       let h = index-lt samePair pair-decides (t .from) (from-entry t r) in

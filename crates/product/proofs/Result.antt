@@ -12,7 +12,7 @@ use Rattle.lists.specs.Lists.{_∈_}
 use Rattle.lists.proofs.Members.{map-in, map-out}
 use Rattle.automata.specs.Automaton.{Transition, Automaton}
 use Rattle.automata.specs.Pairs.{Pair}
-use Rattle.product.specs.Product.{Joint, jointsFrom, transitionOf, transitionsFrom, pairAccept}
+use Rattle.product.specs.Product.{Joint, jointsFrom, transitionOfJoint, transitionsFrom, pairAccept}
 
 -- an image at a place within the list
 module _ (A B : Automaton) where
@@ -41,7 +41,7 @@ module _ (A B : Automaton) where
       pub near : place < length ps
       pub joint : Joint
       pub «in» : joint ∈ jointsFrom A B (getD ps place startPair)
-      pub is : t ≡ transitionOf f (i + place) joint
+      pub is : t ≡ transitionOfJoint f (i + place) joint
 
     pub origin : (i : ℕ) (ps : List Pair) (t : Transition) → t ∈ transitionsFrom f A B i ps → Origin i ps t
     unfolding transitionsFrom
@@ -49,22 +49,22 @@ module _ (A B : Automaton) where
     origin i (p ∷ ps) t m =
         ⊎-elim
         (λ k.
-        let r = map-out (transitionOf f i) (jointsFrom A B p) t k in
+        let r = map-out (transitionOfJoint f i) (jointsFrom A B p) t k in
         let z : i ≡ i + 0 = omega arith in
-        record { place = 0; near = omega arith; joint = r .0; «in» = r .1; is = r .2 ∙ ap (λ n. transitionOf f n (r .0)) z })
+        record { place = 0; near = omega arith; joint = r .0; «in» = r .1; is = r .2 ∙ ap (λ n. transitionOfJoint f n (r .0)) z })
         (λ k.
         let r = origin (suc i) ps t k in
         let n = r .near in
         let z : suc i + r .place ≡ i + suc (r .place) = omega arith in
-        record { place = suc (r .place); near = omega arith; joint = r .joint; «in» = r .in; is = r .is ∙ ap (λ n. transitionOf f n (r .joint)) z })
-        (List·Memᴰ·append-cases (map (transitionOf f i) (jointsFrom A B p)) m)
+        record { place = suc (r .place); near = omega arith; joint = r .joint; «in» = r .in; is = r .is ∙ ap (λ n. transitionOfJoint f n (r .joint)) z })
+        (List·Memᴰ·append-cases (map (transitionOfJoint f i) (jointsFrom A B p)) m)
 
-    pub from-in : (i : ℕ) (ps : List Pair) (k : ℕ) {j : Joint} → k < length ps → j ∈ jointsFrom A B (getD ps k startPair) → transitionOf f (i + k) j ∈ transitionsFrom f A B i ps
+    pub from-in : (i : ℕ) (ps : List Pair) (k : ℕ) {j : Joint} → k < length ps → j ∈ jointsFrom A B (getD ps k startPair) → transitionOfJoint f (i + k) j ∈ transitionsFrom f A B i ps
     unfolding transitionsFrom
     from-in i [] k h m = absurd (omega arith)
     from-in i (p ∷ ps) zero {j} h m =
         let z : i + 0 ≡ i = omega arith in
-        rw z (Memᴰ·append-left (transitionsFrom f A B (suc i) ps) (map-in (transitionOf f i) m))
+        rw z (Memᴰ·append-left (transitionsFrom f A B (suc i) ps) (map-in (transitionOfJoint f i) m))
     from-in i (p ∷ ps) (suc k) {j} h m =
         let z : i + suc k ≡ suc i + k = omega arith in
-        rw z (Memᴰ·append-right (map (transitionOf f i) (jointsFrom A B p)) (from-in (suc i) ps k (omega arith) m))
+        rw z (Memᴰ·append-right (map (transitionOfJoint f i) (jointsFrom A B p)) (from-in (suc i) ps k (omega arith) m))

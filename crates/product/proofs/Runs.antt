@@ -17,7 +17,7 @@ use Rattle.search.specs.Search.{index, found, table}
 use Rattle.search.proofs.Tables.{index-lt, index-at}
 use Rattle.search.proofs.Queue.{table-some, table-start, table-closed}
 use Rattle.automata.specs.Pairs.{Pair, samePair}
-use Rattle.product.specs.Product.{Joint, jointsFrom, meetingPairs, transitionOf, placeIn, pairAccept, productAutomaton}
+use Rattle.product.specs.Product.{Joint, jointsFrom, meetingPairs, transitionOfJoint, placeIn, pairAccept, productAutomaton}
 use Rattle.product.specs.Reached.{Meet}
 use Rattle.product.proofs.Joints.{jointBy, from-out}
 use Rattle.product.proofs.Joints
@@ -57,7 +57,7 @@ module _ (A B : Automaton) (T : List Pair) (e : table (meetingPairs A B) mostSta
   joint-at i h j m = index-at samePair pair-decides (startPair A B) (j .to) T (joint-entry i h j m)
 
   pub leads : (t : Transition) → t ∈ P .transitions → JointTransition t
-  unfolding productAutomaton transitionOf
+  unfolding productAutomaton transitionOfJoint
   leads t m =
       let r = origin A B (placeIn T) 0 T t (inOrder-out t _ m) in
       let i = r .place in
@@ -99,10 +99,10 @@ module _ (A B : Automaton) (T : List Pair) (e : table (meetingPairs A B) mostSta
   -- two ranges that hold the symbol x lead from entry i to another
   read-both : {d c : Transition} {x : ℕ} (i : ℕ) → i < length T → Meet A B (pairAt i .left) (pairAt i .right) d c x → {w : List ℕ} {k : ℕ}
       → Run P (index samePair (record { left = d .to; right = c .to }) T) w k → Run P i (x ∷ w) k
-  unfolding productAutomaton transitionOf
+  unfolding productAutomaton transitionOfJoint
   read-both {d} {c} {x} i h m r =
       let z : 0 + i ≡ i = omega arith in
-      read {a = x} (transitionOf (placeIn T) (0 + i) (jointBy d c)) (inOrder-in (from-in A B (placeIn T) 0 T i h (Joints.from-in A B (pairAt i) m))) z refl
+      read {a = x} (transitionOfJoint (placeIn T) (0 + i) (jointBy d c)) (inOrder-in (from-in A B (placeIn T) 0 T i h (Joints.from-in A B (pairAt i) m))) z refl
       (omega (arith, m .above-left, m .above-right)) (omega (arith, m .below-left, m .below-right)) r
 
   -- the end of a run of the product from entry i, at the pair p and q

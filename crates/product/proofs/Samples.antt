@@ -22,7 +22,7 @@ skipping : Automaton
 skipping = record { size = 2; start = 0; accept = 0 ∷ 1 ∷ []; transitions = record { from = 0; kind = 0; first = 0; last = 0; to = 1 } ∷ [] }
 
 shorter : Product.product (upTo 9) (upTo 8) ≡ given (record { automaton = upTo 8; labels = (40 ∷ 48 ∷ 44 ∷ 32 ∷ 48 ∷ 41 ∷ []) ∷ (40 ∷ 49 ∷ 44 ∷ 32 ∷ 49 ∷ 41 ∷ []) ∷ [] })
-unfolding upTo Product.product Product.pairsAnswer Product.labelled transitionsFirst Product.productAutomaton Product.transitionsFrom Product.transitionOf Product.pairAccept Product.blockedAt Product.blocked hasEpsilon Product.isNone Product.meetingPairs samePair Product.jointsFrom Product.jointsOf Product.joints Product.jointsWith Product.joint Product.jointOf any filter leaving rangesOf insert inOrder intersectRanges index add meet explore table digits lastDigits
+unfolding upTo Product.product Product.pairsAnswer Product.labelled transitionsFirst Product.productAutomaton Product.transitionsFrom Product.transitionOfJoint Product.pairAccept Product.blockedAt Product.blocked hasEpsilon Product.isNone Product.meetingPairs samePair Product.jointsFrom Product.jointsOf Product.joints Product.jointsWith Product.joint Product.jointOf any filter leaving rangesOf insert inOrder intersectRanges index add meet explore table digits lastDigits
 shorter = refl
 
 epsilon : Product.product (upTo 9) skipping ≡ refused 7

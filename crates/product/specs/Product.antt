@@ -61,13 +61,13 @@ meetingPairs A B = record {
 }
 
 -- the transition of a joint that leaves pair i, where f numbers the pairs
-unfoldable pub transitionOf : (Pair → ℕ) → ℕ → Joint → Transition
-transitionOf f i j = record { from = i; kind = 1; first = j .span .first; last = j .span .last; to = f (j .to) }
+unfoldable pub transitionOfJoint : (Pair → ℕ) → ℕ → Joint → Transition
+transitionOfJoint f i j = record { from = i; kind = 1; first = j .span .first; last = j .span .last; to = f (j .to) }
 
 -- the transitions of the pairs ps, which are numbered from i on
 unfoldable pub transitionsFrom : (Pair → ℕ) → Automaton → Automaton → ℕ → List Pair → List Transition
 transitionsFrom f A B i [] = []
-transitionsFrom f A B i (p ∷ ps) = map (transitionOf f i) (jointsFrom A B p) ++ transitionsFrom f A B (suc i) ps
+transitionsFrom f A B i (p ∷ ps) = map (transitionOfJoint f i) (jointsFrom A B p) ++ transitionsFrom f A B (suc i) ps
 
 -- a pair accepts if both do: its accept word is then the first's
 unfoldable pub pairAccept : Automaton → Automaton → Pair → ℕ

@@ -8,7 +8,7 @@ ghost use Rattle.automata.specs.inner.Records.{recordAt};
 ghost use Rattle.sheets.specs.Sheet.{stateCount, read};
 ghost use Rattle.output.specs.inner.Gathering.{Memory, Open, Gathered, Collected};
 ghost use Rattle.output.specs.inner.Ordered.{recordsIn};
-ghost use Rattle.product.specs.Product.{jointsFrom, transitionOf, transitionsFrom, placeIn};
+ghost use Rattle.product.specs.Product.{jointsFrom, transitionOfJoint, transitionsFrom, placeIn};
 ghost use Rattle.sheets.specs.inner.Runs.{IndexedSheet};
 ghost use Rattle.product.specs.inner.Tables.{pairOf, tableOf, Queued, RunTo, PairsBelow, links};
 use output::Filled;
@@ -125,7 +125,7 @@ fn add_pair(
     f: Filled,
 ) -> Filled
     requires { ⌜ IndexedSheet (now a) (now aruns) × IndexedSheet (now b) (now bruns) × (256 * stateCount (now a) ≤ length (now t)) × Queued (now queue) (now t) n × (n ≤ 256) × (i < n) × (pairOf (getD (now queue) i 0) .left < stateCount (now a)) × (pairOf (getD (now queue) i 0) .right < stateCount (now b)) × Open (now buf) (f .sorted) (f .end) ⌝ }
-    ensures { λ r. ⌜ Gathered (now (buf .exit)) (r .sorted) (r .end) (recordsIn (now (buf .entry)) 0 (f .end) ++ map (transitionOf (placeIn (tableOf (now (queue .entry)) n)) i) (jointsFrom (read (now (a .entry))) (read (now (b .entry))) (pairOf (getD (now (queue .entry)) i 0)))) ⌝ }
+    ensures { λ r. ⌜ Gathered (now (buf .exit)) (r .sorted) (r .end) (recordsIn (now (buf .entry)) 0 (f .end) ++ map (transitionOfJoint (placeIn (tableOf (now (queue .entry)) n)) i) (jointsFrom (read (now (a .entry))) (read (now (b .entry))) (pairOf (getD (now (queue .entry)) i 0)))) ⌝ }
 {
     let c = queue[i];
     add_runs(

@@ -10,7 +10,7 @@ ghost use Rattle.search.specs.Search.{table};
 ghost use Rattle.sheets.specs.Sheet.{stateCount, read};
 ghost use Rattle.product.specs.Product.{meetingPairs};
 ghost use Rattle.sheets.specs.inner.Runs.{IndexedSheet};
-ghost use Rattle.product.specs.inner.Tables.{pairOf, tableOf, Queued, PairsMet, RunTo, targets, PairsBelow, foundIn};
+ghost use Rattle.product.specs.inner.Tables.{pairOf, tableOf, Queued, PairsMet, RunTo, jointTargets, PairsBelow, foundIn};
 use ranges::Common;
 
 // The pair of p and q gets the next number, if it has none and there is room. The number of pairs afterwards.
@@ -37,7 +37,7 @@ fn meet_pair(queue: &mut [u32], t: &mut [u8], n: usize, p: u32, q: u32) -> usize
 // The pair to which the records d and e lead is met, if they are ranges that meet.
 fn meet_record(d: &[u32], e: &[u32], queue: &mut [u32], t: &mut [u8], n: usize) -> usize
     requires { ⌜ Queued (now queue) (now t) n × (length (now d) ≡ 5) × (length (now e) ≡ 5) × (recordAt (now d) 0 .to < length (now t) / 256) × (recordAt (now e) 0 .to < 256) ⌝ }
-    ensures { λ r. ⌜ PairsMet (tableOf (now (queue .entry)) n) (targets (recordAt (now (d .entry)) 0 ∷ []) (recordAt (now (e .entry)) 0 ∷ [])) (now (queue .exit)) (now (t .exit)) r ⌝ }
+    ensures { λ r. ⌜ PairsMet (tableOf (now (queue .entry)) n) (jointTargets (recordAt (now (d .entry)) 0 ∷ []) (recordAt (now (e .entry)) 0 ∷ [])) (now (queue .exit)) (now (t .exit)) r ⌝ }
 {
     if d[1] != 1 {
         return n;
@@ -54,7 +54,7 @@ fn meet_record(d: &[u32], e: &[u32], queue: &mut [u32], t: &mut [u8], n: usize) 
 // The pairs to which the record d and those of the run lead are met. No record of the run meets d from the first on that starts behind it.
 fn meet_run(d: &[u32], run: &[u32], queue: &mut [u32], t: &mut [u8], n: usize) -> usize
     requires { ⌜ Queued (now queue) (now t) n × (length (now d) ≡ 5) × (recordAt (now d) 0 .to < length (now t) / 256) × RunTo 256 (readRecords (now run)) ⌝ }
-    ensures { λ r. ⌜ PairsMet (tableOf (now (queue .entry)) n) (targets (recordAt (now (d .entry)) 0 ∷ []) (readRecords (now (run .entry)))) (now (queue .exit)) (now (t .exit)) r ⌝ }
+    ensures { λ r. ⌜ PairsMet (tableOf (now (queue .entry)) n) (jointTargets (recordAt (now (d .entry)) 0 ∷ []) (readRecords (now (run .entry)))) (now (queue .exit)) (now (t .exit)) r ⌝ }
 {
     let mut m = n;
     let mut at: usize = 0;
@@ -72,7 +72,7 @@ fn meet_run(d: &[u32], run: &[u32], queue: &mut [u32], t: &mut [u8], n: usize) -
 // starts are passed over for good, since later ones start no earlier.
 fn meet_runs(first: &[u32], second: &[u32], queue: &mut [u32], t: &mut [u8], n: usize) -> usize
     requires { ⌜ Queued (now queue) (now t) n × RunTo (length (now t) / 256) (readRecords (now first)) × RunTo 256 (readRecords (now second)) ⌝ }
-    ensures { λ r. ⌜ PairsMet (tableOf (now (queue .entry)) n) (targets (readRecords (now (first .entry))) (readRecords (now (second .entry)))) (now (queue .exit)) (now (t .exit)) r ⌝ }
+    ensures { λ r. ⌜ PairsMet (tableOf (now (queue .entry)) n) (jointTargets (readRecords (now (first .entry))) (readRecords (now (second .entry)))) (now (queue .exit)) (now (t .exit)) r ⌝ }
 {
     let mut m = n;
     let mut from: usize = 0;

@@ -4,12 +4,12 @@ ghost use Prim.Native.Nat.{_≤_};
 ghost use lib.ListN.{length, drop};
 ghost use Rattle.automata.specs.Records.{readRecords};
 ghost use Rattle.automata.specs.inner.Records.{recordAt};
-ghost use Rattle.product.specs.inner.Tables.{ended, notEnded};
+ghost use Rattle.product.specs.inner.Tables.{endsBefore, notEnded};
 
 // Whether the record is no range or ends before the symbol a.
 fn is_ended(e: &[u32], a: u32) -> bool
     requires { ⌜ length (now e) ≡ 5 ⌝ }
-    ensures { λ r. ⌜ r ≡ ended a (recordAt (now (e .entry)) 0) ⌝ }
+    ensures { λ r. ⌜ r ≡ endsBefore a (recordAt (now (e .entry)) 0) ⌝ }
 {
     if e[1] != 1 {
         return true;

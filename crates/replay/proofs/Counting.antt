@@ -11,7 +11,7 @@ use Rattle.replay.specs.declared.Numbers.{Numbers}
 use Rattle.replay.specs.declared.Numbers.the-variants.{Stored, TooMany, Malformed}
 use Rattle.replay.specs.declared.Tally.{Tally}
 use Rattle.replay.specs.Lines.{answer, lineAt}
-use Rattle.replay.specs.Counting.{caseOf, caseAt, fresh, begun, tallied}
+use Rattle.replay.specs.Counting.{caseOf, caseAt, freshTally, begun, tallied}
 use Rattle.replay.proofs.Lines.{case-within, case-counted}
 
 -- a line by the answer of the reader
@@ -39,11 +39,11 @@ first-of : (ns : List ℕ) → getD (sets (0 ∷ []) 0 ns) 0 0 ≡ getD ns 0 0
 first-of [] = refl
 first-of (x ∷ ns) = kept ns x 0
 
-pub tally-begun : (s m : List ℕ) (v : Case) (r : Tally) → m ≡ sets (0 ∷ []) 0 (lineAt s 0 .numbers) → v ≡ caseAt 1 s 0 → r ≡ fresh (getD m 0 0) (v .to) → r ≡ begun s
+pub tally-begun : (s m : List ℕ) (v : Case) (r : Tally) → m ≡ sets (0 ∷ []) 0 (lineAt s 0 .numbers) → v ≡ caseAt 1 s 0 → r ≡ freshTally (getD m 0 0) (v .to) → r ≡ begun s
 unfolding begun
 tally-begun s m v r e f g =
     let z : getD m 0 0 ≡ getD (lineAt s 0 .numbers) 0 0 = ap (λ (l : List ℕ). getD l 0 0) e ∙ first-of (lineAt s 0 .numbers) in
-    g ∙ ap₂ fresh z (ap (λ (w : Case). w .to) f)
+    g ∙ ap₂ freshTally z (ap (λ (w : Case). w .to) f)
 
 pub tally-agreed : (t : Tally) (to : ℕ) (b : Bool) → b ≡ true → _≡_ {A = Tally} (record { left = t .left - 1; at = to; agreed = t .agreed + 1; differed = t .differed }) (tallied t to b)
 unfolding tallied

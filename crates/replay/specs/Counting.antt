@@ -20,12 +20,12 @@ unfoldable pub caseAt : ℕ → List ℕ → ℕ → Case
 caseAt room s at = caseOf at (answer room at (lineAt s at))
 
 -- so many cases are left from a place on, and none is counted
-abbrev pub fresh : ℕ → ℕ → Tally
-fresh left at = record { left = left; at = at; agreed = 0; differed = 0 }
+abbrev pub freshTally : ℕ → ℕ → Tally
+freshTally left at = record { left = left; at = at; agreed = 0; differed = 0 }
 
 -- before the first case: the first line's number says how many there are
 unfoldable pub begun : List ℕ → Tally
-begun s = fresh (getD (lineAt s 0 .numbers) 0 0) (caseAt 1 s 0 .to)
+begun s = freshTally (getD (lineAt s 0 .numbers) 0 0) (caseAt 1 s 0 .to)
 
 -- the counts stay words while the cases that are left are counted
 abbrev pub Bounded : Tally → Type 0

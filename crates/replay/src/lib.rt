@@ -10,7 +10,7 @@ ghost use Rattle.io.specs.Counts.{Counts};
 ghost use Rattle.stores.specs.Written.{Written};
 ghost use Rattle.replay.specs.Lines.{ended, told, answer, lineAt};
 ghost use Rattle.replay.specs.Cases.{listAt, isLast, bytesBefore};
-ghost use Rattle.replay.specs.Counting.{caseAt, fresh, begun, Bounded, tallied};
+ghost use Rattle.replay.specs.Counting.{caseAt, freshTally, begun, Bounded, tallied};
 
 // A 32-bit word as a size or an index.
 pub fn wide(x: u32) -> usize
@@ -189,7 +189,7 @@ impl Tally {
     // No case is counted yet.
     fn fresh(left: u32, at: usize) -> Tally
         ensures bounded { λ r. ⌜ Bounded r ⌝ }
-        ensures fresh { λ r. ⌜ r ≡ fresh left at ⌝ }
+        ensures fresh { λ r. ⌜ r ≡ freshTally left at ⌝ }
     {
         Tally {
             left,

@@ -14,8 +14,8 @@ use Rattle.replay.specs.declared.Tally.{Tally}
 use Rattle.replay.specs.Counting.{caseOf, caseAt, begun, tallied}
 use Rattle.replay.specs.Lines.{answer, lineAt}
 use Rattle.replay.proofs.Lines.{LineStored, line-told, line-part}
-use Rattle.replay_all.specs.declared.Kind.{Kind}
-use Rattle.replay_all.specs.declared.Kind.the-variants as kind
+use Rattle.replay_all.specs.declared.ListKind.{ListKind}
+use Rattle.replay_all.specs.declared.ListKind.the-variants as kind
 use Rattle.replay_all.specs.declared.operations.Operation.the-variants.{Totalize, Complement, EpsilonEliminate}
 use Rattle.replay_all.specs.Decided.{sheetCase, labelsCase, wordCase, textCase, nfaCase, nonemptyCase, equivalentCase, subautomatonCase}
 use Rattle.replay_all.specs.Rows.{closuresCase}
@@ -25,9 +25,9 @@ use Rattle.replay_all.specs.Verdicts.{EqualityCase}
 use Rattle.replay_all.specs.Agreement.{Agrees, numbersAt, Turned, Counted, none, more}
 
 -- a case of each kind
-module _ (k : Kind) (s : List ℕ) (b : Bool) where
-  by-kind : {j : Kind} → k ≡ j → Agrees j s b → Agrees k s b
-  by-kind e a = subst (λ (x : Kind). Agrees x s b) (sym e) a
+module _ (k : ListKind) (s : List ℕ) (b : Bool) where
+  by-kind : {j : ListKind} → k ≡ j → Agrees j s b → Agrees k s b
+  by-kind e a = subst (λ (x : ListKind). Agrees x s b) (sym e) a
 
   pub sheets-agree : k ≡ kind.Sheets → b ≡ sheetCase s → Agrees k s b
   unfolding Agrees
@@ -111,7 +111,7 @@ part-at out s at room l = go (answer room at (lineAt s at)) refl
     go TooMany e = refl
     go Malformed e = refl
 
-pub turned : (k : Kind) (text m : List ℕ) (t u : Tally) (v : Case) (b : Bool) → v ≡ caseAt 4096 text (t .at) → m ≡ sets (replicate 4096 0) 0 (lineAt text (t .at) .numbers)
+pub turned : (k : ListKind) (text m : List ℕ) (t u : Tally) (v : Case) (b : Bool) → v ≡ caseAt 4096 text (t .at) → m ≡ sets (replicate 4096 0) 0 (lineAt text (t .at) .numbers)
     → Agrees k (take (v .count) m) b → u ≡ tallied t (v .to) b → Turned k text t u
 turned k text m t u v b e f a p =
     record {
@@ -126,10 +126,10 @@ turned k text m t u v b e f a p =
 pub ruleset turnLaws = (turned, needs)
 
 -- the cases so far
-pub counted-none : (k : Kind) (text : List ℕ) (t : Tally) → t ≡ begun text → Counted k text t
+pub counted-none : (k : ListKind) (text : List ℕ) (t : Tally) → t ≡ begun text → Counted k text t
 counted-none k text t e = subst (Counted k text) (sym e) none
 
-module _ (k : Kind) (text : List ℕ) (t u : Tally) (p : Turned k text t u) (h : 0 < t .left) where
+module _ (k : ListKind) (text : List ℕ) (t u : Tally) (p : Turned k text t u) (h : 0 < t .left) where
   pub counted-more : Counted k text t → Counted k text u
   counted-more c = more c h p
 

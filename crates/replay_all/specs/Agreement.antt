@@ -7,8 +7,8 @@ use lib.ListN.{take}
 use Rattle.replay.specs.declared.Tally.{Tally}
 use Rattle.replay.specs.Counting.{caseAt, begun, tallied}
 use Rattle.replay.specs.Lines.{lineAt}
-use Rattle.replay_all.specs.declared.Kind.{Kind}
-use Rattle.replay_all.specs.declared.Kind.the-variants as kind
+use Rattle.replay_all.specs.declared.ListKind.{ListKind}
+use Rattle.replay_all.specs.declared.ListKind.the-variants as kind
 use Rattle.replay_all.specs.declared.operations.Operation.the-variants.{Totalize, Complement, EpsilonEliminate}
 use Rattle.replay_all.specs.Decided.{sheetCase, labelsCase, wordCase, textCase, nfaCase, nonemptyCase, equivalentCase, subautomatonCase}
 use Rattle.replay_all.specs.Rows.{closuresCase}
@@ -17,7 +17,7 @@ use Rattle.replay_all.specs.Spans.{rangesCase}
 use Rattle.replay_all.specs.Verdicts.{EqualityCase}
 
 -- r says whether a case of the kind agrees
-unfoldable pub Agrees : Kind → List ℕ → Bool → Type 0
+unfoldable pub Agrees : ListKind → List ℕ → Bool → Type 0
 Agrees kind.Sheets s r = r ≡ sheetCase s
 Agrees kind.Labels s r = r ≡ labelsCase s
 Agrees kind.Accepts s r = r ≡ wordCase s
@@ -41,12 +41,12 @@ unfoldable pub numbersAt : List ℕ → ℕ → List ℕ
 numbersAt text at = take (caseAt 4096 text at .count) (lineAt text at .numbers)
 
 -- the tally u after t with the case at its place
-pub record Turned (k : Kind) (text : List ℕ) (t u : Tally) : Type 0 where
+pub record Turned (k : ListKind) (text : List ℕ) (t u : Tally) : Type 0 where
   pub agreement : Bool
   pub agrees : Agrees k (numbersAt text (t .at)) agreement
   pub is : u ≡ tallied t (caseAt 4096 text (t .at) .to) agreement
 
 -- the tally after some cases of the text
-pub data Counted (k : Kind) (text : List ℕ) : Tally → Type 0 where
+pub data Counted (k : ListKind) (text : List ℕ) : Tally → Type 0 where
   none : Counted k text (begun text)
   more : {t u : Tally} → Counted k text t → 0 < t .left → Turned k text t u → Counted k text u

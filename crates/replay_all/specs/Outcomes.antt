@@ -15,16 +15,16 @@ use Rattle.refusal.specs.Answer.{Answer, refused, given}
 use Rattle.refusal.specs.Outcome.{Outcome}
 use Rattle.replay.specs.Cases.{listAt, isLast}
 use Rattle.totality.specs.Answers.{totalizeAnswer, complementAnswer}
-use Rattle.replay_all.specs.Parts.{behind, areBytes}
+use Rattle.replay_all.specs.Parts.{behindList, areBytes}
 use Rattle.replay_all.specs.declared.operations.Operation.{Operation}
 use Rattle.replay_all.specs.declared.operations.Operation.the-variants.{Totalize, Complement, EpsilonEliminate}
 
 -- the words and the bytes stand in the case as two lists from the place on, and nothing behind them
 unfoldable pub isListed : List ℕ → ℕ → List ℕ → List ℕ → Bool
 isListed s at ws bs =
-    cond (eqb (behind s (behind s at)) (length s))
-    (cond (areBytes 16642 (listAt s (behind s at)))
-    (cond (sameLabel (listAt s at) ws) (sameLabel (listAt s (behind s at)) bs) false)
+    cond (eqb (behindList s (behindList s at)) (length s))
+    (cond (areBytes 16642 (listAt s (behindList s at)))
+    (cond (sameLabel (listAt s at) ws) (sameLabel (listAt s (behindList s at)) bs) false)
     false)
     false
 
@@ -51,12 +51,12 @@ bytes = replicate 16642 0
 
 -- a sheet, then the outcome of determinizing it
 unfoldable pub determinizeCase : List ℕ → Bool
-determinizeCase s = isOutcome s (behind s 0) (outputs words bytes (determinizeAnswer (listAt s 0) words bytes))
+determinizeCase s = isOutcome s (behindList s 0) (outputs words bytes (determinizeAnswer (listAt s 0) words bytes))
 
 -- two sheets, then the outcome of their product
 unfoldable pub productCase : List ℕ → Bool
 productCase s =
-    isOutcome s (behind s (behind s 0)) (outputs words bytes (intersectionAnswer (listAt s 0) (listAt s (behind s 0)) words bytes))
+    isOutcome s (behindList s (behindList s 0)) (outputs words bytes (intersectionAnswer (listAt s 0) (listAt s (behindList s 0)) words bytes))
 
 -- the operations that keep labels
 unfoldable pub operation : Operation → List ℕ → List ℕ → List ℕ → List ℕ → Answer Pattern
@@ -67,8 +67,8 @@ operation EpsilonEliminate s b o l = eliminateAnswer s b o l
 -- a sheet, its labels, then the outcome of the operation
 unfoldable pub operationCase : Operation → List ℕ → Bool
 operationCase o s =
-    cond (areBytes 16642 (listAt s (behind s 0)))
-    (isOutcome s (behind s (behind s 0)) (outputs words bytes (operation o (listAt s 0) (listAt s (behind s 0)) words bytes)))
+    cond (areBytes 16642 (listAt s (behindList s 0)))
+    (isOutcome s (behindList s (behindList s 0)) (outputs words bytes (operation o (listAt s 0) (listAt s (behindList s 0)) words bytes)))
     false
 
 -- the answer of the pattern reader with its outputs ws and bs stands in the case from the place on: behind the 0 the number of bytes read
@@ -90,5 +90,5 @@ isReading s at o = isRead s at (o .answer) (o .memory .sheet) (o .memory .labels
 unfoldable pub parseCase : List ℕ → Bool
 parseCase s =
     cond (areBytes 4096 (listAt s 0))
-    (isReading s (behind s 0) (parsed words bytes (parseAnswer (listAt s 0) words bytes)))
+    (isReading s (behindList s 0) (parsed words bytes (parseAnswer (listAt s 0) words bytes)))
     false

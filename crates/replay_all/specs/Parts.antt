@@ -7,8 +7,8 @@ use lib.ListN.{length, take}
 use Rattle.replay.specs.Cases.{listAt, bytesBefore}
 
 -- the place behind the list at a place
-abbrev pub behind : List ℕ → ℕ → ℕ
-behind s at = at + 1 + length (listAt s at)
+abbrev pub behindList : List ℕ → ℕ → ℕ
+behindList s at = at + 1 + length (listAt s at)
 
 -- the list has at most `room` elements, and all are bytes
 abbrev pub areBytes : ℕ → List ℕ → Bool

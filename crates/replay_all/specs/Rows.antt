@@ -10,12 +10,12 @@ use Rattle.sets.specs.Sets.{Set}
 use Rattle.sheets.specs.Fault.{fault}
 use Rattle.sheets.specs.Sheet.{read}
 use Rattle.words.specs.Simulation.{closures}
-use Rattle.replay_all.specs.Parts.{behind}
+use Rattle.replay_all.specs.Parts.{behindList}
 
 -- the lists of the case from the place on are the sets, and nothing stands behind them
 unfoldable pub areRows : List Set → List ℕ → ℕ → Bool
 areRows [] s at = eqb at (length s)
-areRows (S ∷ T) s at = cond (leb (length s) at) false (cond (sameLabel (listAt s at) S) (areRows T s (behind s at)) false)
+areRows (S ∷ T) s at = cond (leb (length s) at) false (cond (sameLabel (listAt s at) S) (areRows T s (behindList s at)) false)
 
 unfoldable pub closuresCase : List ℕ → Bool
-closuresCase s = cond (eqb (fault (listAt s 0)) 0) (areRows (closures (read (listAt s 0))) s (behind s 0)) false
+closuresCase s = cond (eqb (fault (listAt s 0)) 0) (areRows (closures (read (listAt s 0))) s (behindList s 0)) false

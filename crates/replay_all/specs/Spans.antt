@@ -13,7 +13,7 @@ use Rattle.ranges.specs.Span.{Span, intersectRanges, overlapping}
 use Rattle.replay.specs.Cases.{listAt}
 use Rattle.sheets.specs.Fault.{fault}
 use Rattle.sheets.specs.Sheet.{read}
-use Rattle.replay_all.specs.Parts.{behind}
+use Rattle.replay_all.specs.Parts.{behindList}
 
 -- the list has first and last of the span, or nothing
 abbrev pub isEnds : List ℕ → Option Span → Bool
@@ -24,7 +24,7 @@ isEnds l (some s) = cond (eqb (length l) 2) (cond (eqb (getD l 0 0) (s .first)) 
 unfoldable pub commonCase : List ℕ → Bool
 commonCase s =
     cond (ltb (length s) 5) false
-    (cond (eqb (behind s 5) (length s))
+    (cond (eqb (behindList s 5) (length s))
     (isEnds (listAt s 5) (intersectRanges (record { first = getD s 1 0; last = getD s 2 0 }) (record { first = getD s 3 0; last = getD s 4 0 })))
     false)
 
@@ -51,7 +51,7 @@ areSpans l hs = cond (ltb 2049 (length hs)) false (sameLabel l (spanWords hs))
 unfoldable pub isHoles : List ℕ → ℕ → List Transition → Bool
 isHoles s at es =
     cond (leb (length s) at) false
-    (cond (eqb (behind s (at + 1)) (length s))
+    (cond (eqb (behindList s (at + 1)) (length s))
     (cond (isBit (getD s at 0) (overlapping es)) (areSpans (listAt s (at + 1)) (missing 0 4294967295 es)) false)
     false)
 
@@ -59,7 +59,7 @@ isHoles s at es =
 unfoldable pub holesCase : List ℕ → Bool
 holesCase s =
     cond (eqb (fault (rangeSheet (listAt s 1))) 0)
-    (isHoles s (behind s 1) (rangesOf (leaving (read (rangeSheet (listAt s 1))) 0)))
+    (isHoles s (behindList s 1) (rangesOf (leaving (read (rangeSheet (listAt s 1))) 0)))
     false
 
 -- a first word of 0 says that the ranges of a state follow

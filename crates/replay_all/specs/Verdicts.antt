@@ -14,7 +14,7 @@ use Rattle.refusal.specs.Answer.{Answer, refused, given}
 use Rattle.refusal.specs.Number.{numberOf}
 use Rattle.replay.specs.Cases.{listAt, isLast}
 use Rattle.words.specs.Acceptance.{acceptsWordsAnswer}
-use Rattle.replay_all.specs.Parts.{behind}
+use Rattle.replay_all.specs.Parts.{behindList}
 
 -- the answer says that the word is accepted
 abbrev pub isOne : Answer ℕ → Bool
@@ -47,5 +47,5 @@ isVerdict s at a b o (Refused r) = isLast s at (numberOf r)
 pub record EqualityCase (s : List ℕ) (r : Bool) : Type 0 where
   pub verdict : Verdict
   pub word : List ℕ
-  pub judged : Judged (equalityAnswer 0 lastSymbol (listAt s 0) (listAt s (behind s 0)) (replicate 510 0)) (replicate 510 0) word verdict
-  pub is : r ≡ isVerdict s (behind s (behind s 0)) (listAt s 0) (listAt s (behind s 0)) word verdict
+  pub judged : Judged (equalityAnswer 0 lastSymbol (listAt s 0) (listAt s (behindList s 0)) (replicate 510 0)) (replicate 510 0) word verdict
+  pub is : r ≡ isVerdict s (behindList s (behindList s 0)) (listAt s 0) (listAt s (behindList s 0)) word verdict

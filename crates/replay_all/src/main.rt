@@ -33,7 +33,7 @@ mod questions;
 mod symbols;
 mod verdicts;
 
-enum Kind {
+enum ListKind {
     Sheets,
     Labels,
     Accepts,
@@ -54,32 +54,32 @@ enum Kind {
 }
 
 // Whether the answer in a case is the one that the port gives.
-fn agrees(kind: Kind, case: &[u32]) -> bool
+fn agrees(kind: ListKind, case: &[u32]) -> bool
     ensures { λ r. ⌜ Agrees kind (now (case .entry)) r ⌝ }
 {
     match kind {
-        Kind::Sheets => inputs::sheet(case),
-        Kind::Labels => inputs::label_list(case),
-        Kind::Accepts => acceptance::word(case),
-        Kind::Text => acceptance::text(case),
-        Kind::Ranges => symbols::ranges_of(case),
-        Kind::Closures => closures::of_sheet(case),
-        Kind::Determinize => operations::determinized(case),
-        Kind::Product => operations::intersected(case),
-        Kind::Totalize => operations::totalized(case),
-        Kind::Complement => operations::complemented(case),
-        Kind::EpsilonEliminate => operations::epsilon_eliminated(case),
-        Kind::IsNfa => questions::nfa(case),
-        Kind::Nonempty => questions::nonempty(case),
-        Kind::IsEquivalent => questions::equivalent(case),
-        Kind::IsSubautomaton => questions::subautomaton(case),
-        Kind::Parse => operations::parsed(case),
-        Kind::Equality => verdicts::compared(case),
+        ListKind::Sheets => inputs::sheet(case),
+        ListKind::Labels => inputs::label_list(case),
+        ListKind::Accepts => acceptance::word(case),
+        ListKind::Text => acceptance::text(case),
+        ListKind::Ranges => symbols::ranges_of(case),
+        ListKind::Closures => closures::of_sheet(case),
+        ListKind::Determinize => operations::determinized(case),
+        ListKind::Product => operations::intersected(case),
+        ListKind::Totalize => operations::totalized(case),
+        ListKind::Complement => operations::complemented(case),
+        ListKind::EpsilonEliminate => operations::epsilon_eliminated(case),
+        ListKind::IsNfa => questions::nfa(case),
+        ListKind::Nonempty => questions::nonempty(case),
+        ListKind::IsEquivalent => questions::equivalent(case),
+        ListKind::IsSubautomaton => questions::subautomaton(case),
+        ListKind::Parse => operations::parsed(case),
+        ListKind::Equality => verdicts::compared(case),
     }
 }
 
 // Replays the next case.
-fn turn(kind: Kind, text: &[u8], t: Tally) -> Tally
+fn turn(kind: ListKind, text: &[u8], t: Tally) -> Tally
     requires { ⌜ (0 < t .left) × Bounded t ⌝ }
     ensures bounded { λ r. ⌜ Bounded r ⌝ }
     ensures turned { λ r. ⌜ Turned kind (now (text .entry)) t r ⌝ }
@@ -91,7 +91,7 @@ fn turn(kind: Kind, text: &[u8], t: Tally) -> Tally
 }
 
 // Replays as many cases as the list announces.
-fn replay_list(kind: Kind, text: &[u8]) -> Tally
+fn replay_list(kind: ListKind, text: &[u8]) -> Tally
     ensures { λ r. ⌜ Counted kind (now (text .entry)) r × (r .left ≡ 0) ⌝ }
 {
     let mut t = Tally::begin(text);
@@ -111,7 +111,7 @@ fn print_counts(t: Tally) {
 }
 
 // Replays the list in a file, and prints its name and the counts.
-fn replay_file(kind: Kind, name: &[u8]) {
+fn replay_file(kind: ListKind, name: &[u8]) {
     let file = os::open_read(name);
     if file < 0 {
         os::fail(name);
@@ -127,21 +127,21 @@ fn replay_file(kind: Kind, name: &[u8]) {
 }
 
 fn main() {
-    replay_file(Kind::Sheets, b"sheets");
-    replay_file(Kind::Labels, b"labels");
-    replay_file(Kind::Accepts, b"accepts");
-    replay_file(Kind::Text, b"text");
-    replay_file(Kind::Ranges, b"ranges");
-    replay_file(Kind::Closures, b"closures");
-    replay_file(Kind::Determinize, b"determinize");
-    replay_file(Kind::Product, b"product");
-    replay_file(Kind::Totalize, b"totalize");
-    replay_file(Kind::Complement, b"complement");
-    replay_file(Kind::EpsilonEliminate, b"epsilon_eliminate");
-    replay_file(Kind::IsNfa, b"is_nfa");
-    replay_file(Kind::Nonempty, b"nonempty");
-    replay_file(Kind::IsEquivalent, b"is_equivalent");
-    replay_file(Kind::IsSubautomaton, b"is_subautomaton");
-    replay_file(Kind::Parse, b"parse");
-    replay_file(Kind::Equality, b"equality");
+    replay_file(ListKind::Sheets, b"sheets");
+    replay_file(ListKind::Labels, b"labels");
+    replay_file(ListKind::Accepts, b"accepts");
+    replay_file(ListKind::Text, b"text");
+    replay_file(ListKind::Ranges, b"ranges");
+    replay_file(ListKind::Closures, b"closures");
+    replay_file(ListKind::Determinize, b"determinize");
+    replay_file(ListKind::Product, b"product");
+    replay_file(ListKind::Totalize, b"totalize");
+    replay_file(ListKind::Complement, b"complement");
+    replay_file(ListKind::EpsilonEliminate, b"epsilon_eliminate");
+    replay_file(ListKind::IsNfa, b"is_nfa");
+    replay_file(ListKind::Nonempty, b"nonempty");
+    replay_file(ListKind::IsEquivalent, b"is_equivalent");
+    replay_file(ListKind::IsSubautomaton, b"is_subautomaton");
+    replay_file(ListKind::Parse, b"parse");
+    replay_file(ListKind::Equality, b"equality");
 }

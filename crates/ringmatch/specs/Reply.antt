@@ -25,12 +25,12 @@ abbrev pub replyToNumber : ℕ → Answer ℕ → Reply ℕ (Unit {0})
 replyToNumber old a = reply old (outcome (λ k. k) nothingStored tt a)
 
 -- a yes is 1, a no 0
-abbrev pub bit : Bool → ℕ
-bit true = 1
-bit false = 0
+abbrev pub boolWord : Bool → ℕ
+boolWord true = 1
+boolWord false = 0
 
 abbrev pub replyToBool : ℕ → Answer Bool → Reply ℕ (Unit {0})
-replyToBool old a = reply old (outcome bit nothingStored tt a)
+replyToBool old a = reply old (outcome boolWord nothingStored tt a)
 
 -- of a function with two outputs: cells for their lengths
 abbrev pub outputsReply : ℕ → ℕ → ℕ → List ℕ → List ℕ → Reply Lengths Outputs

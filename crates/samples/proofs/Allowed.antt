@@ -20,11 +20,11 @@ use Rattle.refusal.specs.Answer.{Answer, given}
 use Rattle.sheets.specs.Sheet.{read}
 use Rattle.verdict_line.specs.Line.{VerdictLine, same, differs, sameLine, differLine}
 use Rattle.samples.proofs.Patterns.{determinized, DC}
-use Rattle.samples.specs.Samples.{A, B, DA, DB, both}
+use Rattle.samples.specs.Samples.{A, B, DA, DB, bothDeterminized}
 use Rattle.samples.proofs.Three.{three, well-a, well-b}
 use Rattle.samples.proofs.Verdicts.{same-ab}
 
-equal-4 : Equal both 4
+equal-4 : Equal bothDeterminized 4
 equal-4 = record { words = agree; number = 3; counted = three; joined = refl }
   where
     agree : (w : List ℕ) → Word 0 lastSymbol w → acceptAfter DA w ≡ acceptAfter DB w
@@ -42,8 +42,8 @@ apart-9 : Apart others (9 ∷ [])
 unfolding stateAfter successor filter carries holds
 apart-9 = record { word = more (lit≤ tt) (lit≤ tt) none; short = lit≤ tt; differ = λ e. omega arith }
 
-pub allowed-same-4 : (x : Answer Two) → x ≡ given both → VerdictLine x (sameLine 4)
-allowed-same-4 x e = subst (λ (y : Answer Two). VerdictLine y (sameLine 4)) (sym e) (same both 4 equal-4)
+pub allowed-same-4 : (x : Answer Two) → x ≡ given bothDeterminized → VerdictLine x (sameLine 4)
+allowed-same-4 x e = subst (λ (y : Answer Two). VerdictLine y (sameLine 4)) (sym e) (same bothDeterminized 4 equal-4)
 
 pub allowed-differ-9 : (x : Answer Two) → x ≡ given others → VerdictLine x (differLine (9 ∷ []))
 allowed-differ-9 x e = subst (λ (y : Answer Two). VerdictLine y (differLine (9 ∷ []))) (sym e) (differs others (9 ∷ []) apart-9)

@@ -28,7 +28,7 @@ use Rattle.verdict_line.specs.Texts.{twoTexts, withSecondText, withFirstText, v
 use Rattle.verdict_line.specs.Line.{VerdictLine, refuses, same, differs, sameLine, differLine}
 use Rattle.samples.proofs.Allowed.{allowed-same-4, allowed-differ-9}
 use Rattle.samples.proofs.Patterns.{determinized, no-fault, DC}
-use Rattle.samples.specs.Samples.{A, B, C, DA, DB, both}
+use Rattle.samples.specs.Samples.{A, B, C, DA, DB, bothDeterminized}
 use Rattle.samples.proofs.Three.{three, well-a, well-b}
 use Rattle.samples.proofs.Verdicts.{same-ab, differ-ac, only-nine}
 use Rattle.output.specs.Output.{statesFirst, transitionsFirst}
@@ -38,7 +38,7 @@ apart = record { one = DA; two = DC; lower = 0; upper = lastSymbol }
 
 -- the texts are read as A, B and C
 are-compared :
-    (verdictAnswer 0 lastSymbol (text-a ++ 32 ∷ text-b) ≡ given both)
+    (verdictAnswer 0 lastSymbol (text-a ++ 32 ∷ text-b) ≡ given bothDeterminized)
     × (verdictAnswer 0 lastSymbol (text-a ++ 32 ∷ text-c) ≡ given apart)
 unfolding follow isSpace isLetter isDigit isNameByte run space neededSpace begins token name valueAfter number ends range target transition initial
     nextName many transitions nextNames accepting heading ending wholeText spell sameLabel index add meet flatMap namesOf statesOf any acceptWord automatonOf
@@ -61,17 +61,17 @@ may-print-differ-9 = allowed-differ-9 _ (are-compared .1)
 
 -- and no others
 
-by-both : (x : Answer Two) (bytes : List ℕ) → x ≡ given both → VerdictLine x bytes → bytes ≡ sameLine 4
+by-both : (x : Answer Two) (bytes : List ℕ) → x ≡ given bothDeterminized → VerdictLine x bytes → bytes ≡ sameLine 4
 by-both x bytes e (refuses n) = absurd (let z : _≡_ {A = ℕ} 0 1 = cc in omega arith)
 by-both x bytes e (same t joins h) =
-    let z : t ≡ both = cc in
+    let z : t ≡ bothDeterminized = cc in
     let q = subst (λ (u : Two). Equal u joins) z h in
-    let three-classes : q .number ≡ 3 = classes-number both (q .number) 3 (q .counted) three in
+    let three-classes : q .number ≡ 3 = classes-number bothDeterminized (q .number) 3 (q .counted) three in
     let sum = q .joined in
     let four : joins ≡ 4 = omega arith in
     ap sameLine four
 by-both x bytes e (differs t w h) =
-    let z : t ≡ both = cc in
+    let z : t ≡ bothDeterminized = cc in
     let q = subst (λ (u : Two). Apart u w) z h in
     let one = one-word 0 lastSymbol (read A) (read B) well-a well-b DA DB (determinized .0) (determinized .1) w (q .word) (q .differ) in
     absurd (not-same 0 lastSymbol (read A) (read B) w one (q .word) same-ab)

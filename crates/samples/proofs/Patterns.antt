@@ -18,7 +18,7 @@ use Rattle.sets.specs.Closure.{through, closed}
 use Rattle.sheets.specs.Fault.{isBad, recordFault, recordsFault, transitionsFault, statesFault, fault}
 use Rattle.sheets.specs.Sheet.{read}
 use Rattle.words.specs.Simulation.{isEpsilon, epsilonRow, closures, closure, outgoing, step, startSet, least, kindOf}
-use Rattle.samples.specs.Samples.{range, A, B, C, DA, DB}
+use Rattle.samples.specs.Samples.{rangeTransition, A, B, C, DA, DB}
 
 -- the determinization of C
 abbrev pub DC : Automaton
@@ -26,7 +26,7 @@ DC = record {
   size = 3;
   start = 0;
   accept = 0 ∷ 1 ∷ 0 ∷ [];
-  transitions = range 0 0 8 1 ∷ range 0 9 lastSymbol 2 ∷ range 1 0 lastSymbol 2 ∷ range 2 0 lastSymbol 2 ∷ [];
+  transitions = rangeTransition 0 0 8 1 ∷ rangeTransition 0 9 lastSymbol 2 ∷ rangeTransition 1 0 lastSymbol 2 ∷ rangeTransition 2 0 lastSymbol 2 ∷ [];
 }
 
 pub determinized : (determinize 0 lastSymbol (read A) ≡ given DA) × (determinize 0 lastSymbol (read B) ≡ given DB) × (determinize 0 lastSymbol (read C) ≡ given DC)

@@ -16,7 +16,7 @@ use Rattle.ranges.specs.Cuts.{nearer, nextCut, spans, cutAll}
 use Rattle.ranges.specs.Missing.{covered, missing}
 use Rattle.sheets.specs.Sheet.{read}
 use Rattle.totality.specs.Totality.{filled, filledIn, totalized, flipped, complemented}
-use Rattle.samples.specs.Samples.{range, A, O}
+use Rattle.samples.specs.Samples.{rangeTransition, A, O}
 use Rattle.samples.proofs.Single.{a-single}
 
 pub accepts-9 : Accepts (read A) (9 ∷ [])
@@ -31,9 +31,9 @@ rejects-empty h = let (x, e, l) = a-single [] .0 h in let z : _≡_ {A = ℕ} 0 
 -- 0 leads to 1, which accepts
 pub overlap-accepts-5 : Accepts (read O) (5 ∷ [])
 unfolding readRecords
-overlap-accepts-5 = (1, runs.read (range 0 0 9 1) (List·Memᴰ·head refl) refl refl (lit≤ tt) (lit≤ tt) stay, lit≤ tt)
+overlap-accepts-5 = (1, runs.read (rangeTransition 0 0 9 1) (List·Memᴰ·head refl) refl refl (lit≤ tt) (lit≤ tt) stay, lit≤ tt)
 
 -- 0 leads to 2, which accepts in the complement
 pub complement-accepts-5 : Accepts (complemented 0 lastSymbol (read O)) (5 ∷ [])
 unfolding any filter tabulate flatMap map holds leaving rangesOf inOrder insert readRecords nearer nextCut spans cutAll covered missing overlapsFrom overlapping states holesOf hasEpsilon isNfaAt isNfaIn isNfa filled filledIn totalized flipped complemented
-complement-accepts-5 = (2, runs.read (range 0 0 9 2) (List·Memᴰ·tail (List·Memᴰ·head refl)) refl refl (lit≤ tt) (lit≤ tt) stay, lit≤ tt)
+complement-accepts-5 = (2, runs.read (rangeTransition 0 0 9 2) (List·Memᴰ·tail (List·Memᴰ·head refl)) refl refl (lit≤ tt) (lit≤ tt) stay, lit≤ tt)

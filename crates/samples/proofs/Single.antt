@@ -13,7 +13,7 @@ use Rattle.lists.proofs.Tests.{test}
 use Rattle.automata.specs.Automaton.{Transition, Automaton, Run, stay, skip, read, Accepts}
 use Rattle.automata.specs.Records.{readRecords}
 use Rattle.sheets.specs.Sheet
-use Rattle.samples.specs.Samples.{range, A, B, C}
+use Rattle.samples.specs.Samples.{rangeTransition, A, B, C}
 
 -- all transitions are ranges up to k, and lead from the start, which rejects, to other states
 pub record Short (k : ℕ) (X : Automaton) : Type 0 where
@@ -44,10 +44,10 @@ module _ (k : ℕ) (X : Automaton) (s : Short k X) where
 
 module _ (k : ℕ) where
   abbrev pub One : Automaton
-  One = record { size = 2; start = 0; accept = 0 ∷ 1 ∷ []; transitions = range 0 0 k 1 ∷ [] }
+  One = record { size = 2; start = 0; accept = 0 ∷ 1 ∷ []; transitions = rangeTransition 0 0 k 1 ∷ [] }
 
-  only : (P : Transition → Type 0) → P (range 0 0 k 1) → (e : Transition) → e ∈ One .transitions → P e
-  only P h e m = ⊎-elim (λ (q : e ≡ range 0 0 k 1). subst P (sym q) h) (λ n. absurd (List·Memᴰ·not-nil n)) (List·Memᴰ·cases-cons m)
+  only : (P : Transition → Type 0) → P (rangeTransition 0 0 k 1) → (e : Transition) → e ∈ One .transitions → P e
+  only P h e m = ⊎-elim (λ (q : e ≡ rangeTransition 0 0 k 1). subst P (sym q) h) (λ n. absurd (List·Memᴰ·not-nil n)) (List·Memᴰ·cases-cons m)
 
   short-one : Short k One
   short-one =
@@ -64,15 +64,15 @@ module _ (k : ℕ) where
   one-out = single k One short-one
 
   pub one-in : (w : List ℕ) → Single k w → Accepts One w
-  one-in w (x, e, h) = subst (Accepts One) (sym e) (1, read (range 0 0 k 1) (List·Memᴰ·head refl) refl refl (omega arith) h stay, lit≤ tt)
+  one-in w (x, e, h) = subst (Accepts One) (sym e) (1, read (rangeTransition 0 0 k 1) (List·Memᴰ·head refl) refl refl (omega arith) h stay, lit≤ tt)
 
 abbrev Two : Automaton
-Two = record { size = 3; start = 0; accept = 0 ∷ 1 ∷ 1 ∷ []; transitions = range 0 0 4 1 ∷ range 0 5 9 2 ∷ [] }
+Two = record { size = 3; start = 0; accept = 0 ∷ 1 ∷ 1 ∷ []; transitions = rangeTransition 0 0 4 1 ∷ rangeTransition 0 5 9 2 ∷ [] }
 
-either : (P : Transition → Type 0) → P (range 0 0 4 1) → P (range 0 5 9 2) → (e : Transition) → e ∈ Two .transitions → P e
+either : (P : Transition → Type 0) → P (rangeTransition 0 0 4 1) → P (rangeTransition 0 5 9 2) → (e : Transition) → e ∈ Two .transitions → P e
 either P h k e m =
-    ⊎-elim (λ (q : e ≡ range 0 0 4 1). subst P (sym q) h)
-    (λ n. ⊎-elim (λ (q : e ≡ range 0 5 9 2). subst P (sym q) k) (λ n. absurd (List·Memᴰ·not-nil n)) (List·Memᴰ·cases-cons n))
+    ⊎-elim (λ (q : e ≡ rangeTransition 0 0 4 1). subst P (sym q) h)
+    (λ n. ⊎-elim (λ (q : e ≡ rangeTransition 0 5 9 2). subst P (sym q) k) (λ n. absurd (List·Memᴰ·not-nil n)) (List·Memᴰ·cases-cons n))
     (List·Memᴰ·cases-cons m)
 
 short-two : Short 9 Two
@@ -89,8 +89,8 @@ short-two =
 two-in : (w : List ℕ) → Single 9 w → Accepts Two w
 two-in w (x, e, h) =
     subst (Accepts Two) (sym e)
-    (⊎-elim (λ (t : leb x 4 ≡ true). (1, read (range 0 0 4 1) (List·Memᴰ·head refl) refl refl (omega arith) (leb-true x 4 t) stay, lit≤ tt))
-    (λ (t : leb x 4 ≡ false). (2, read (range 0 5 9 2) (List·Memᴰ·tail (List·Memᴰ·head refl)) refl refl (omega (arith, leb-false x 4 t)) h stay, lit≤ tt))
+    (⊎-elim (λ (t : leb x 4 ≡ true). (1, read (rangeTransition 0 0 4 1) (List·Memᴰ·head refl) refl refl (omega arith) (leb-true x 4 t) stay, lit≤ tt))
+    (λ (t : leb x 4 ≡ false). (2, read (rangeTransition 0 5 9 2) (List·Memᴰ·tail (List·Memᴰ·head refl)) refl refl (omega (arith, leb-false x 4 t)) h stay, lit≤ tt))
     (test (leb x 4)))
 
 pub a-single : (w : List ℕ) → (Accepts (Sheet.read A) w → Single 9 w) × (Single 9 w → Accepts (Sheet.read A) w)

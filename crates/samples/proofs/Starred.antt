@@ -30,7 +30,7 @@ use Rattle.totality.specs.Totality.{complemented}
 use Rattle.words.specs.Acceptance.{acceptsWordsAnswer}
 use Rattle.words.specs.Simulation.{isEpsilon, epsilonRow, closures, closure, outgoing, step, startSet, simulate, least, kindOf, kind}
 use Rattle.samples.proofs.Patterns.{determinized}
-use Rattle.samples.specs.Samples.{range, A, B, C, O, DA, DB, both, span, part}
+use Rattle.samples.specs.Samples.{rangeTransition, A, B, C, O, DA, DB, bothDeterminized, span, symbolPart}
 use Rattle.samples.proofs.Lines.{may-print-same-4, may-print-differ-9, prints-same-4, prints-differ-9}
 use Rattle.samples.proofs.Overlap.{overlap-5}
 use Rattle.samples.proofs.Runs.{accepts-9, rejects-10, rejects-empty, overlap-accepts-5, complement-accepts-5}
@@ -43,13 +43,13 @@ use Rattle.verdict_line.specs.Texts.{verdictAnswer}
 pub starred :
     -- holes of nothing, and of (5, 4294967295)
     (missing 0 lastSymbol [] ≡ span 0 4294967295 ∷ [])
-    × (missing 0 lastSymbol (range 0 5 4294967295 0 ∷ []) ≡ span 0 4 ∷ [])
+    × (missing 0 lastSymbol (rangeTransition 0 5 4294967295 0 ∷ []) ≡ span 0 4 ∷ [])
     -- overlaps, and where two ranges meet
-    × (overlapping (range 0 0 5 0 ∷ range 0 5 9 0 ∷ []) ≡ true)
-    × (overlapping (range 0 0 4 0 ∷ range 0 5 9 0 ∷ []) ≡ false)
+    × (overlapping (rangeTransition 0 0 5 0 ∷ rangeTransition 0 5 9 0 ∷ []) ≡ true)
+    × (overlapping (rangeTransition 0 0 4 0 ∷ rangeTransition 0 5 9 0 ∷ []) ≡ false)
     × (intersectRanges (span 0 5) (span 5 9) ≡ some (span 5 5))
     -- parts
-    × (partition 3 0 lastSymbol (range 0 0 5 1 ∷ range 0 3 9 2 ∷ []) ≡ part 0 2 (1 ∷ []) ∷ part 3 5 (1 ∷ 2 ∷ []) ∷ part 6 9 (2 ∷ []) ∷ [])
+    × (partition 3 0 lastSymbol (rangeTransition 0 0 5 1 ∷ rangeTransition 0 3 9 2 ∷ []) ≡ symbolPart 0 2 (1 ∷ []) ∷ symbolPart 3 5 (1 ∷ 2 ∷ []) ∷ symbolPart 6 9 (2 ∷ []) ∷ [])
     -- A accepts the word 9, not 10, not the empty word
     × (acceptsWordsAnswer A (9 ∷ []) ≡ given 1)
     × (acceptsWordsAnswer A (10 ∷ []) ≡ given 0)
@@ -71,7 +71,7 @@ pub starred :
     -- B determinized: 4 states; with the 3 of A determinized they are in 3 classes
     × (determinize 0 lastSymbol (read B) ≡ given DB)
     × (DB .size ≡ 4)
-    × Classes (Forced both) (totalSize both) 3
+    × Classes (Forced bothDeterminized) (totalSize bothDeterminized) 3
     -- the program `verdict` may print `same 4` for the texts of A and B, and `differ 9` for those of A and C
     × VerdictLine (verdictAnswer 0 lastSymbol (text-a ++ 32 ∷ text-b)) (sameLine 4)
     × VerdictLine (verdictAnswer 0 lastSymbol (text-a ++ 32 ∷ text-c)) (differLine (9 ∷ []))

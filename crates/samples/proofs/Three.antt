@@ -24,7 +24,7 @@ use Rattle.sheets.specs.Sheet.{read}
 use Rattle.sheets.proofs.Accepted.{accepted}
 use Rattle.sheets.proofs.Meaning.{read-well}
 use Rattle.samples.proofs.Patterns.{determinized, no-fault}
-use Rattle.samples.specs.Samples.{range, A, B, DA, DB, both}
+use Rattle.samples.specs.Samples.{rangeTransition, A, B, DA, DB, bothDeterminized}
 
 pub well-a : WellFormed (read A)
 well-a = read-well A (accepted A (no-fault .0))
@@ -55,11 +55,11 @@ module _ (x : ℕ) (h : x ≤ lastSymbol) where
 
   class-a : (p : ℕ) → p < 3 → class (successor DA p x) ≡ next (class p) x
   class-a zero i =
-      ⊎-elim (λ (t : leb x 9 ≡ true). rw (t, to-a 0 i (range 0 0 9 1) (List·Memᴰ·head refl) refl (omega arith) (leb-true x 9 t)))
-      (λ (t : leb x 9 ≡ false). rw (t, to-a 0 i (range 0 10 lastSymbol 2) (List·Memᴰ·tail (List·Memᴰ·head refl)) refl (leb-false x 9 t) h))
+      ⊎-elim (λ (t : leb x 9 ≡ true). rw (t, to-a 0 i (rangeTransition 0 0 9 1) (List·Memᴰ·head refl) refl (omega arith) (leb-true x 9 t)))
+      (λ (t : leb x 9 ≡ false). rw (t, to-a 0 i (rangeTransition 0 10 lastSymbol 2) (List·Memᴰ·tail (List·Memᴰ·head refl)) refl (leb-false x 9 t) h))
       (test (leb x 9))
-  class-a (suc zero) i = rw (to-a 1 i (range 1 0 lastSymbol 2) (List·Memᴰ·tail (List·Memᴰ·tail (List·Memᴰ·head refl))) refl (omega arith) h)
-  class-a (suc (suc zero)) i = rw (to-a 2 i (range 2 0 lastSymbol 2) (List·Memᴰ·tail (List·Memᴰ·tail (List·Memᴰ·tail (List·Memᴰ·head refl)))) refl (omega arith) h)
+  class-a (suc zero) i = rw (to-a 1 i (rangeTransition 1 0 lastSymbol 2) (List·Memᴰ·tail (List·Memᴰ·tail (List·Memᴰ·head refl))) refl (omega arith) h)
+  class-a (suc (suc zero)) i = rw (to-a 2 i (rangeTransition 2 0 lastSymbol 2) (List·Memᴰ·tail (List·Memᴰ·tail (List·Memᴰ·tail (List·Memᴰ·head refl)))) refl (omega arith) h)
   class-a (suc (suc (suc p))) i = absurd (omega arith)
 
   class-b : (q : ℕ) → q < 4 → class (3 + successor DB q x) ≡ next (class (3 + q)) x
@@ -67,25 +67,25 @@ module _ (x : ℕ) (h : x ≤ lastSymbol) where
       ⊎-elim
       (λ (t : leb x 4 ≡ true).
       let low = leb-true x 4 t in
-      rw (le-leb x 9 (omega arith), to-b 0 i (range 0 0 4 1) (List·Memᴰ·head refl) refl (omega arith) low))
+      rw (le-leb x 9 (omega arith), to-b 0 i (rangeTransition 0 0 4 1) (List·Memᴰ·head refl) refl (omega arith) low))
       (λ (t : leb x 4 ≡ false).
       let high = leb-false x 4 t in
-      ⊎-elim (λ (u : leb x 9 ≡ true). rw (u, to-b 0 i (range 0 5 9 2) (List·Memᴰ·tail (List·Memᴰ·head refl)) refl high (leb-true x 9 u)))
-      (λ (u : leb x 9 ≡ false). rw (u, to-b 0 i (range 0 10 lastSymbol 3) (List·Memᴰ·tail (List·Memᴰ·tail (List·Memᴰ·head refl))) refl (leb-false x 9 u) h))
+      ⊎-elim (λ (u : leb x 9 ≡ true). rw (u, to-b 0 i (rangeTransition 0 5 9 2) (List·Memᴰ·tail (List·Memᴰ·head refl)) refl high (leb-true x 9 u)))
+      (λ (u : leb x 9 ≡ false). rw (u, to-b 0 i (rangeTransition 0 10 lastSymbol 3) (List·Memᴰ·tail (List·Memᴰ·tail (List·Memᴰ·head refl))) refl (leb-false x 9 u) h))
       (test (leb x 9)))
       (test (leb x 4))
-  class-b (suc zero) i = rw (to-b 1 i (range 1 0 lastSymbol 3) (List·Memᴰ·tail (List·Memᴰ·tail (List·Memᴰ·tail (List·Memᴰ·head refl)))) refl (omega arith) h)
-  class-b (suc (suc zero)) i = rw (to-b 2 i (range 2 0 lastSymbol 3) (List·Memᴰ·tail (List·Memᴰ·tail (List·Memᴰ·tail (List·Memᴰ·tail (List·Memᴰ·head refl))))) refl (omega arith) h)
-  class-b (suc (suc (suc zero))) i = rw (to-b 3 i (range 3 0 lastSymbol 3) (List·Memᴰ·tail (List·Memᴰ·tail (List·Memᴰ·tail (List·Memᴰ·tail (List·Memᴰ·tail (List·Memᴰ·head refl)))))) refl (omega arith) h)
+  class-b (suc zero) i = rw (to-b 1 i (rangeTransition 1 0 lastSymbol 3) (List·Memᴰ·tail (List·Memᴰ·tail (List·Memᴰ·tail (List·Memᴰ·head refl)))) refl (omega arith) h)
+  class-b (suc (suc zero)) i = rw (to-b 2 i (rangeTransition 2 0 lastSymbol 3) (List·Memᴰ·tail (List·Memᴰ·tail (List·Memᴰ·tail (List·Memᴰ·tail (List·Memᴰ·head refl))))) refl (omega arith) h)
+  class-b (suc (suc (suc zero))) i = rw (to-b 3 i (rangeTransition 3 0 lastSymbol 3) (List·Memᴰ·tail (List·Memᴰ·tail (List·Memᴰ·tail (List·Memᴰ·tail (List·Memᴰ·tail (List·Memᴰ·head refl)))))) refl (omega arith) h)
   class-b (suc (suc (suc (suc q)))) i = absurd (omega arith)
 
-  class-both : (p : ℕ) → p < 7 → class (successorIn both p x) ≡ next (class p) x
-  class-both = by-side both (λ (p : ℕ). class (successorIn both p x) ≡ next (class p) x)
-      (λ p i. rw (successor-left both p x i) (class-a p i))
-      (λ q i. rw (successor-right both q x) (class-b q i))
+  class-both : (p : ℕ) → p < 7 → class (successorIn bothDeterminized p x) ≡ next (class p) x
+  class-both = by-side bothDeterminized (λ (p : ℕ). class (successorIn bothDeterminized p x) ≡ next (class p) x)
+      (λ p i. rw (successor-left bothDeterminized p x i) (class-a p i))
+      (λ q i. rw (successor-right bothDeterminized q x) (class-b q i))
 
 -- states of one class have successors of one class
-joins : JoinsSuccessors both (λ p q. class p ≡ class q)
+joins : JoinsSuccessors bothDeterminized (λ p q. class p ≡ class q)
 joins =
     record {
       equivalence = record { reflexive = λ p h. refl; symmetric = λ p q h k e. sym e; transitive = λ p q r h k l e f. e ∙ f };
@@ -93,15 +93,15 @@ joins =
       follow = λ p q x h k s e. class-both x (s .1) p h ∙ ap (λ (c : ℕ). next c x) e ∙ sym (class-both x (s .1) q k);
     }
 
-apart : {p q : ℕ} → Forced both p q → class p ≡ class q
+apart : {p q : ℕ} → Forced bothDeterminized p q → class p ≡ class q
 apart {p} {q} f = smallest-two 0 lastSymbol (read A) (read B) well-a well-b DA DB (determinized .0) (determinized .1) .least (λ p q. class p ≡ class q) joins p q f
 
 -- the starts are joined, and with them their successors under 0, 5 and 10
-joined : Forced both 0 3 × Forced both 1 4 × Forced both 1 5 × Forced both 2 6
+joined : Forced bothDeterminized 0 3 × Forced bothDeterminized 1 4 × Forced bothDeterminized 1 5 × Forced bothDeterminized 2 6
 unfolding successorIn successor filter carries holds
 joined = (starts, follow 0 (lit≤ tt, lit≤ tt) starts, follow 5 (lit≤ tt, lit≤ tt) starts, follow 10 (lit≤ tt, lit≤ tt) starts)
 
-pub three : Classes (Forced both) 7 3
+pub three : Classes (Forced bothDeterminized) 7 3
 three =
     old 2 (lit≤ tt) (joined .3)
     (old 1 (lit≤ tt) (joined .2)

@@ -15,7 +15,7 @@ use Rattle.equality.specs.declared.Verdict.{Verdict}
 use Rattle.equality.specs.declared.Verdict.the-variants.{Same, Different}
 use Rattle.equality.proofs.Theorems.{classes-number, equality-exact}
 use Rattle.samples.proofs.Patterns.{determinized, no-fault, DC}
-use Rattle.samples.specs.Samples.{A, B, C, DA, DB, both}
+use Rattle.samples.specs.Samples.{A, B, C, DA, DB, bothDeterminized}
 use Rattle.samples.proofs.Single.{a-single, b-single, c-single}
 use Rattle.samples.proofs.Three.{three}
 
@@ -28,7 +28,7 @@ same-4 o o′ r room judged =
     let x = equality-exact 0 lastSymbol A B (no-fault .0) (no-fault .1) o o′ r room judged DA DB (determinized .0) (determinized .1) in
     let (j, is) = x .same .1 same-ab in
     let (k, counted, sum, kept) = x .joins j is in
-    let number : k ≡ 3 = classes-number both k 3 counted three in
+    let number : k ≡ 3 = classes-number bothDeterminized k 3 counted three in
     let four : j ≡ 4 = omega arith in
     is ∙ ap Same four
 

@@ -9,8 +9,8 @@ use Rattle.ranges.specs.Span.{Span}
 use Rattle.sets.specs.Sets.{Set}
 
 -- a range from p to q
-abbrev pub range : ℕ → ℕ → ℕ → ℕ → Transition
-range p a b q = record { from = p; kind = 1; first = a; last = b; to = q }
+abbrev pub rangeTransition : ℕ → ℕ → ℕ → ℕ → Transition
+rangeTransition p a b q = record { from = p; kind = 1; first = a; last = b; to = q }
 
 -- A is `p -> q [0, 9]`, B is `s -> t [0, 4]; s -> u [5, 9]`, C is `p -> q [0, 8]`
 abbrev pub A : List ℕ
@@ -32,7 +32,7 @@ DA = record {
   size = 3;
   start = 0;
   accept = 0 ∷ 1 ∷ 0 ∷ [];
-  transitions = range 0 0 9 1 ∷ range 0 10 lastSymbol 2 ∷ range 1 0 lastSymbol 2 ∷ range 2 0 lastSymbol 2 ∷ [];
+  transitions = rangeTransition 0 0 9 1 ∷ rangeTransition 0 10 lastSymbol 2 ∷ rangeTransition 1 0 lastSymbol 2 ∷ rangeTransition 2 0 lastSymbol 2 ∷ [];
 }
 
 abbrev pub DB : Automaton
@@ -40,16 +40,16 @@ DB = record {
   size = 4;
   start = 0;
   accept = 0 ∷ 1 ∷ 1 ∷ 0 ∷ [];
-  transitions = range 0 0 4 1 ∷ range 0 5 9 2 ∷ range 0 10 lastSymbol 3 ∷ range 1 0 lastSymbol 3 ∷ range 2 0 lastSymbol 3 ∷ range 3 0 lastSymbol 3 ∷ [];
+  transitions = rangeTransition 0 0 4 1 ∷ rangeTransition 0 5 9 2 ∷ rangeTransition 0 10 lastSymbol 3 ∷ rangeTransition 1 0 lastSymbol 3 ∷ rangeTransition 2 0 lastSymbol 3 ∷ rangeTransition 3 0 lastSymbol 3 ∷ [];
 }
 
 -- these two side by side, over all symbols
-abbrev pub both : Two
-both = record { one = DA; two = DB; lower = 0; upper = lastSymbol }
+abbrev pub bothDeterminized : Two
+bothDeterminized = record { one = DA; two = DB; lower = 0; upper = lastSymbol }
 
 -- a span of symbols, and a part with its targets
 abbrev pub span : ℕ → ℕ → Span
 span a b = record { first = a; last = b }
 
-abbrev pub part : ℕ → ℕ → Set → Part
-part a b S = record { first = a; last = b; targets = S }
+abbrev pub symbolPart : ℕ → ℕ → Set → Part
+symbolPart a b S = record { first = a; last = b; targets = S }

@@ -21,7 +21,7 @@ use Rattle.automata.specs.inner.Records.{recordAt}
 use Rattle.automata.specs.WellFormed.{Before}
 use Rattle.automata.proofs.Ordered.{before-from}
 use Rattle.automata.proofs.Records.{records-at, records-end, read-drop}
-use Rattle.sheets.specs.inner.Runs.{below, Rising, Named, Ends}
+use Rattle.sheets.specs.inner.Runs.{below, Rising, Named, RunEnds}
 
 -- records in order ascend in the states that they leave
 pub rising : {es : List Transition} → Ascending Before es → Rising es
@@ -60,7 +60,7 @@ pub below-length : (q : ℕ) (ts : List Transition) → below q ts ≤ length ts
 unfolding below
 below-length q ts = length-filter _ ts
 
-pub ends-begin : (t : List ℕ) → Ends t (replicate 257 0) 0
+pub ends-begin : (t : List ℕ) → RunEnds t (replicate 257 0) 0
 ends-begin t = record { long = length-replicate {A = ℕ} 257 0; most = λ q. omega (arith, blank-at 257 q); least = λ j l. absurd (omega arith) }
 
 -- record k of some words
@@ -76,12 +76,12 @@ module _ (t : List ℕ) (k : ℕ) where
   pub ends-bound : Named (readRecords t) → 5 ≤ length t - 5 * k → getD t (5 * k) 0 < 256
   ends-bound n h = n .froms (recordAt t (5 * k)) (drop-mem k (readRecords t) _ _ (record-k h))
 
-  module _ (ends : List ℕ) (e : Ends t ends k) where
-    pub ends-ended : length t - 5 * k < 5 → Ends t ends (length (readRecords t))
+  module _ (ends : List ℕ) (e : RunEnds t ends k) where
+    pub ends-ended : length t - 5 * k < 5 → RunEnds t ends (length (readRecords t))
     ends-ended h = record { long = e .long; most = e .most; least = λ j l. e .least j (omega (arith, records-few h)) }
 
     -- the number behind record k
-    pub ends-next : Rising (readRecords t) → Named (readRecords t) → 5 ≤ length t - 5 * k → Ends t (set ends (getD t (5 * k) 0 + 1) (k + 1)) (k + 1)
+    pub ends-next : Rising (readRecords t) → Named (readRecords t) → 5 ≤ length t - 5 * k → RunEnds t (set ends (getD t (5 * k) 0 + 1) (k + 1)) (k + 1)
     ends-next up n h =
         record {
           long = length-set ends _ (k + 1) ∙ e .long;
@@ -126,7 +126,7 @@ pub record Greatest (t ends : List ℕ) (q k : ℕ) : Type 0 where
 pub greatest-begin : (t ends : List ℕ) → Greatest t ends 0 0
 greatest-begin t ends = record { most = omega arith; least = λ r l. absurd (omega arith) }
 
-module _ (t ends : List ℕ) (up : Rising (readRecords t)) (e : Ends t ends (length (readRecords t))) (q k : ℕ) (g : Greatest t ends q k)
+module _ (t ends : List ℕ) (up : Rising (readRecords t)) (e : RunEnds t ends (length (readRecords t))) (q k : ℕ) (g : Greatest t ends q k)
     (m : ℕ) (i : m ≡ cond (ltb k (getD ends q 0)) (getD ends q 0) k) where
   bounds : (k ≤ m) × (getD ends q 0 ≤ m) × (m ≤ below q (readRecords t))
   bounds =

@@ -9,13 +9,13 @@ ghost use lib.Seq.{sets};
 ghost use Rattle.automata.specs.Automaton.{leaving};
 ghost use Rattle.automata.specs.Records.{readRecords, writeRecords};
 ghost use Rattle.sheets.specs.inner.Accepted.{Accepted};
-ghost use Rattle.sheets.specs.inner.Runs.{startsOf, Rising, Named, Ends, RunAt};
+ghost use Rattle.sheets.specs.inner.Runs.{startsOf, Rising, Named, RunEnds, RunAt};
 ghost use Rattle.sheets.specs.Sheet.{stateCount, read};
 
 // For each state that the records of t leave, the number behind its last record, in the entry behind the state's.
 fn mark_ends(t: &[u32], ends: &mut [u32])
-    requires { ⌜ Rising (readRecords (now t)) × Named (readRecords (now t)) × (length (now t) ≤ 10240) × Ends (now t) (now ends) 0 ⌝ }
-    ensures { λ r. ⌜ Ends (now (t .entry)) (now (ends .exit)) (length (readRecords (now (t .entry)))) ⌝ }
+    requires { ⌜ Rising (readRecords (now t)) × Named (readRecords (now t)) × (length (now t) ≤ 10240) × RunEnds (now t) (now ends) 0 ⌝ }
+    ensures { λ r. ⌜ RunEnds (now (t .entry)) (now (ends .exit)) (length (readRecords (now (t .entry)))) ⌝ }
 {
     let mut k: usize = 0;
     while 5 <= t.len() - 5 * k {

@@ -20,10 +20,10 @@ use Rattle.sheets.specs.Sheet.{recordsAt, read}
 use Rattle.sheets.specs.inner.Accepted.{recordCount}
 use Rattle.sheets.proofs.Meaning.{read-well}
 use Rattle.words.specs.Simulation.{outgoing}
-use Rattle.sweep.specs.inner.Events.{RangeAt, event, eventAt, eventsAt, Numbers}
+use Rattle.sweep.specs.inner.Events.{RangeAt, event, eventAt, eventsAt, RecordNumbers}
 use Rattle.sweep.specs.inner.Tree.{Tree, leaf, LeafSet}
 use Rattle.sweep.specs.inner.Sweep.{Passes}
-use Rattle.sweep.specs.inner.Passing.{row, Passing, Stopped, Noted, over, known, longer, begun, Closes, held, empty, cutAt}
+use Rattle.sweep.specs.inner.Passing.{row, Passing, Stopped, RangeNoted, over, known, longer, begun, Closes, held, empty, cutAt}
 use Rattle.automata.proofs.Records.{record-in}
 use Rattle.sweep.proofs.Sweep.{opening-past, opening-noted, ending-other, ending-held, ending-gone}
 
@@ -83,7 +83,7 @@ module _ (s c opens ends : List ℕ) (S : Set) (i j a : ℕ) (r t : List ℕ) (p
 
       -- one of the set, up to a
       pub open-noted : (x : Bool) → x ≡ has q S → x ≡ true → f ≤ a
-          → (u v : List ℕ) → Noted c a (l) (d) r t u v → Passing s c opens ends S (i + 1) j a u v
+          → (u v : List ℕ) → RangeNoted c a (l) (d) r t u v → Passing s c opens ends S (i + 1) j a u v
       open-noted x y z g u v (over m) = after (p .long) (p .tree) (opening-past opening-here (λ _. record { before = g; noted = inr m }))
       open-noted x y z g u v (known m) = after (p .long) (p .tree) (opening-past opening-here (λ _. record { before = g; noted = inl m }))
       open-noted x y z g u v (longer m k n) =
@@ -172,7 +172,7 @@ module _ (k : ℕ) (s ev : List ℕ) (at top : ℕ) where
   unfolding cutAt
   cut-end h = rw (le-leb _ _ h)
 
-  pub cut-number : at < length ev → Numbers s ev → getD ev at 0 < recordCount s
+  pub cut-number : at < length ev → RecordNumbers s ev → getD ev at 0 < recordCount s
   cut-number h n = n .below at h
 
   pub cut-here : (x c : ℕ) → at < length ev → x ≡ eventAt k s (getD ev at 0) .from → c ≡ x + k → c < top → c ≡ cutAt k s ev at top

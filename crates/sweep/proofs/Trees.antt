@@ -16,12 +16,12 @@ use Rattle.sets.specs.inner.Words.{putAt, unionAt}
 use Rattle.sets.proofs.Sets.{has-nil, has-pick, has-below, pick-none}
 use Rattle.sets.proofs.BitSet.{at-canon, fresh-at}
 use Rattle.sets.proofs.Stores.{put-same, put-other, unioned}
-use Rattle.sweep.specs.inner.Tree.{both, Node, Tree, Almost, Joined, leaf, Climbed, LeafSet}
+use Rattle.sweep.specs.inner.Tree.{union, Node, Tree, Almost, NodeUpdated, leaf, Climbed, LeafSet}
 
 -- a node is kept where the three rows are
 kept : (t u : List ℕ) (k : ℕ) → Node t k → setAt u (4 * k) ≡ setAt t (4 * k) → setAt u (4 * (2 * k)) ≡ setAt t (4 * (2 * k))
     → setAt u (4 * (2 * k + 1)) ≡ setAt t (4 * (2 * k + 1)) → Node u k
-kept t u k n a b c = record { joined = a ∙ n .joined ∙ ap₂ both (sym b) (sym c) }
+kept t u k n a b c = record { joined = a ∙ n .joined ∙ ap₂ union (sym b) (sym c) }
 
 -- `join`
 length-row : (t : List ℕ) (o : ℕ) → length (putAt (replicate 4 0) 0 t o) ≡ 4
@@ -29,18 +29,18 @@ unfolding putAt
 length-row t o = simp length-set (length-replicate {A = ℕ} 4 0)
 
 pub join-done : (t y z u : List ℕ) (k : ℕ) → 1 ≤ k → k < 256 → length t ≡ 2048 → y ≡ putAt (replicate 4 0) 0 t (4 * (2 * k))
-    → z ≡ unionAt y 0 t (4 * (2 * k + 1)) → u ≡ putAt t (4 * k) z 0 → Joined t u k
-unfolding both
+    → z ≡ unionAt y 0 t (4 * (2 * k + 1)) → u ≡ putAt t (4 * k) z 0 → NodeUpdated t u k
+unfolding union
 join-done t y z u k l b n f g e =
     let four : length y ≡ 4 = ap length f ∙ length-row t (4 * (2 * k)) in
     let o : (i : ℕ) → (i ≡ k → ⊥) → setAt u (4 * i) ≡ setAt t (4 * i) = λ i d. ap (λ v. setAt v (4 * i)) e ∙ put-other t k z 0 i d in
     let first : setAt y 0 ≡ setAt t (4 * (2 * k)) = ap (λ v. setAt v 0) f ∙ put-same (replicate 4 0) 0 t (4 * (2 * k)) (omega arith) in
-    let union : setAt z 0 ≡ both (setAt t (4 * (2 * k))) (setAt t (4 * (2 * k + 1))) =
-    ap (λ v. setAt v 0) g ∙ unioned y 0 t (4 * (2 * k + 1)) (omega arith) ∙ ap (λ S. both S (setAt t (4 * (2 * k + 1)))) first in
+    let is-union : setAt z 0 ≡ union (setAt t (4 * (2 * k))) (setAt t (4 * (2 * k + 1))) =
+    ap (λ v. setAt v 0) g ∙ unioned y 0 t (4 * (2 * k + 1)) (omega arith) ∙ ap (λ S. union S (setAt t (4 * (2 * k + 1)))) first in
     record {
       node = record {
-        joined = ap (λ v. setAt v (4 * k)) e ∙ put-same t (4 * k) z 0 (omega arith) ∙ union
-            ∙ ap₂ both (sym (o (2 * k) (λ d. omega arith))) (sym (o (2 * k + 1) (λ d. omega arith)));
+        joined = ap (λ v. setAt v (4 * k)) e ∙ put-same t (4 * k) z 0 (omega arith) ∙ is-union
+            ∙ ap₂ union (sym (o (2 * k) (λ d. omega arith))) (sym (o (2 * k + 1) (λ d. omega arith)));
       };
       others = o;
     }
@@ -56,7 +56,7 @@ module _ (t₀ t : List ℕ) (k : ℕ) where
   pub climb-ended : Almost t k → SameLeaves t₀ t → k ≤ 1 → Climbed t₀ t
   climb-ended a s l = record { tree = record { long = a .long; node = λ i g h. a .node i g h (λ e. omega arith) }; leaves = s .same }
 
-  module _ (l : 1 < k) (b : k < 512) (u : List ℕ) (j : Joined t u (k / 2)) where
+  module _ (l : 1 < k) (b : k < 512) (u : List ℕ) (j : NodeUpdated t u (k / 2)) where
     pub climb-next : Almost t k → length u ≡ length t → Almost u (k / 2)
     climb-next a n =
         record {
@@ -100,11 +100,11 @@ pub ruleset leafLaws = (leaf-almost, leaf-set, needs)
 
 -- the tree as it is made
 pub fresh-tree : Tree (replicate 2048 0)
-unfolding both
+unfolding union
 fresh-tree = record {
   long = length-replicate {A = ℕ} 2048 0;
   node = λ k g h. record {
-    joined = fresh-at 2048 (4 * k) ∙ sym (ap₂ both (fresh-at 2048 (4 * (2 * k))) (fresh-at 2048 (4 * (2 * k + 1))) ∙ pick-none 256 _ (λ q l. rw (has-nil q)));
+    joined = fresh-at 2048 (4 * k) ∙ sym (ap₂ union (fresh-at 2048 (4 * (2 * k))) (fresh-at 2048 (4 * (2 * k + 1))) ∙ pick-none 256 _ (λ q l. rw (has-nil q)));
   };
 }
 
@@ -115,7 +115,7 @@ fresh-leaf q = fresh-at 2048 (4 * (256 + q))
 -- the root has what the leaves have
 module _ (t : List ℕ) (w : Tree t) (x : ℕ) where
   up : (k : ℕ) → 1 ≤ k → k < 256 → x < 256 → has x (setAt t (4 * k)) ≡ (has x (setAt t (4 * (2 * k))) || has x (setAt t (4 * (2 * k + 1))))
-  unfolding both
+  unfolding union
   up k l b n = ap (has x) (w .node k l b .joined) ∙ has-pick 256 _ x n
 
   in-row : (k : ℕ) → has x (setAt t (4 * k)) ≡ true → x < 256

@@ -11,9 +11,9 @@ ghost use Rattle.ranges.specs.Cuts.{nextCut};
 ghost use Rattle.sheets.specs.Sheet.{read};
 ghost use Rattle.sheets.specs.inner.Accepted.{recordCount, Accepted};
 ghost use Rattle.words.specs.Simulation.{outgoing, step};
-ghost use Rattle.sweep.specs.inner.Events.{Numbers, eventAt};
+ghost use Rattle.sweep.specs.inner.Events.{RecordNumbers, eventAt};
 ghost use Rattle.sweep.specs.inner.Tree.{Tree, LeafSet};
-ghost use Rattle.sweep.specs.inner.Passing.{Passing, Stopped, Noted, Closes, cutAt};
+ghost use Rattle.sweep.specs.inner.Passing.{Passing, Stopped, RangeNoted, Closes, cutAt};
 
 mod ordering;
 mod uniting;
@@ -40,7 +40,7 @@ fn fill(tree: &mut [u64], closures: &[u64], target: usize)
 // Notes that a range to the target has opened, whose last symbol is last.
 fn open(closures: &[u64], to: u32, last: u32, symbol: u32, reach: &mut [u64], tree: &mut [u64])
     requires { ⌜ (to < 256) × (4 * to + 4 ≤ length (now closures)) × (length (now reach) ≡ 256) × Tree (now tree) ⌝ }
-    ensures { λ u. ⌜ Noted (now (closures .entry)) symbol last to (now (reach .entry)) (now (tree .entry)) (now (reach .exit)) (now (tree .exit)) ⌝ }
+    ensures { λ u. ⌜ RangeNoted (now (closures .entry)) symbol last to (now (reach .entry)) (now (tree .entry)) (now (reach .exit)) (now (tree .exit)) ⌝ }
 {
     if last < symbol {
         return;
@@ -162,7 +162,7 @@ fn place(symbol: u32, kind: u32) -> u64
 
 // The place of the event at `at`, or top if that is less or there is none.
 fn cut_at(kind: u32, s: &[u32], ev: &[u32], at: usize, top: u64) -> u64
-    requires { ⌜ Accepted (now s) × Numbers (now s) (now ev) ⌝ }
+    requires { ⌜ Accepted (now s) × RecordNumbers (now s) (now ev) ⌝ }
     ensures { λ r. ⌜ r ≡ cutAt kind (now (s .entry)) (now (ev .entry)) at top ⌝ }
 {
     if ev.len() <= at {

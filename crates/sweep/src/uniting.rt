@@ -3,12 +3,12 @@ ghost use mathlib.Core.Path.{_≡_};
 ghost use Prim.Native.Nat.{_≤_, _<_};
 ghost use lib.ListN.{length};
 ghost use Rattle.sets.specs.inner.BitSet.{setAt};
-ghost use Rattle.sweep.specs.inner.Tree.{Tree, Almost, Joined, Climbed, LeafSet};
+ghost use Rattle.sweep.specs.inner.Tree.{Tree, Almost, NodeUpdated, Climbed, LeafSet};
 
 // Row k becomes the union of the two rows below it.
 fn join(tree: &mut [u64], k: usize)
     requires { ⌜ (1 ≤ k) × (k < 256) × (length (now tree) ≡ 2048) ⌝ }
-    ensures { λ u. ⌜ Joined (now (tree .entry)) (now (tree .exit)) k ⌝ }
+    ensures { λ u. ⌜ NodeUpdated (now (tree .entry)) (now (tree .exit)) k ⌝ }
 {
     let mut union = [0u64; 4];
     sets::copy_row(&mut union, tree, 2 * k);

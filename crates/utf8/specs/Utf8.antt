@@ -75,15 +75,15 @@ cons x malformed = malformed
 cons x (points ps) = points (x ∷ ps)
 
 -- the code points of a text by what stands at its front, where more k are those from the byte k behind the first one on
-abbrev pub follow : Front → (ℕ → Decoded) → Decoded
-follow end more = points []
-follow fault more = malformed
-follow (point x n) more = cons x (more (n - 1))
+abbrev pub decodeFront : Front → (ℕ → Decoded) → Decoded
+decodeFront end more = points []
+decodeFront fault more = malformed
+decodeFront (point x n) more = cons x (more (n - 1))
 
 -- the code points of a list of bytes from the byte k on
 unfoldable pub decodeFrom : List ℕ → ℕ → Decoded
 decodeFrom [] k = points []
-decodeFrom (a ∷ rest) zero = follow (front (a ∷ rest)) (decodeFrom rest)
+decodeFrom (a ∷ rest) zero = decodeFront (front (a ∷ rest)) (decodeFrom rest)
 decodeFrom (a ∷ rest) (suc k) = decodeFrom rest k
 
 unfoldable pub decode : List ℕ → Decoded

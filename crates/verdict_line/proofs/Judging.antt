@@ -37,7 +37,7 @@ use Rattle.verdict_line.specs.declared.Second.{Second}
 use Rattle.verdict_line.specs.declared.Second.the-variants.{At, Outside}
 use Rattle.verdict_line.specs.Texts.{twoTexts, withSecondText, withFirstText, onTexts, verdictAnswer}
 use Rattle.verdict_line.specs.Line.{VerdictLine, refuses, same, differs, Printed, short, printed}
-use Rattle.verdict_line.specs.inner.Code.{secondOf, SheetRead, lineOf, Short}
+use Rattle.verdict_line.specs.inner.Code.{secondOf, SheetRead, verdictLine, Short}
 use Rattle.verdict_line.proofs.Reading.{IsSheet, two-inside, sheet-refused, sheet-inside, sheet-is}
 
 -- a refusal with its number
@@ -132,11 +132,11 @@ line-short (given w) o o′ (Same j) few h = omega (arith, few w refl, h .0 .joi
 line-short (given w) o o′ (Different m) few h = (omega (arith, few w refl, h .0 .short, length-take-le m o′ (h .1)), h .1)
 line-short (given w) o o′ (Refused r) few h = absurd h
 
-line-given : (a : Answer Two) (o o′ : List ℕ) (v : Verdict) → Judged a o o′ v → VerdictLine a (lineOf v o′)
-unfolding Judged Decided lineOf
+line-given : (a : Answer Two) (o o′ : List ℕ) (v : Verdict) → Judged a o o′ v → VerdictLine a (verdictLine v o′)
+unfolding Judged Decided verdictLine
 line-given (refused n) o o′ (Same j) h = absurd h
 line-given (refused n) o o′ (Different m) h = absurd h
-line-given (refused n) o o′ (Refused r) h = subst (λ (k : ℕ). VerdictLine (refused k) (lineOf (Refused r) o′)) (h .0) (refuses (numberOf r))
+line-given (refused n) o o′ (Refused r) h = subst (λ (k : ℕ). VerdictLine (refused k) (verdictLine (Refused r) o′)) (h .0) (refuses (numberOf r))
 line-given (given w) o o′ (Same j) h = same w j (h .0)
 line-given (given w) o o′ (Different m) h = differs w (take m o′) (h .0)
 line-given (given w) o o′ (Refused r) h = absurd h
@@ -149,8 +149,8 @@ module _ (lower upper : ℕ) (t w w′ : List ℕ) (v : Verdict) (j : Judged (ve
   pub printed-short : Short v w′
   printed-short = line-short _ w w′ v (compared-few lower upper t) j
 
-  pub printed-line : (o o′ : List ℕ) (n : ℕ) → 5617 ≤ length o → Written o 0 (lineOf v w′) o′ n → n ≤ 5617 → Printed (verdictAnswer lower upper t) o o′ n
-  printed-line o o′ n h p k = printed h (lineOf v w′) (line-given _ w w′ v j) p k
+  pub printed-line : (o o′ : List ℕ) (n : ℕ) → 5617 ≤ length o → Written o 0 (verdictLine v w′) o′ n → n ≤ 5617 → Printed (verdictAnswer lower upper t) o o′ n
+  printed-line o o′ n h p k = printed h (verdictLine v w′) (line-given _ w w′ v j) p k
 
 -- the line ends within the buffer
 pub printed-inside : (a : Answer Two) (o o′ : List ℕ) (n : ℕ) → Printed a o o′ n → n ≤ length o′

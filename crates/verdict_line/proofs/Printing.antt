@@ -18,7 +18,7 @@ use Rattle.refusal.specs.declared.Refusal.{Refusal}
 use Rattle.equality.specs.declared.Verdict.{Verdict}
 use Rattle.equality.specs.declared.Verdict.the-variants.{Same, Different, Refused}
 use Rattle.verdict_line.specs.Line.{sameLine, symbols, differLine, refusedLine}
-use Rattle.verdict_line.specs.inner.Code.{lineOf, Short}
+use Rattle.verdict_line.specs.inner.Code.{verdictLine, Short}
 
 -- the parts of a line, one behind the other
 module _ (l m n o : List ℕ) (x i j r : ℕ) where
@@ -97,19 +97,19 @@ pub ruleset differLaws = (symbols-none, symbols-next, differ-put, differ-end, wr
 -- the line of a verdict
 module _ (v : Verdict) (w : List ℕ) where
   module _ (l m : List ℕ) (r : ℕ) where
-    pub verdict-same : (j : ℕ) → v ≡ Same j → Written l 0 (sameLine j) m r → Written l 0 (lineOf v w) m r
-    unfolding lineOf
-    verdict-same j e p = subst (λ (x : Verdict). Written l 0 (lineOf x w) m r) (sym e) p
+    pub verdict-same : (j : ℕ) → v ≡ Same j → Written l 0 (sameLine j) m r → Written l 0 (verdictLine v w) m r
+    unfolding verdictLine
+    verdict-same j e p = subst (λ (x : Verdict). Written l 0 (verdictLine x w) m r) (sym e) p
 
-    pub verdict-different : (n : ℕ) → v ≡ Different n → Written l 0 (differLine (take (n - 0) w)) m r → Written l 0 (lineOf v w) m r
-    unfolding lineOf
+    pub verdict-different : (n : ℕ) → v ≡ Different n → Written l 0 (differLine (take (n - 0) w)) m r → Written l 0 (verdictLine v w) m r
+    unfolding verdictLine
     verdict-different n e p =
         let z : n - 0 ≡ n = omega arith in
-        subst (λ (x : Verdict). Written l 0 (lineOf x w) m r) (sym e) (subst (λ (k : ℕ). Written l 0 (differLine (take k w)) m r) z p)
+        subst (λ (x : Verdict). Written l 0 (verdictLine x w) m r) (sym e) (subst (λ (k : ℕ). Written l 0 (differLine (take k w)) m r) z p)
 
-    pub verdict-refused : (x : Refusal) (k : ℕ) → v ≡ Refused x → k ≡ numberOf x → Written l 0 (refusedLine k) m r → Written l 0 (lineOf v w) m r
-    unfolding lineOf
-    verdict-refused x k e h p = subst (λ (y : Verdict). Written l 0 (lineOf y w) m r) (sym e) (subst (λ (z : ℕ). Written l 0 (refusedLine z) m r) h p)
+    pub verdict-refused : (x : Refusal) (k : ℕ) → v ≡ Refused x → k ≡ numberOf x → Written l 0 (refusedLine k) m r → Written l 0 (verdictLine v w) m r
+    unfolding verdictLine
+    verdict-refused x k e h p = subst (λ (y : Verdict). Written l 0 (verdictLine y w) m r) (sym e) (subst (λ (z : ℕ). Written l 0 (refusedLine z) m r) h p)
 
   module _ (s : Short v w) where
     pub short-joins : (j : ℕ) → v ≡ Same j → Fits w32 j

@@ -5,7 +5,7 @@ ghost use lib.ListN.{length};
 ghost use Rattle.decimal.specs.Decimal.{digits};
 ghost use Rattle.stores.specs.Written.{Written};
 ghost use Rattle.verdict_line.specs.Line.{sameLine, differLine, refusedLine, lineSize};
-ghost use Rattle.verdict_line.specs.inner.Code.{lineOf, Short};
+ghost use Rattle.verdict_line.specs.inner.Code.{verdictLine, Short};
 ghost use Rattle.equality.specs.Equality.{wordSize};
 use equality::Verdict;
 
@@ -55,7 +55,7 @@ fn put_refused(out: &mut [u8], n: u32) -> usize
 // The line of a verdict, whose word stands at the front of word.
 pub fn put_verdict(out: &mut [u8], v: Verdict, word: &[u32]) -> usize
     requires { ⌜ (lineSize ≤ length (now out)) × Short v (now word) ⌝ }
-    ensures { λ r. ⌜ Written (now (out .entry)) 0 (lineOf v (now (word .entry))) (now (out .exit)) r × (r ≤ lineSize) ⌝ }
+    ensures { λ r. ⌜ Written (now (out .entry)) 0 (verdictLine v (now (word .entry))) (now (out .exit)) r × (r ≤ lineSize) ⌝ }
 {
     match v {
         Verdict::Same(joins) => put_same(out, joins as u32),

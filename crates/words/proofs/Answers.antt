@@ -29,7 +29,7 @@ use Rattle.utf8.proofs.Decode.{decode-end, end-decode, malformed-decode, point-
 use Rattle.utf8.proofs.Wellformed.{wellformed-points, point-wellformed}
 use Rattle.words.specs.Simulation.{step, simulate, startSet, kindOf, kind}
 use Rattle.words.specs.inner.Gather.{Tables}
-use Rattle.words.specs.Acceptance.{acceptsWordsAnswer, textFirst, acceptsTextAnswer}
+use Rattle.words.specs.Acceptance.{acceptsWordsAnswer, decodedFirst, acceptsTextAnswer}
 use Rattle.words.specs.inner.Acceptance.{pointsOf}
 use Rattle.words.proofs.Closures.{closure-canon}
 use Rattle.words.proofs.Reading.{simulate-nothing, read-canon}
@@ -96,7 +96,7 @@ end-canon s starts c set S w t n e = subst (Canon (stateCount s)) (sym e) (simul
 
 -- the answer for a text behind the sheet's faults
 abbrev pub textAnswer : Automaton → Decoded → Answer ℕ
-textAnswer A d = textFirst d (λ w. given (kind A w))
+textAnswer A d = decodedFirst d (λ w. given (kind A w))
 
 module _ (s w : List ℕ) (r : Checked) (e : checkedNumber r ≡ fault s) where
   pub words-given : r ≡ Accepted → (k : ℕ) → k ≡ kind (read s) w → given k ≡ acceptsWordsAnswer s w

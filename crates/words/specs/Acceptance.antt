@@ -16,13 +16,13 @@ unfoldable pub acceptsWordsAnswer : List ℕ → List ℕ → Answer ℕ
 acceptsWordsAnswer s w = sheetFirst s (given (kind (read s) w))
 
 -- 9 where a text is malformed, or else the answer for the word of its code points
-abbrev pub textFirst : {X : Type 0} → Decoded → (List ℕ → Answer X) → Answer X
-textFirst malformed a = refused 9
-textFirst (points w) a = a w
+abbrev pub decodedFirst : {X : Type 0} → Decoded → (List ℕ → Answer X) → Answer X
+decodedFirst malformed a = refused 9
+decodedFirst (points w) a = a w
 
 -- a text stands for the word of its code points
 unfoldable pub acceptsTextAnswer : List ℕ → List ℕ → Answer ℕ
-acceptsTextAnswer s t = sheetFirst s (textFirst (decode t) (λ w. given (kind (read s) w)))
+acceptsTextAnswer s t = sheetFirst s (decodedFirst (decode t) (λ w. given (kind (read s) w)))
 
 -- the answer that a value of the code stands for
 abbrev pub acceptanceOf : Acceptance → Answer ℕ

@@ -10,7 +10,7 @@ use Rattle.automata.specs.Automaton.{Transition, Automaton, hasEpsilon}
 use Rattle.automata.specs.WellFormed.{mostStates}
 use Rattle.search.specs.Search.{meet, SearchResult, over, found, table}
 use Rattle.automata.specs.Pairs.{Pair, samePair}
-use Rattle.product.specs.Product.{jointsOf, meetingPairs, transitionOf, placeIn, blockedAt}
+use Rattle.product.specs.Product.{jointsOf, meetingPairs, transitionOfJoint, placeIn, blockedAt}
 
 -- the pair of states of a word
 abbrev pub pairOf : ℕ → Pair
@@ -43,17 +43,17 @@ pub record RunTo (k : ℕ) (es : List Transition) : Type 0 where
   pub rises : Ascending (λ d e. d .first ≤ e .first) es
 
 -- a record that gives no joint with a range that starts at a or behind it: it is no range, or ends before a
-unfoldable pub ended : ℕ → Transition → Bool
-ended a e = not (eqb (e .kind) 1) || ltb (e .last) a
+unfoldable pub endsBefore : ℕ → Transition → Bool
+endsBefore a e = not (eqb (e .kind) 1) || ltb (e .last) a
 
 -- the records from the first on that is not so
 unfoldable pub notEnded : ℕ → List Transition → List Transition
 notEnded a [] = []
-notEnded a (e ∷ es) = cond (ended a e) (notEnded a es) (e ∷ es)
+notEnded a (e ∷ es) = cond (endsBefore a e) (notEnded a es) (e ∷ es)
 
 -- the pairs to which ranges among ds and es that meet lead
-unfoldable pub targets : List Transition → List Transition → List Pair
-targets ds es = map (λ j. j .to) (jointsOf ds es)
+unfoldable pub jointTargets : List Transition → List Transition → List Pair
+jointTargets ds es = map (λ j. j .to) (jointsOf ds es)
 
 -- pairs of a state below n and one below m
 pub record PairsBelow (n m : ℕ) (T : List Pair) : Type 0 where
@@ -65,7 +65,7 @@ foundIn queue n = cond (ltb 256 n) over (found (tableOf queue n))
 
 -- the transitions of pair i of the table by the ranges among ds and es that meet
 unfoldable pub links : List Pair → ℕ → List Transition → List Transition → List Transition
-links T i ds es = map (transitionOf (placeIn T) i) (jointsOf ds es)
+links T i ds es = map (transitionOfJoint (placeIn T) i) (jointsOf ds es)
 
 -- no epsilon stands behind a range
 pub record EpsilonFirst (es : List Transition) : Type 0 where

@@ -30,7 +30,7 @@ Rising es = Ascending (λ d e. d .from ≤ e .from) es
 
 -- an entry for each state and one past the last, of which none exceeds the number of records that leave a state below; and the first k records of t are
 -- counted by the entries behind those of the states that they leave
-pub record Ends (t ends : List ℕ) (k : ℕ) : Type 0 where
+pub record RunEnds (t ends : List ℕ) (k : ℕ) : Type 0 where
   pub long : length ends ≡ 257
   pub most : (q : ℕ) → getD ends q 0 ≤ below q (readRecords t)
   pub least : (j : ℕ) → j < k → j < getD ends (getD t (5 * j) 0 + 1) 0

@@ -46,13 +46,13 @@ abbrev pub eventsAt : ℕ → List ℕ → List ℕ → List Transition
 eventsAt k s ev = map (eventAt k s) ev
 
 -- the numbers of ev are those of records of the sheet s
-pub record Numbers (s ev : List ℕ) : Type 0 where
+pub record RecordNumbers (s ev : List ℕ) : Type 0 where
   pub below : (j : ℕ) → j < length ev → getD ev j 0 < recordCount s
 
 -- ev has, in order, the numbers of the events of the sheet s
 pub record Lined (k : ℕ) (s ev : List ℕ) : Type 0 where
   pub ordered : eventsAt k s ev ≡ inOrder (events k s)
-  pub numbers : Numbers s ev
+  pub numbers : RecordNumbers s ev
 
 -- so have its words before end
 pub record Timed (k : ℕ) (s ev : List ℕ) (end : ℕ) : Type 0 where

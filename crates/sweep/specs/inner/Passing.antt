@@ -10,7 +10,7 @@ use Rattle.sets.specs.inner.BitSet.{setAt}
 use Rattle.sheets.specs.inner.Accepted.{Accepted}
 use Rattle.sheets.specs.Sheet.{stateCount, read}
 use Rattle.words.specs.Simulation.{closure, outgoing}
-use Rattle.sweep.specs.inner.Events.{Numbers, eventAt, eventsAt}
+use Rattle.sweep.specs.inner.Events.{RecordNumbers, eventAt, eventsAt}
 use Rattle.sweep.specs.inner.Tree.{Tree, leaf, LeafSet}
 use Rattle.sweep.specs.inner.Sweep.{Mine, Passes}
 
@@ -27,8 +27,8 @@ row c q = setAt c (4 * q)
 -- the pass over the ranges that leave S, at the symbol a: the openings from i on and the endings from j on are left
 pub record Passing (s c opens ends : List ℕ) (S : Set) (i j a : ℕ) (r t : List ℕ) : Type 0 where
   pub closed : Closed s c
-  pub opens-below : Numbers s opens
-  pub ends-below : Numbers s ends
+  pub opens-below : RecordNumbers s opens
+  pub ends-below : RecordNumbers s ends
   pub in-opens : i ≤ length opens
   pub in-ends : j ≤ length ends
   pub long : length r ≡ 256
@@ -42,11 +42,11 @@ pub record Stopped (k : ℕ) (s ev : List ℕ) (S : Set) (at a : ℕ) : Type 0 w
 
 -- what is noted at the symbol a of a range to q that has opened and ends at l: nothing where it has ended or the target reaches as far, or else
 -- the target's reach, and its set where the target was not live
-pub data Noted (c : List ℕ) (a l q : ℕ) (r t : List ℕ) : List ℕ → List ℕ → Type 0 where
-  over : l < a → Noted c a l q r t r t
-  known : l < getD r q 0 → Noted c a l q r t r t
-  longer : a ≤ l → getD r q 0 ≤ l → a < getD r q 0 → Noted c a l q r t (set r q (l + 1)) t
-  begun : {u : List ℕ} → a ≤ l → getD r q 0 ≤ l → LeafSet t u q (setAt c (4 * q)) → Noted c a l q r t (set r q (l + 1)) u
+pub data RangeNoted (c : List ℕ) (a l q : ℕ) (r t : List ℕ) : List ℕ → List ℕ → Type 0 where
+  over : l < a → RangeNoted c a l q r t r t
+  known : l < getD r q 0 → RangeNoted c a l q r t r t
+  longer : a ≤ l → getD r q 0 ≤ l → a < getD r q 0 → RangeNoted c a l q r t (set r q (l + 1)) t
+  begun : {u : List ℕ} → a ≤ l → getD r q 0 ≤ l → LeafSet t u q (setAt c (4 * q)) → RangeNoted c a l q r t (set r q (l + 1)) u
 
 -- what the end of a range to q does to the tree, at the symbol a: nothing where the target is live, or else its set is empty
 pub data Closes (a q : ℕ) (r t : List ℕ) : List ℕ → Type 0 where

@@ -9,12 +9,12 @@ use Rattle.sets.specs.Sets.{Set, has, pick}
 use Rattle.sets.specs.inner.BitSet.{setAt}
 
 -- the union of two sets
-unfoldable pub both : Set → Set → Set
-both S T = pick 256 (λ q. has q S || has q T)
+unfoldable pub union : Set → Set → Set
+union S T = pick 256 (λ q. has q S || has q T)
 
 -- row k has what the two rows below it have
 pub record Node (t : List ℕ) (k : ℕ) : Type 0 where
-  pub joined : setAt t (4 * k) ≡ both (setAt t (4 * (2 * k))) (setAt t (4 * (2 * k + 1)))
+  pub joined : setAt t (4 * k) ≡ union (setAt t (4 * (2 * k))) (setAt t (4 * (2 * k + 1)))
 
 pub record Tree (t : List ℕ) : Type 0 where
   pub long : length t ≡ 2048
@@ -26,7 +26,7 @@ pub record Almost (t : List ℕ) (i : ℕ) : Type 0 where
   pub node : (k : ℕ) → 1 ≤ k → k < 256 → (k ≡ i / 2 → ⊥) → Node t k
 
 -- row k of u has what the two rows below it have, and the other rows are those of t
-pub record Joined (t u : List ℕ) (k : ℕ) : Type 0 where
+pub record NodeUpdated (t u : List ℕ) (k : ℕ) : Type 0 where
   pub node : Node u k
   pub others : (i : ℕ) → (i ≡ k → ⊥) → setAt u (4 * i) ≡ setAt t (4 * i)
 

@@ -29,10 +29,10 @@ pub data SheetRead : Answer Reading → List ℕ → Parsed → Type 0 where
   reads : {o : List ℕ} (r : Reading) (n w b : ℕ) → w ≤ length o → take w o ≡ write (r .pattern .automaton) → SheetRead (given r) o (parsed.Read n w b)
 
 -- the line of a verdict, with the word at the front of w
-unfoldable pub lineOf : Verdict → List ℕ → List ℕ
-lineOf (Same joins) w = sameLine joins
-lineOf (Different n) w = differLine (take n w)
-lineOf (Refused r) w = refusedLine (numberOf r)
+unfoldable pub verdictLine : Verdict → List ℕ → List ℕ
+verdictLine (Same joins) w = sameLine joins
+verdictLine (Different n) w = differLine (take n w)
+verdictLine (Refused r) w = refusedLine (numberOf r)
 
 -- a verdict whose line has at most 5,617 bytes
 unfoldable pub Short : Verdict → List ℕ → Type 0

@@ -5,14 +5,14 @@ use mathlib.Core.Path.{_≡_}
 use lib.ListN.{length, drop}
 use Rattle.automata.specs.Records.{readRecords}
 use Rattle.automata.specs.inner.Records.{recordAt}
-use Rattle.product.specs.inner.Tables.{Queued, RunTo, targets}
+use Rattle.product.specs.inner.Tables.{Queued, RunTo, jointTargets}
 use Rattle.product.proofs.Meeting.{runLaws, run-next}
 use Rattle.product.proofs.Queueing.{metWith}
 use Rattle.product.proofs.exploring.meet_run.Statement.{statement}
 use Rattle.product.proofs.exploring.meet_run.Tie as tie
 
 abbrev Inv-loop : tie.InvT-loop
-Inv-loop d run queue₀ t₀ n m₀ at₀ queue t m at = (length t ≡ length t₀) × (at ≤ length run) × Queued queue t m × RunTo 256 (readRecords (drop at run)) × (metWith queue m (targets (recordAt d 0 ∷ []) (readRecords (drop at run))) ≡ metWith queue₀ n (targets (recordAt d 0 ∷ []) (readRecords run)))
+Inv-loop d run queue₀ t₀ n m₀ at₀ queue t m at = (length t ≡ length t₀) × (at ≤ length run) × Queued queue t m × RunTo 256 (readRecords (drop at run)) × (metWith queue m (jointTargets (recordAt d 0 ∷ []) (readRecords (drop at run))) ≡ metWith queue₀ n (jointTargets (recordAt d 0 ∷ []) (readRecords run)))
 
 abbrev μ-loop : tie.MeasureT-loop
 μ-loop d run queue₀ t₀ n m₀ at₀ queue t m at = length run - at

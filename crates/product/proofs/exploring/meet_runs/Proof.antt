@@ -3,7 +3,7 @@ use Prim.Native.Nat.{_-_, _/_, _≤_}
 use mathlib.Core.Path.{_≡_}
 use lib.ListN.{length, drop}
 use Rattle.automata.specs.Records.{readRecords}
-use Rattle.product.specs.inner.Tables.{Queued, RunTo, targets}
+use Rattle.product.specs.inner.Tables.{Queued, RunTo, jointTargets}
 use Rattle.product.proofs.Meeting.{runsLaws, runs-next}
 use Rattle.product.proofs.Records.{left-to, part-to}
 use Rattle.product.proofs.Queueing.{metWith}
@@ -13,7 +13,7 @@ use Rattle.product.proofs.exploring.meet_runs.Tie as tie
 abbrev Inv-loop : tie.InvT-loop
 Inv-loop first second queue₀ t₀ n m₀ from₀ at₀ queue t m from at =
     (length t ≡ length t₀) × (at ≤ length first) × (from ≤ length second) × Queued queue t m × RunTo (length t₀ / 256) (readRecords (drop at first)) × RunTo 256 (readRecords (drop from second))
-    × (metWith queue m (targets (readRecords (drop at first)) (readRecords (drop from second))) ≡ metWith queue₀ n (targets (readRecords first) (readRecords second)))
+    × (metWith queue m (jointTargets (readRecords (drop at first)) (readRecords (drop from second))) ≡ metWith queue₀ n (jointTargets (readRecords first) (readRecords second)))
 
 abbrev μ-loop : tie.MeasureT-loop
 μ-loop first second queue₀ t₀ n m₀ from₀ at₀ queue t m from at = length first - at

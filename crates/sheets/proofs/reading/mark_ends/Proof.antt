@@ -2,13 +2,13 @@
 use Prim.Native.Nat.{_*_, _-_, _≤_}
 use native.Mathlib.Omega.{arith}
 use lib.ListN.{length}
-use Rattle.sheets.specs.inner.Runs.{Ends}
+use Rattle.sheets.specs.inner.Runs.{RunEnds}
 use Rattle.sheets.proofs.Below.{endsLaws, ends-bound}
 use Rattle.sheets.proofs.reading.mark_ends.Statement.{statement}
 use Rattle.sheets.proofs.reading.mark_ends.Tie as tie
 
 abbrev Inv-loop : tie.InvT-loop
-Inv-loop t ends₀ k₀ ends k = (5 * k ≤ length t) × Ends t ends k
+Inv-loop t ends₀ k₀ ends k = (5 * k ≤ length t) × RunEnds t ends k
 
 abbrev μ-loop : tie.MeasureT-loop
 μ-loop t ends₀ k₀ ends k = length t - 5 * k
