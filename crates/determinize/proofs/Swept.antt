@@ -25,7 +25,7 @@ use Rattle.determinize.specs.inner.Notes.{setNumber, SetPlaced, SpanVisi
 use Rattle.determinize.specs.inner.Attempts.{SetNumbered}
 use Rattle.determinize.proofs.Tables.{add-known}
 use Rattle.determinize.proofs.Queued.{row-at}
-use Rattle.determinize.proofs.Visits.{visit-done}
+use Rattle.determinize.proofs.Visits.{visit-placed, visit-done}
 
 -- `is_row`
 pub row-past : (n j : ℕ) (b : Bool) → n ≤ j → false ≡ (ltb j n && b)
@@ -73,7 +73,7 @@ numbered-placed R T t n j p =
 pub visit-swept-done : (T : List Set) (tree next t r v : List ℕ) (m j first last k to : ℕ) → next ≡ putAt (replicate 4 0) 0 tree (4 * 1)
     → SetPlaced (setAt next 0) T t m to → Written r (5 * k) (j ∷ 1 ∷ first ∷ last ∷ to ∷ []) v (5 * k + 5)
     → SpanVisited (setAt tree 4) T j first last r k t v m
-visit-swept-done T tree next t r v m j first last k to f p w = visit-done (setAt tree 4) T t next r v m j first last k to (row-at next tree 1 f) p w
+visit-swept-done T tree next t r v m j first last k to f p w = visit-done (setAt tree 4) T t r v m j first last k to (visit-placed (setAt tree 4) T t next m to (row-at next tree 1 f) p) w
 
 -- `sweep_spans`: the set in the tree is what the span leads to
 pub visited-root : (R S : Set) (T : List Set) (j first last : ℕ) (r : List ℕ) (k : ℕ) (t v : List ℕ) (m : ℕ) → R ≡ S

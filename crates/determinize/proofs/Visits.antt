@@ -30,15 +30,15 @@ use Rattle.stores.proofs.Left.{Left, left-start, left-done, left-next}
 use Rattle.determinize.proofs.Placing.{cut-some, cut-fits}
 use Rattle.determinize.proofs.Notes.{number-later, notes-step, notes-end}
 
+-- the set that a span leads to has its place
+pub visit-placed : (R : Set) (T : List Set) (t u : List ℕ) (m to : ℕ) → setAt u 0 ≡ R → SetPlaced (setAt u 0) T t m to → SetPlaced R T t m to
+visit-placed R T t u m to e p = subst (λ S. SetPlaced S T t m to) e p
+
 -- a span is visited
-pub visit-done : (R : Set) (T : List Set) (t u r v : List ℕ) (m j first last k to : ℕ) → setAt u 0 ≡ R → SetPlaced (setAt u 0) T t m to
+pub visit-done : (R : Set) (T : List Set) (t r v : List ℕ) (m j first last k to : ℕ) → SetPlaced R T t m to
     → Written r (5 * k) (j ∷ 1 ∷ first ∷ last ∷ to ∷ []) v (5 * k + 5) → SpanVisited R T j first last r k t v m
-visit-done R T t u r v m j first last k to e p w =
-    record {
-      added = p .added ∙ ap (λ S. addSet S T) e;
-      few = p .few;
-      noted = subst (λ x. Written r (5 * k) (j ∷ 1 ∷ first ∷ last ∷ x ∷ []) v (5 * k + 5)) (p .named ∙ ap (λ S. setNumber S (entries t m)) e) w;
-    }
+visit-done R T t r v m j first last k to p w =
+    record { added = p .added; few = p .few; noted = subst (λ x. Written r (5 * k) (j ∷ 1 ∷ first ∷ last ∷ x ∷ []) v (5 * k + 5)) (p .named) w }
 
 pub ruleset visitLaws = (visit-done, cut-some, cut-fits, needs)
 

@@ -14,7 +14,7 @@ ghost use Rattle.sheets.specs.Sheet.{read};
 ghost use Rattle.words.specs.Simulation.{outgoing, step};
 ghost use Rattle.words.specs.inner.Gather.{Tables};
 ghost use Rattle.ranges.specs.Cuts.{nextCut};
-ghost use Rattle.determinize.specs.inner.Notes.{sinkNotes, SetPlaced, SpanVisited, SpansResult};
+ghost use Rattle.determinize.specs.inner.Notes.{sinkNotes, SetPlaced, SpansResult};
 ghost use Rattle.determinize.specs.inner.Memory.{StateSet, TableAndNotes, StartTable};
 ghost use Rattle.determinize.specs.inner.Attempts.{runLength, recordsOf, SpansExploration, TableExploration};
 use crate::Exploration;
@@ -33,9 +33,10 @@ pub struct SetCounts {
     pub notes: usize,
 }
 
-// Where a span ends, which is before the next cut, and how many sets the table has once it is visited.
+// Where a span ends, which is before the next cut, the number of the set that it leads to, and how many sets the table has then.
 pub struct SpanEnd {
     pub cut: u64,
+    pub number: u32,
     pub sets: usize,
 }
 
@@ -74,33 +75,29 @@ pub fn note(notes: &mut [u32], count: usize, from: u32, first: u32, last: u32, t
     }
 }
 
-// The span of a set from first up to the next cut, which is top where no range is cut before: the set that it leads to gets its place in the table, and
-// the transition is noted.
+// The span of a set from first up to the next cut, which is top where no range is cut before: the set that it leads to gets its place in the table of n
+// sets.
 fn visit(
     s: &[u32],
     starts: &[u32],
     closures: &[u64],
     set: &[u64],
-    from: u32,
     first: u32,
     top: u64,
     table: &mut [u64],
-    notes: &mut [u32],
-    counts: SetCounts,
+    n: usize,
 ) -> SpanEnd
     requires { ⌜ Tables (now s) (now starts) (now closures) × StateSet (now s) (now set) × (first < top) × (top ≤ 4294967296) ⌝ }
-    requires { ⌜ (counts .sets < 256) × (length (now table) ≡ 1024) × (length (now notes) % 5 ≡ 0) ⌝ }
+    requires { ⌜ (n < 256) × (length (now table) ≡ 1024) ⌝ }
     ensures cut { λ r. ⌜ r .cut ≡ nextCut first top (outgoing (read (now (s .entry))) (setAt (now (set .entry)) 0)) ⌝ }
-    ensures visited { λ r. ⌜ SpanVisited (step (read (now (s .entry))) (setAt (now (set .entry)) 0) first) (entries (now (table .entry)) (counts .sets))
-        from first (r .cut - 1) (now (notes .entry)) (counts .notes) (now (table .exit)) (now (notes .exit)) (r .sets) ⌝ }
+    ensures placed { λ r. ⌜ SetPlaced (step (read (now (s .entry))) (setAt (now (set .entry)) 0) first) (entries (now (table .entry)) n) (now (table .exit)) (r .sets) (r .number) ⌝ }
 {
     let mut next = [0u64; 4];
     let cut = words::step(s, starts, closures, set, first, &mut next, top);
-    let placed = place(table, counts.sets, &next);
-    let last = (cut - 1) as u32;
-    note(notes, counts.notes, from, first, last, placed.number);
+    let placed = place(table, n, &next);
     SpanEnd {
         cut,
+        number: placed.number,
         sets: placed.sets,
     }
 }
@@ -129,21 +126,10 @@ pub fn visit_spans(
     let mut n = counts.sets;
     let mut count = counts.notes;
     while a < top {
-        let visited = visit(
-            s,
-            starts,
-            closures,
-            set,
-            from,
-            a as u32,
-            top,
-            table,
-            notes,
-            SetCounts {
-                sets: n,
-                notes: count,
-            },
-        );
+        let first = a as u32;
+        let visited = visit(s, starts, closures, set, first, top, table, n);
+        let last = (visited.cut - 1) as u32;
+        note(notes, count, from, first, last, visited.number);
         n = visited.sets;
         if n == 256 {
             return Progress::Over;
@@ -235,21 +221,10 @@ fn try_spans(
     let mut n = counts.sets;
     let mut count = noted;
     while a < top {
-        let visited = visit(
-            s,
-            starts,
-            closures,
-            set,
-            from,
-            a as u32,
-            top,
-            table,
-            notes,
-            SetCounts {
-                sets: n,
-                notes: count,
-            },
-        );
+        let first = a as u32;
+        let visited = visit(s, starts, closures, set, first, top, table, n);
+        let last = (visited.cut - 1) as u32;
+        note(notes, count, from, first, last, visited.number);
         n = visited.sets;
         if n == 256 {
             return Exploration::Finished(Progress::Over);

@@ -2,11 +2,12 @@
 use Prim.Native.Nat.{_+_, _-_, _%_, _≤_, _<_}
 use mathlib.Core.Path.{_≡_}
 use borrow.Author.Needs.{needs}
+use native.Mathlib.Omega.{arith}
 use lib.ListN.{length}
 use Rattle.sheets.specs.Sheet.{stateCount, read}
 use Rattle.sets.specs.inner.BitSet.{setAt, entries}
 use Rattle.determinize.proofs.Attempts.{try-unfinished, try-finished}
-use Rattle.determinize.proofs.Visits.{SpansInvariant, visit-begins, visit-next, visit-over, visit-ended, canonical-next, first-some, first-kept}
+use Rattle.determinize.proofs.Visits.{SpansInvariant, visitLaws, visit-done, visit-begins, visit-next, visit-over, visit-ended, canonical-next, first-some, first-kept}
 use Rattle.determinize.proofs.Placing.{cut-less, cut-counts, cut-most}
 use Rattle.determinize.specs.inner.Notes.{Canonical}
 use Rattle.determinize.proofs.exploring.try_spans.Statement.{statement}
@@ -24,33 +25,58 @@ abbrev μ-loop : tie.MeasureT-loop
 pub try-spans-spec : {M : Type 1} → statement M
 try-spans-spec =
     tie.close
-    (tie.spec Inv-loop μ-loop (λ c. search needs) (λ c. search needs) (λ c. search needs) (λ c. search (visit-begins, needs)) (λ c. search needs) (λ c κs. search needs) (λ c. search needs)
+    (tie.spec Inv-loop μ-loop (λ c. search needs) (λ c. search needs) (λ c. search needs) (λ c. search (visit-begins, needs)) (λ c. search needs) (λ c κs. search needs) (λ c. search visitLaws)
+    (λ c. search visitLaws) (λ c κs. search needs)
+    (λ c.
+    let at-table = c .before .before .before .before .before .before .before in
+    let at-loop = at-table .before .before .before .before in
+    let at-pre = at-loop .before .before .before .before .before .before .before .before in
+    omega (arith, at-table .table .given, at-loop .loop .inv .1, at-pre .pre .1 .0 .long))
     (λ c. search needs)
     (λ c.
-    let at-visit = c .before .before .before .before .before in
-    let at-loop-test = at-visit .before .before .before in
+    let at-note = c .before .before .before in
+    let at-visit = at-note .before .before .before .before .before in
+    let at-loop-test = at-visit .before .before in
     let at-loop = at-loop-test .before in
     try-finished _ _ _ _ _ _ _ _ _ _ _ _
-    (visit-over _ _ _ _ _ _ _ _ _ _ _ _ _ (at-loop .loop .inv .11) (at-loop-test .loop-test .taken) _ (at-visit .visit .ensures .0) _ _ _ (at-visit .visit .ensures .1) (c .if1 .taken)))
-    (λ c. search needs) (λ c. search needs) (λ c κs. search needs) (λ c. search needs) (λ c. search needs)
+    (visit-over _ _ _ _ _ _ _ _ _ _ _ _ _ (at-loop .loop .inv .11) (at-loop-test .loop-test .taken) _ (at-visit .visit .ensures .0) _ _ _ (visit-done _ _ _ _ _ _ _ _ _ _ _ (at-visit .visit .ensures .1) (at-note .note .ensures)) (c .if1 .taken)))
     (λ c.
-    let at-visit = c .before .before .before .before .before .before .before in
-    let at-loop = at-visit .before .before .before .before in
-    try-unfinished _ _ _ _ _ _ _ _ _ _ _ (first-kept _ _ _ _ _ _ _ _ _ _ _ (at-visit .visit .ensures .1) (at-loop .loop .inv .4) _ (at-loop .loop .inv .9)))
+    let at-loop = c .before .before .before .before .before .before .before .before .before .before .before in
+    let at-pre = at-loop .before .before .before .before .before .before .before .before in
+    omega (arith, at-loop .loop .inv .8, at-loop .loop .inv .6, at-pre .pre .1 .0 .bounded))
+    (λ c. search needs) (λ c κs. let at-pre = c .before .before .before .before .before .before .before .before .before .before .before .before .before .before .before .before .before .before .before in at-pre .pre .0 .1 .long)
+    (λ c.
+    let at-table = c .before .before .before .before .before .before .before .before .before in
+    let at-loop = at-table .before .before .before .before in
+    let at-pre = at-loop .before .before .before .before .before .before .before .before in
+    omega (arith, at-table .table .given, at-loop .loop .inv .1, at-pre .pre .1 .0 .long))
+    (λ c. search needs)
+    (λ c.
+    let at-note = c .before .before .before .before .before in
+    let at-visit = at-note .before .before .before .before .before in
+    let at-loop = at-visit .before .before .before in
+    try-unfinished _ _ _ _ _ _ _ _ _ _ _ (first-kept _ _ _ _ _ _ _ _ _ _ _ (visit-done _ _ _ _ _ _ _ _ _ _ _ (at-visit .visit .ensures .1) (at-note .note .ensures)) (at-loop .loop .inv .4) _ (at-loop .loop .inv .9)))
     (λ c. search (cut-less, needs))
-    (λ c. (
+    (λ c.
+    let at-note = c .before .before .before .before .before in
+    let at-visit = at-note .before .before .before .before .before in
+    let at-loop-test = at-visit .before .before in
+    let at-loop = at-loop-test .before in
+    let at-pre = at-loop .before .before .before .before .before .before .before .before in
+    let at-table = at-note .before .before .before .before in
+    let visited = visit-done _ _ _ _ _ _ _ _ _ _ _ (at-visit .visit .ensures .1) (at-note .note .ensures) in (
+      search needs,
+      omega (arith, at-table .table .given, at-loop .loop .inv .1),
       search needs,
       search needs,
-      search needs,
-      search needs,
-      search first-some,
+      first-some _ _ _ _ _ _ _ _ _ _ _ visited (at-loop .loop .inv .4),
       search needs,
       search cut-most,
       search needs,
       search cut-counts,
-      search first-kept,
-      search canonical-next,
-      search visit-next,
+      first-kept _ _ _ _ _ _ _ _ _ _ _ visited (at-loop .loop .inv .4) _ (at-loop .loop .inv .9),
+      canonical-next _ (at-pre .pre .0 .0 .accepted) _ _ _ _ _ _ _ _ _ _ (at-loop .loop .inv .10) visited,
+      visit-next _ _ _ _ _ _ _ _ _ _ _ _ _ (at-loop .loop .inv .11) (at-loop-test .loop-test .taken) _ (at-visit .visit .ensures .0) _ _ _ visited,
     ))
     (λ c. search needs) (λ c. search needs)
     (λ c.

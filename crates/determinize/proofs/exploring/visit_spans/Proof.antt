@@ -1,13 +1,14 @@
 -- `visit_spans` meets its contract: the spans below `a` are visited.
 use Prim.Native.Nat.{_+_, _-_, _%_, _≤_, _<_}
 use mathlib.Core.Path.{_≡_}
+use native.Mathlib.Omega.{arith}
 use borrow.Author.Needs.{needs}
 use lib.ListN.{length}
 use Rattle.sets.specs.inner.BitSet.{setAt, entries}
 use Rattle.sheets.specs.Sheet.{stateCount, read}
 use Rattle.determinize.specs.inner.Notes.{Canonical}
 use Rattle.determinize.proofs.Placing.{cut-less, cut-counts, cut-most}
-use Rattle.determinize.proofs.Visits.{SpansInvariant, visit-begins, visit-next, visit-over, visit-ended, canonical-next}
+use Rattle.determinize.proofs.Visits.{SpansInvariant, visitLaws, visit-done, visit-begins, visit-next, visit-over, visit-ended, canonical-next}
 use Rattle.determinize.proofs.exploring.visit_spans.Statement.{statement}
 use Rattle.determinize.proofs.exploring.visit_spans.Tie as tie
 
@@ -23,7 +24,30 @@ abbrev μ-loop : tie.MeasureT-loop
 pub visit-spans-spec : {M : Type 1} → statement M
 visit-spans-spec =
     tie.close
-    (tie.spec Inv-loop μ-loop (λ c. search needs) (λ c. search needs) (λ c. search needs) (λ c. search (visit-begins, needs)) (λ c. search needs) (λ c κs. search needs) (λ c. search needs)
-    (λ c. search needs) (λ c. search (visit-over, needs)) (λ c. search needs) (λ c. search (cut-less, needs))
-    (λ c. (search needs, search needs, search needs, search needs, search needs, search cut-most, search cut-counts, search canonical-next, search visit-next))
+    (tie.spec Inv-loop μ-loop (λ c. search needs) (λ c. search needs) (λ c. search needs) (λ c. search (visit-begins, needs)) (λ c. search needs) (λ c κs. search needs) (λ c. search visitLaws)
+    (λ c. search visitLaws) (λ c κs. search needs) (λ c. search needs) (λ c. search needs)
+    (λ c.
+    let at-note = c .before .before .before in
+    let at-visit = at-note .before .before .before .before .before in
+    let at-loop-test = at-visit .before .before in
+    visit-over _ _ _ _ _ _ _ _ _ _ _ _ _ (at-loop-test .before .loop .inv .8) (at-loop-test .loop-test .taken) _ (at-visit .visit .ensures .0) _ _ _ (visit-done _ _ _ _ _ _ _ _ _ _ _ (at-visit .visit .ensures .1) (at-note .note .ensures)) (c .if1 .taken))
+    (λ c. search needs) (λ c. search (cut-less, needs))
+    (λ c.
+    let at-note = c .before .before .before in
+    let at-visit = at-note .before .before .before .before .before in
+    let at-loop-test = at-visit .before .before in
+    let at-loop = at-loop-test .before in
+    let at-pre = at-loop .before .before .before .before .before .before .before .before in
+    let at-table = at-note .before .before .before .before in
+    let visited = visit-done _ _ _ _ _ _ _ _ _ _ _ (at-visit .visit .ensures .1) (at-note .note .ensures) in (
+      search needs,
+      omega (arith, at-table .table .given, at-loop .loop .inv .1),
+      search needs,
+      search needs,
+      search needs,
+      search cut-most,
+      search cut-counts,
+      canonical-next _ (at-pre .pre .0 .0 .accepted) _ _ _ _ _ _ _ _ _ _ (at-loop .loop .inv .7) visited,
+      visit-next _ _ _ _ _ _ _ _ _ _ _ _ _ (at-loop .loop .inv .8) (at-loop-test .loop-test .taken) _ (at-visit .visit .ensures .0) _ _ _ visited,
+    ))
     (λ c. search needs) (λ c. search needs) (λ c. search (visit-ended, needs)))
