@@ -125,6 +125,15 @@ pub fn around(records: usize) -> Sheet {
     around
 }
 
+/// The same the other way round: each state leads to the one below it, and 1 accepts.
+pub fn downward(records: usize) -> Sheet {
+    let record = |i: u32| [i % 256, RANGE, i, i, (i + 255) % 256];
+    let mut downward = sheet(256, 0, (0..records as u32).map(record).collect());
+    downward.accept = vec![0; 256];
+    downward.accept[1] = 1;
+    downward
+}
+
 /// Two sheets of 256 states with `records` records each, where no record of the one covers one of the other.
 pub fn uncovered(records: usize) -> (Sheet, Sheet) {
     let (n, each) = (records as u32, (records / 256) as u32);

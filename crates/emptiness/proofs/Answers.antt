@@ -21,16 +21,18 @@ use Rattle.sheets.specs.declared.Checked.the-variants.{Accepted, Refused}
 use Rattle.sheets.proofs.Accepted.{check-accepted}
 use Rattle.sheets.proofs.Checking.{sheet-passed, sheet-refused}
 use Rattle.sheets.proofs.Runs.{starts-indexed}
-use Rattle.emptiness.specs.inner.Marks.{UnmarkedSearch}
+use Rattle.emptiness.specs.inner.Marks.{Unmarked, UnmarkedSearch}
 use Rattle.emptiness.specs.Reachable.{hasReachableAccepting, reachableAnswer}
+
+pub no-marks : Unmarked (replicate 256 0)
+no-marks = record { wide = length-replicate {A = ℕ} 256 0; nothing = blank-at 256 }
 
 pub all-ready : (s old starts : List ℕ) → Accepted.Accepted s → starts ≡ sets old 0 (startsOf s) → length old ≡ 257 → UnmarkedSearch s starts (replicate 256 0) (replicate 256 0)
 all-ready s old starts a e l =
     record {
       accepted = a;
       indexed = starts-indexed s old starts e (omega (arith, a .few-states));
-      wide = length-replicate {A = ℕ} 256 0;
-      nothing = blank-at 256;
+      unmarked = no-marks;
       long = length-replicate {A = ℕ} 256 0;
     }
 

@@ -3,4 +3,5 @@ pub mod Paths
 pub mod Marks
 pub mod Search
 pub mod Answers
+pub mod Passes
 pub mod Theorems

@@ -24,19 +24,31 @@ use Rattle.sheets.specs.Sheet.{stateCount, read}
 use Rattle.sheets.proofs.Meaning.{read-well}
 use Rattle.sheets.proofs.Named.{run-named, named-target, named-next}
 use Rattle.sheets.proofs.Runs.{run-at}
-use Rattle.emptiness.specs.inner.Marks.{Marked, unmet, Skipped, StackRoom, Pushed, Done, Searched, UnmarkedSearch}
+use Rattle.emptiness.specs.inner.Marks.{Marked, Unmarked, unmet, Skipped, StackRoom, Pushed, Done, Searched, UnmarkedSearch}
 use Rattle.emptiness.specs.Reachable.{Path, stay, follow, hasReachableAccepting}
 use Rattle.emptiness.proofs.Marks.{mark-here, mark-out, mark-old, unmet-less}
 use Rattle.emptiness.proofs.Theorems.{accepting-paths}
 
 -- one more transition behind a path, and where paths lead
-path-more : {A : Automaton} {p q : ℕ} → Path A p q → (e : Transition) → e ∈ A .transitions → e .from ≡ q → Path A p (e .to)
+pub path-more : {A : Automaton} {p q : ℕ} → Path A p q → (e : Transition) → e ∈ A .transitions → e .from ≡ q → Path A p (e .to)
 path-more stay e m f = follow e m f stay
 path-more (follow d n g r) e m f = follow d n g (path-more r e m f)
 
 path-bound : {A : Automaton} {p q : ℕ} → InBounds A → p < A .size → Path A p q → q < A .size
 path-bound ok l stay = l
 path-bound ok l (follow e m f r) = path-bound ok (ok .tos e m) r
+
+-- where each state that was met is done, no reachable state accepts
+pub done-rejects : (A : Automaton) (ok : InBounds A) (marks : List ℕ) → Marked marks (A .start) → ((x : ℕ) → Marked marks x → Done A marks x) → hasReachableAccepting A ≡ false
+done-rejects A ok marks m all =
+    ⊎-elim (λ b. let r = accepting-paths A ok .0 b in absurd (no (r .0) (r .1) (r .2))) (λ b. b) (test (hasReachableAccepting A))
+  where
+    closed : {p x : ℕ} → Marked marks p → Path A p x → Marked marks x
+    closed m stay = m
+    closed {p} m (follow d i f r) = closed (all p m .followed d i f) r
+
+    no : (x : ℕ) → Path A (A .start) x → 0 < getD (A .accept) x 0 → ⊥
+    no x r l = let z = all x (closed m r) .rejects in omega arith
 
 -- what is done stays so when more states are met
 done-more : {A : Automaton} {marks after : List ℕ} {x : ℕ} → ((q : ℕ) → Marked marks q → Marked after q) → Done A marks x → Done A after x
@@ -85,18 +97,10 @@ module _ (s : List ℕ) (a : Accepted s) (marks stack : List ℕ) (top q : ℕ) 
           }
 
       pub search-end : top ≡ 0 → false ≡ hasReachableAccepting (read s)
-      search-end z =
-          ⊎-elim (λ b. let r = accepting-paths (read s) ok .0 b in absurd (no (r .0) (r .1) (r .2))) sym (test (hasReachableAccepting (read s)))
+      search-end z = sym (done-rejects (read s) ok marks (t .started) all)
         where
           all : (x : ℕ) → Marked marks x → Done (read s) marks x
           all x m = ⊎-elim (λ c. subst (Done (read s) marks) (sym c) state-done) (⊎-elim (λ r. let l = r .1 in absurd (omega arith)) (λ d. d)) (t .others x m)
-
-          closed : {p x : ℕ} → Marked marks p → Path (read s) p x → Marked marks x
-          closed m stay = m
-          closed {p} m (follow d i f r) = closed (all p m .followed d i f) r
-
-          no : (x : ℕ) → Path (read s) (getD s 1 0) x → 0 < getD (read s .accept) x 0 → ⊥
-          no x r l = let z = all x (closed (t .started) r) .rejects in omega arith
 
       pub search-back : (top ≡ 0 → ⊥) → Searched (read s) marks stack (top - 1) (getD stack (top - 1) 0)
       search-back z =
@@ -197,12 +201,20 @@ module _ (s : List ℕ) (a : Accepted s) (marks stack : List ℕ) (top q : ℕ) 
             further : {j : ℕ} → j < top → j < end
             further l = omega (arith, p .grows)
 
--- the search begins with the start
+-- the start alone is met
+module _ (s : List ℕ) (a : Accepted s) (marks : List ℕ) (u : Unmarked marks) where
+  pub start-inside : getD s 1 0 < length marks
+  start-inside = omega (arith, a .start, a .few-states, u .wide)
+
+  pub start-only : (x : ℕ) → Marked (set marks (getD s 1 0) 1) x → x ≡ getD s 1 0
+  start-only x m = ⊎-elim (λ c. c) (λ c. let z = u .nothing x in absurd (omega arith)) (mark-out marks (getD s 1 0) start-inside x m)
+
+-- the search begins with it
 pub search-begin : (s starts marks stack : List ℕ) → UnmarkedSearch s starts marks stack → Searched (read s) (set marks (getD s 1 0) 1) stack 0 (getD s 1 0)
 search-begin s starts marks stack r =
-    let here = mark-here marks (getD s 1 0) inside in
+    let here = mark-here marks (getD s 1 0) (start-inside s (r .accepted) marks (r .unmarked)) in
     record {
-      room = record { wide = length-set marks _ 1 ∙ r .wide; long = r .long; enough = omega (arith, few) };
+      room = record { wide = length-set marks _ 1 ∙ r .unmarked .wide; long = r .long; enough = omega (arith, few) };
       started = here;
       here = here;
       entered = λ j l. absurd (omega arith);
@@ -210,13 +222,10 @@ search-begin s starts marks stack r =
       others = λ x m. inl (only x m);
     }
   where
-    inside : getD s 1 0 < length marks
-    inside = omega (arith, r .accepted .start, r .accepted .few-states, r .wide)
-
     few : unmet (set marks (getD s 1 0) 1) ≤ 256
-    few = unfold unmet in omega (arith, length-filter (λ x. eqb x 0) (set marks (getD s 1 0) 1), length-set marks (getD s 1 0) 1, r .wide)
+    few = unfold unmet in omega (arith, length-filter (λ x. eqb x 0) (set marks (getD s 1 0) 1), length-set marks (getD s 1 0) 1, r .unmarked .wide)
 
     only : (x : ℕ) → Marked (set marks (getD s 1 0) 1) x → x ≡ getD s 1 0
-    only x m = ⊎-elim (λ c. c) (λ c. let z = r .nothing x in absurd (omega arith)) (mark-out marks (getD s 1 0) inside x m)
+    only = start-only s (r .accepted) marks (r .unmarked)
 
-pub ruleset searchLaws = (run-named, state-bound, state-run, state-accepts, search-begin, needs)
+pub ruleset searchLaws = (run-named, state-bound, state-run, state-accepts, start-inside, search-begin, needs)

@@ -1,5 +1,6 @@
-// Emptiness: whether a state that accepts is reached from the start. The search marks each state that it meets, follows its transitions once, and ends
-// at the first state that accepts.
+// Emptiness: whether a state that accepts is reached from the start. The records ascend by the states that they leave, so one pass over them follows all
+// transitions that lead upward, and one from the last back to the first all that lead downward. Where neither pass decides, a search does: it marks each
+// state that it meets, follows its transitions once, and ends at the first state that accepts.
 ghost use mathlib.Core.List.{[]};
 ghost use mathlib.Core.Path.{_≡_};
 ghost use lib.ListN.{length};
@@ -8,10 +9,104 @@ ghost use Rattle.refusal.specs.Decision.{decisionOf};
 ghost use Rattle.sheets.specs.inner.Accepted.{Accepted};
 ghost use Rattle.sheets.specs.Sheet.{read};
 ghost use Rattle.sheets.specs.inner.Runs.{Named};
-ghost use Rattle.emptiness.specs.inner.Marks.{Skipped, StackRoom, Pushed, UnmarkedSearch};
+ghost use Rattle.emptiness.specs.inner.Passes.{Met, Tells};
+ghost use Rattle.emptiness.specs.inner.Marks.{Unmarked, Skipped, StackRoom, Pushed, UnmarkedSearch};
 ghost use Rattle.emptiness.specs.Reachable.{hasReachableAccepting, reachableAnswer};
 use refusal::Decision;
 use sheets::Checked;
+
+// What a pass over the records tells: that a reachable state accepts, that none does, or nothing.
+pub enum Pass {
+    Accepts,
+    Rejects,
+    Undecided,
+}
+
+// How many records between states that were not met a pass reads.
+const MOST_IDLE: usize = 64;
+
+// Follows the transitions that lead upward from the states that were met, in one pass over the records of an accepted sheet. It ends undecided at a
+// transition that leads down to a state that was not met, and where it has read too many records in vain.
+fn pass_up(s: &[u32], marks: &mut [u8]) -> Pass
+    requires { ⌜ Accepted (now s) × Met (read (now s)) (now marks) ⌝ }
+    ensures { λ r. ⌜ Tells (read (now (s .entry))) (now (marks .exit)) r ⌝ }
+{
+    let mut idle: usize = 0;
+    let mut at = s[2] as usize + 4;
+    while 5 <= s.len() - at {
+        let record = at;
+        let to = s[record + 4];
+        at += 5;
+        if marks[to as usize] == 0 {
+            let from = s[record];
+            if marks[from as usize] == 0 {
+                if idle == MOST_IDLE {
+                    return Pass::Undecided;
+                }
+                idle += 1;
+            } else {
+                if to <= from {
+                    return Pass::Undecided;
+                }
+                if 0 < sheets::accept_word(s, to) {
+                    return Pass::Accepts;
+                }
+                marks[to as usize] = 1;
+            }
+        }
+    }
+    Pass::Rejects
+}
+
+// The same downward, from the last record back to the first.
+fn pass_down(s: &[u32], marks: &mut [u8]) -> Pass
+    requires { ⌜ Accepted (now s) × Met (read (now s)) (now marks) ⌝ }
+    ensures { λ r. ⌜ Tells (read (now (s .entry))) (now (marks .exit)) r ⌝ }
+{
+    let n = s[2] as usize;
+    let mut idle: usize = 0;
+    let mut left = s[n + 3] as usize;
+    while 0 < left {
+        left -= 1;
+        let record = n + 4 + 5 * left;
+        let to = s[record + 4];
+        if marks[to as usize] == 0 {
+            let from = s[record];
+            if marks[from as usize] == 0 {
+                if idle == MOST_IDLE {
+                    return Pass::Undecided;
+                }
+                idle += 1;
+            } else {
+                if from <= to {
+                    return Pass::Undecided;
+                }
+                if 0 < sheets::accept_word(s, to) {
+                    return Pass::Accepts;
+                }
+                marks[to as usize] = 1;
+            }
+        }
+    }
+    Pass::Rejects
+}
+
+// What a pass upward tells, or else one downward.
+fn decide_by_passes(s: &[u32], marks: &mut [u8]) -> Pass
+    requires { ⌜ Accepted (now s) × Unmarked (now marks) ⌝ }
+    ensures { λ r. ⌜ Tells (read (now (s .entry))) (now (marks .exit)) r ⌝ }
+{
+    let start = s[1];
+    if 0 < sheets::accept_word(s, start) {
+        return Pass::Accepts;
+    }
+    marks[start as usize] = 1;
+    let up = pass_up(s, marks);
+    let Pass::Undecided = up else {
+        return up;
+    };
+    pass_down(s, marks)
+}
 
 // Where the first record of the run stands whose target was not met; a place with no record behind it, if there is none.
 fn first_unmet(run: &[u32], marks: &[u8]) -> usize
@@ -76,8 +171,8 @@ fn explore(s: &[u32], starts: &[u32], marks: &mut [u8], stack: &mut [u32]) -> bo
     }
 }
 
-// Whether a reachable state of an accepted sheet accepts.
-fn reaches_accepting(s: &[u32]) -> bool
+// Whether a reachable state of an accepted sheet accepts, by a search.
+fn search_accepting(s: &[u32]) -> bool
     requires { ⌜ Accepted (now s) ⌝ }
     ensures { λ r. ⌜ r ≡ hasReachableAccepting (read (now (s .entry))) ⌝ }
 {
@@ -86,6 +181,19 @@ fn reaches_accepting(s: &[u32]) -> bool
     let mut stack = [0u32; 256];
     sheets::run_starts(s, &mut starts);
     explore(s, &starts, &mut marks, &mut stack)
+}
+
+// Whether a reachable state of an accepted sheet accepts.
+fn reaches_accepting(s: &[u32]) -> bool
+    requires { ⌜ Accepted (now s) ⌝ }
+    ensures { λ r. ⌜ r ≡ hasReachableAccepting (read (now (s .entry))) ⌝ }
+{
+    let mut marks = [0u8; 256];
+    match decide_by_passes(s, &mut marks) {
+        Pass::Accepts => true,
+        Pass::Rejects => false,
+        Pass::Undecided => search_accepting(s),
+    }
 }
 
 // Whether a state that accepts is reached from the start, by any number of transitions. A sheet is empty when none is.

@@ -106,6 +106,11 @@ fn others() {
         let sheet = hostile::around(n);
         calls::has_reachable_accepting_state(&format!("{n} records of 256 states"), &sheet);
     }
+    for n in doubling(2048) {
+        let sheet = hostile::downward(n);
+        let case = format!("{n} records of 256 states, downward");
+        calls::has_reachable_accepting_state(&case, &sheet);
+    }
     for n in doubling(256) {
         let (a, b) = hostile::many_targets(n);
         calls::equivalence(&format!("{n} states, 7 triggers, 1 with {n} targets each"), &a, &b);

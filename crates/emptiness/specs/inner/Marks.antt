@@ -16,6 +16,11 @@ use Rattle.emptiness.specs.Reachable.{Path}
 abbrev pub Marked : List ℕ → ℕ → Type 0
 Marked marks q = 0 < getD marks q 0
 
+-- no state was met
+pub record Unmarked (marks : List ℕ) : Type 0 where
+  pub wide : length marks ≡ 256
+  pub nothing : (q : ℕ) → getD marks q 0 ≡ 0
+
 -- how many states were not met
 unfoldable pub unmet : List ℕ → ℕ
 unmet marks = length (filter (λ x. eqb x 0) marks)
@@ -64,6 +69,5 @@ pub record Searched (A : Automaton) (marks stack : List ℕ) (top q : ℕ) : Typ
 pub record UnmarkedSearch (s starts marks stack : List ℕ) : Type 0 where
   pub accepted : Accepted s
   pub indexed : Indexed s starts
-  pub wide : length marks ≡ 256
-  pub nothing : (q : ℕ) → getD marks q 0 ≡ 0
+  pub unmarked : Unmarked marks
   pub long : length stack ≡ 256
