@@ -116,22 +116,33 @@ pub fn same_ranges(states: usize, ranges: usize) -> Sheet {
     sheet(states, 0, (0..states as u32).flat_map(own).collect())
 }
 
-/// `records` records over 256 states, each of which leads to the next; only the last accepts.
-pub fn around(records: usize) -> Sheet {
-    let record = |i: u32| [i % 256, RANGE, i, i, (i + 1) % 256];
-    let mut around = sheet(256, 0, (0..records as u32).map(record).collect());
-    around.accept = vec![0; 256];
-    around.accept[255] = 1;
-    around
+/// `records` records over 256 states, each of which leads to the next in this order, from 0 on; only the last accepts.
+fn ring(records: usize, order: &[u32]) -> Sheet {
+    let mut next = [0; 256];
+    for (i, state) in order.iter().enumerate() {
+        next[*state as usize] = order[(i + 1) % 256];
+    }
+    let record = |i: u32| [i % 256, RANGE, i, i, next[i as usize % 256]];
+    let mut ring = sheet(256, 0, (0..records as u32).map(record).collect());
+    ring.accept = vec![0; 256];
+    ring.accept[order[255] as usize] = 1;
+    ring
 }
 
-/// The same the other way round: each state leads to the one below it, and 1 accepts.
+/// A ring upward: 0, 1, 2 and so on.
+pub fn around(records: usize) -> Sheet {
+    ring(records, &(0..256).collect::<Vec<_>>())
+}
+
+/// A ring downward: 0, 255, 254 and so on.
 pub fn downward(records: usize) -> Sheet {
-    let record = |i: u32| [i % 256, RANGE, i, i, (i + 255) % 256];
-    let mut downward = sheet(256, 0, (0..records as u32).map(record).collect());
-    downward.accept = vec![0; 256];
-    downward.accept[1] = 1;
-    downward
+    ring(records, &(0..256).map(|i| (256 - i) % 256).collect::<Vec<_>>())
+}
+
+/// A ring in no order.
+pub fn in_no_order(records: usize) -> Sheet {
+    let others = shuffled(255, 4).into_iter().map(|state| state + 1);
+    ring(records, &std::iter::once(0).chain(others).collect::<Vec<_>>())
 }
 
 /// Two sheets of 256 states with `records` records each, where no record of the one covers one of the other.

@@ -97,20 +97,25 @@ fn products() {
     }
 }
 
+/// A search that the records' order does not help.
+pub fn order() {
+    reachable(", in no order", hostile::in_no_order);
+}
+
+fn reachable(case: &str, ring: fn(usize) -> Sheet) {
+    for n in doubling(2048) {
+        let case = format!("{n} records of 256 states{case}");
+        calls::has_reachable_accepting_state(&case, &ring(n));
+    }
+}
+
 fn others() {
     for n in doubling(256) {
         let case = format!("ring of {n} epsilons, the same 7 ranges");
         calls::epsilon_eliminate(&case, &hostile::same_ranges(n, 7));
     }
-    for n in doubling(2048) {
-        let sheet = hostile::around(n);
-        calls::has_reachable_accepting_state(&format!("{n} records of 256 states"), &sheet);
-    }
-    for n in doubling(2048) {
-        let sheet = hostile::downward(n);
-        let case = format!("{n} records of 256 states, downward");
-        calls::has_reachable_accepting_state(&case, &sheet);
-    }
+    reachable("", hostile::around);
+    reachable(", downward", hostile::downward);
     for n in doubling(256) {
         let (a, b) = hostile::many_targets(n);
         calls::equivalence(&format!("{n} states, 7 triggers, 1 with {n} targets each"), &a, &b);
