@@ -30,26 +30,47 @@ const RUN: Duration = Duration::from_millis(20);
 /// A call that takes longer is timed once.
 const LONG: Duration = Duration::from_millis(400);
 
-/// The median time of one call.
-fn time<T>(mut call: impl FnMut() -> T) -> Duration {
+/// The time of one call among so many.
+fn run<T>(call: &mut impl FnMut() -> T, repeats: u32) -> Duration {
     let start = Instant::now();
-    black_box(call());
-    let once = start.elapsed().max(Duration::from_nanos(50));
-    if once > LONG {
-        return once;
+    for _ in 0..repeats {
+        black_box(call());
     }
-    let repeats = (RUN.as_nanos() / once.as_nanos()).clamp(1, 1_000_000) as u32;
-    let mut runs: Vec<Duration> = (0..RUNS)
-        .map(|_| {
-            let start = Instant::now();
-            for _ in 0..repeats {
-                black_box(call());
-            }
-            start.elapsed() / repeats
-        })
-        .collect();
-    runs.sort_unstable();
-    runs[RUNS / 2]
+    start.elapsed() / repeats
+}
+
+/// The times of one call's runs.
+struct Runs {
+    once: Duration,
+    others: Vec<Duration>,
+}
+
+impl Runs {
+    fn first<T>(call: &mut impl FnMut() -> T) -> Self {
+        Self { once: run(call, 1).max(Duration::from_nanos(50)), others: Vec::new() }
+    }
+
+    fn next<T>(&mut self, call: &mut impl FnMut() -> T) {
+        if self.once <= LONG {
+            let repeats = (RUN.as_nanos() / self.once.as_nanos()).clamp(1, 1_000_000) as u32;
+            self.others.push(run(call, repeats));
+        }
+    }
+
+    fn median(mut self) -> Duration {
+        self.others.sort_unstable();
+        self.others.get(RUNS / 2).copied().unwrap_or(self.once)
+    }
+}
+
+/// The median times of two calls, whose runs take turns.
+fn times<A, B>(mut rust: impl FnMut() -> A, mut port: impl FnMut() -> B) -> (Duration, Duration) {
+    let (mut rusts, mut ports) = (Runs::first(&mut rust), Runs::first(&mut port));
+    for _ in 0..RUNS {
+        rusts.next(&mut rust);
+        ports.next(&mut port);
+    }
+    (rusts.median(), ports.median())
 }
 
 /// A time in three digits.
@@ -106,7 +127,7 @@ fn row<T>(call: &str, case: &str, rust: impl FnMut() -> T, port: Option<impl FnM
         0 => String::new(),
         number => format!(", refused {number}"),
     };
-    let (rust, port) = (time(rust), time(port));
+    let (rust, port) = times(rust, port);
     let ratio = port.as_secs_f64() / rust.as_secs_f64();
     let input: String = case.chars().filter(|c| !c.is_ascii_digit()).collect();
     let growth = growth(format!("{call} {input}"), rust, port);
