@@ -21,7 +21,7 @@ use Rattle.sheets.proofs.Meaning.{read-well}
 use Rattle.emptiness.specs.declared.Pass.{Pass}
 use Rattle.emptiness.specs.declared.Pass.the-variants.{Accepts, Rejects, Undecided}
 use Rattle.emptiness.specs.inner.Marks.{Marked, Unmarked}
-use Rattle.emptiness.specs.inner.Passes.{Met, Tells, accepts, rejects, undecided, PassInvariant, backward}
+use Rattle.emptiness.specs.inner.Passes.{MetStates, PassTells, accepts, rejects, undecided, PassInvariant, backward}
 use Rattle.emptiness.specs.Reachable.{Path, stay, hasReachableAccepting}
 use Rattle.emptiness.proofs.Answers.{no-marks}
 use Rattle.emptiness.proofs.Marks.{mark-here, mark-out, mark-old}
@@ -29,23 +29,23 @@ use Rattle.emptiness.proofs.Search.{path-more, done-rejects, start-insi
 use Rattle.emptiness.proofs.Theorems.{accepting-paths}
 
 -- what a pass tells
-module _ (A : Automaton) (marks : List ℕ) (r : Pass) (t : Tells A marks r) where
+module _ (A : Automaton) (marks : List ℕ) (r : Pass) (t : PassTells A marks r) where
   pub tells-accepts : r ≡ Accepts → true ≡ hasReachableAccepting A
-  tells-accepts e = go (subst (Tells A marks) e t)
+  tells-accepts e = go (subst (PassTells A marks) e t)
     where
-      go : Tells A marks Accepts → true ≡ hasReachableAccepting A
+      go : PassTells A marks Accepts → true ≡ hasReachableAccepting A
       go (accepts h) = sym h
 
   pub tells-rejects : r ≡ Rejects → false ≡ hasReachableAccepting A
-  tells-rejects e = go (subst (Tells A marks) e t)
+  tells-rejects e = go (subst (PassTells A marks) e t)
     where
-      go : Tells A marks Rejects → false ≡ hasReachableAccepting A
+      go : PassTells A marks Rejects → false ≡ hasReachableAccepting A
       go (rejects h) = sym h
 
-  pub tells-met : r ≡ Undecided → Met A marks
-  tells-met e = go (subst (Tells A marks) e t)
+  pub tells-met : r ≡ Undecided → MetStates A marks
+  tells-met e = go (subst (PassTells A marks) e t)
     where
-      go : Tells A marks Undecided → Met A marks
+      go : PassTells A marks Undecided → MetStates A marks
       go (undecided m) = m
 
 pub ruleset tellsLaws = (no-marks, tells-accepts, tells-rejects, length-replicate, needs)
@@ -139,7 +139,7 @@ pass-ends A ok R marks i =
     })
 
 -- a pass begins with all transitions left
-pass-begins : (R : ℕ → ℕ → Type 0) (A : Automaton) (marks : List ℕ) (es : List Transition) → Met A marks → Ascending (λ d e. R (d .from) (e .from)) es
+pass-begins : (R : ℕ → ℕ → Type 0) (A : Automaton) (marks : List ℕ) (es : List Transition) → MetStates A marks → Ascending (λ d e. R (d .from) (e .from)) es
     → ((e : Transition) → e ∈ es → e ∈ A .transitions) → ((e : Transition) → e ∈ A .transitions → e ∈ es) → PassInvariant R A marks es
 pass-begins R A marks es m o f g = record { met = m; ordered = o; among = f; passed = λ e n. inl (g e n); followed = λ e n l. inr (g e n) }
 
@@ -199,10 +199,10 @@ module _ (s : List ℕ) (a : Accepted s) where
   ok : InBounds (read s)
   ok = read-well s a .states
 
-  pub start-accepts : (marks : List ℕ) (w : ℕ) → w ≡ getD (read s .accept) (getD s 1 0) 0 → 0 < w → Tells (read s) marks Accepts
+  pub start-accepts : (marks : List ℕ) (w : ℕ) → w ≡ getD (read s .accept) (getD s 1 0) 0 → 0 < w → PassTells (read s) marks Accepts
   start-accepts marks w e l = accepts (accepting-paths (read s) ok .1 (getD s 1 0, stay, omega (arith, e)))
 
-  pub start-met : (marks : List ℕ) → Unmarked marks → (w : ℕ) → w ≡ getD (read s .accept) (getD s 1 0) 0 → w ≤ 0 → Met (read s) (set marks (getD s 1 0) 1)
+  pub start-met : (marks : List ℕ) → Unmarked marks → (w : ℕ) → w ≡ getD (read s .accept) (getD s 1 0) 0 → w ≤ 0 → MetStates (read s) (set marks (getD s 1 0) 1)
   start-met marks u w e l =
       record {
         wide = length-set marks (getD s 1 0) 1 ∙ u .wide;
@@ -212,7 +212,7 @@ module _ (s : List ℕ) (a : Accepted s) where
       }
 
   -- a record of the sheet
-  module _ (marks : List ℕ) (m : Met (read s) marks) (at : ℕ) (k : recordAt s at ∈ read s .transitions) where
+  module _ (marks : List ℕ) (m : MetStates (read s) marks) (at : ℕ) (k : recordAt s at ∈ read s .transitions) where
     pub from-inside : getD s at 0 < length marks
     from-inside = omega (arith, ok .froms _ k, a .few-states, m .wide)
 
@@ -223,10 +223,10 @@ module _ (s : List ℕ) (a : Accepted s) where
     to-inside = omega (arith, to-state, a .few-states, m .wide)
 
   -- upward
-  pub up-begins : (marks : List ℕ) → Met (read s) marks → PassInvariant Up (read s) marks (readRecords (drop (recordsAt s) s))
+  pub up-begins : (marks : List ℕ) → MetStates (read s) marks → PassInvariant Up (read s) marks (readRecords (drop (recordsAt s) s))
   up-begins marks m = pass-begins Up (read s) marks (read s .transitions) m (rising (read-well s a .ascends)) (λ e n. n) (λ e n. n)
 
-  pub up-ends : (marks : List ℕ) (at : ℕ) → PassInvariant Up (read s) marks (readRecords (drop at s)) → length s - at < 5 → Tells (read s) marks Rejects
+  pub up-ends : (marks : List ℕ) (at : ℕ) → PassInvariant Up (read s) marks (readRecords (drop at s)) → length s - at < 5 → PassTells (read s) marks Rejects
   up-ends marks at i h = rejects (pass-ends (read s) ok Up marks (rw (records-end s at h) at i))
 
   module _ (marks : List ℕ) (at : ℕ) (i : PassInvariant Up (read s) marks (readRecords (drop at s))) (h : 5 ≤ length s - at) where
@@ -243,7 +243,7 @@ module _ (s : List ℕ) (a : Accepted s) where
     up-met = pass-met (read s) ok Up marks (recordAt s at) _ up
 
     module _ (met : getD marks (getD s at 0) 0 ≡ 0 → ⊥) (w : ℕ) (e : w ≡ getD (read s .accept) (getD s (at + 4) 0) 0) where
-      pub up-accepts : 0 < w → Tells (read s) marks Accepts
+      pub up-accepts : 0 < w → PassTells (read s) marks Accepts
       up-accepts l = accepts (pass-accepts (read s) ok Up marks (recordAt s at) _ up met w e l)
 
       pub up-marks : w ≤ 0 → getD s at 0 < getD s (at + 4) 0 → PassInvariant Up (read s) (set marks (getD s (at + 4) 0) 1) (readRecords (drop (at + 5) s))
@@ -252,14 +252,14 @@ module _ (s : List ℕ) (a : Accepted s) where
           (λ (q : getD s at 0 ≡ getD s (at + 4) 0). omega arith)
 
   -- downward
-  pub down-begins : (marks : List ℕ) → Met (read s) marks → PassInvariant Down (read s) marks (backward s (recordsAt s) (recordCount s))
+  pub down-begins : (marks : List ℕ) → MetStates (read s) marks → PassInvariant Down (read s) marks (backward s (recordsAt s) (recordCount s))
   down-begins marks m =
       pass-begins Down (read s) marks (backward s (recordsAt s) (recordCount s)) m
       (back-ordered s (recordsAt s) (recordCount s) (a .whole) (rising (read-well s a .ascends)) (recordCount s) (omega arith))
       (λ e n. let r = back-out s (recordsAt s) (recordCount s) e n in subst (λ (x : Transition). x ∈ read s .transitions) (sym (r .2)) (record-in (recordCount s) s (recordsAt s) (a .whole) (r .0) (r .1)))
       (λ e n. let r = record-out (recordCount s) s (recordsAt s) (a .whole) e n in subst (λ (x : Transition). x ∈ backward s (recordsAt s) (recordCount s)) (sym (r .2)) (back-in s (recordsAt s) (recordCount s) (r .0) (r .1)))
 
-  pub down-ends : (marks : List ℕ) (left : ℕ) → PassInvariant Down (read s) marks (backward s (recordsAt s) left) → left ≤ 0 → Tells (read s) marks Rejects
+  pub down-ends : (marks : List ℕ) (left : ℕ) → PassInvariant Down (read s) marks (backward s (recordsAt s) left) → left ≤ 0 → PassTells (read s) marks Rejects
   unfolding backward
   down-ends marks left i h =
       let z : left ≡ 0 = omega arith in rejects (pass-ends (read s) ok Down marks (subst (λ (k : ℕ). PassInvariant Down (read s) marks (backward s (recordsAt s) k)) z i))
@@ -282,7 +282,7 @@ module _ (s : List ℕ) (a : Accepted s) where
     down-met = pass-met (read s) ok Down marks (recordAt s at) _ down
 
     module _ (met : getD marks (getD s at 0) 0 ≡ 0 → ⊥) (w : ℕ) (e : w ≡ getD (read s .accept) (getD s (at + 4) 0) 0) where
-      pub down-accepts : 0 < w → Tells (read s) marks Accepts
+      pub down-accepts : 0 < w → PassTells (read s) marks Accepts
       down-accepts l = accepts (pass-accepts (read s) ok Down marks (recordAt s at) _ down met w e l)
 
       pub down-marks : w ≤ 0 → getD s (at + 4) 0 < getD s at 0 → PassInvariant Down (read s) (set marks (getD s (at + 4) 0) 1) (backward s (recordsAt s) (left - 1))

@@ -9,7 +9,7 @@ ghost use Rattle.refusal.specs.Decision.{decisionOf};
 ghost use Rattle.sheets.specs.inner.Accepted.{Accepted};
 ghost use Rattle.sheets.specs.Sheet.{read};
 ghost use Rattle.sheets.specs.inner.Runs.{Named};
-ghost use Rattle.emptiness.specs.inner.Passes.{Met, Tells};
+ghost use Rattle.emptiness.specs.inner.Passes.{MetStates, PassTells};
 ghost use Rattle.emptiness.specs.inner.Marks.{Unmarked, Skipped, StackRoom, Pushed, UnmarkedSearch};
 ghost use Rattle.emptiness.specs.Reachable.{hasReachableAccepting, reachableAnswer};
 use refusal::Decision;
@@ -28,8 +28,8 @@ const MOST_IDLE: usize = 64;
 // Follows the transitions that lead upward from the states that were met, in one pass over the records of an accepted sheet. It ends undecided at a
 // transition that leads down to a state that was not met, and where it has read too many records in vain.
 fn pass_up(s: &[u32], marks: &mut [u8]) -> Pass
-    requires { ⌜ Accepted (now s) × Met (read (now s)) (now marks) ⌝ }
-    ensures { λ r. ⌜ Tells (read (now (s .entry))) (now (marks .exit)) r ⌝ }
+    requires { ⌜ Accepted (now s) × MetStates (read (now s)) (now marks) ⌝ }
+    ensures { λ r. ⌜ PassTells (read (now (s .entry))) (now (marks .exit)) r ⌝ }
 {
     let mut idle: usize = 0;
     let mut at = s[2] as usize + 4;
@@ -60,8 +60,8 @@ fn pass_up(s: &[u32], marks: &mut [u8]) -> Pass
 
 // The same downward, from the last record back to the first.
 fn pass_down(s: &[u32], marks: &mut [u8]) -> Pass
-    requires { ⌜ Accepted (now s) × Met (read (now s)) (now marks) ⌝ }
-    ensures { λ r. ⌜ Tells (read (now (s .entry))) (now (marks .exit)) r ⌝ }
+    requires { ⌜ Accepted (now s) × MetStates (read (now s)) (now marks) ⌝ }
+    ensures { λ r. ⌜ PassTells (read (now (s .entry))) (now (marks .exit)) r ⌝ }
 {
     let n = s[2] as usize;
     let mut idle: usize = 0;
@@ -94,7 +94,7 @@ fn pass_down(s: &[u32], marks: &mut [u8]) -> Pass
 // What a pass upward tells, or else one downward.
 fn decide_by_passes(s: &[u32], marks: &mut [u8]) -> Pass
     requires { ⌜ Accepted (now s) × Unmarked (now marks) ⌝ }
-    ensures { λ r. ⌜ Tells (read (now (s .entry))) (now (marks .exit)) r ⌝ }
+    ensures { λ r. ⌜ PassTells (read (now (s .entry))) (now (marks .exit)) r ⌝ }
 {
     let start = s[1];
     if 0 < sheets::accept_word(s, start) {
