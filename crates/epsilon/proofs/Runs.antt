@@ -56,7 +56,7 @@ module _ (A : Automaton) (ok : InBounds A) where
   run-back : {p q : ℕ} {w : List ℕ} → p < A .size → Run (eliminated A) p w q → Run A p w q
   run-back l stay = stay
   run-back l (skip e m f k r) = let z = only-ranges e m in absurd (omega arith)
-  run-back {p} {q} l (read {w = v} e m f k lo hi r) =
+  run-back {p} {q} l (read {w = v} e m f k above below r) =
       let c = eliminated-out A e m .1 in
       let d = c .source in
       let i : e ≡ leavingFrom (e .from) d = c .is in
@@ -80,21 +80,21 @@ module _ (A : Automaton) (ok : InBounds A) where
       go : {q : ℕ} {v : List ℕ} → Run (eliminated A) m v q → has r (closure A q) ≡ true → Reads p v r
       go stay h = record { state = p; run = stay; closed = closure-complete A ok l (join e (closure-sound A ok m r b h)) }
       go (skip d i f k t) h = let z = only-ranges d i in absurd (omega arith)
-      go (read d i f k lo hi t) h =
+      go (read d i f k above below t) h =
           let c = eliminated-out A d i .1 in
           let n : has (c .source .from) (closure A m) ≡ true = subst (λ (x : ℕ). has (c .source .from) (closure A x) ≡ true) f (c .closed) in
           let o = closure-complete A ok l (join e (closure-sound A ok m (c .source .from) b n)) in
           let j : leavingFrom p d ∈ eliminated A .transitions =
           subst (λ (x : Transition). leavingFrom p x ∈ eliminated A .transitions) (sym (c .is)) (eliminated-in A p (c .source) l (c .in) (c .is-range) o) in
-          record { state = _; run = read (leavingFrom p d) j refl k lo hi t; closed = h }
+          record { state = _; run = read (leavingFrom p d) j refl k above below t; closed = h }
 
   run-forth : {p r : ℕ} {w : List ℕ} → p < A .size → Run A p w r → Reads p w r
   run-forth {p} l stay = record { state = p; run = stay; closed = closure-complete A ok l stay }
   run-forth l (skip e m f k r) = let t = ok .tos e m in before l t (skip e m f k stay) (run-forth t r)
-  run-forth {p} l (read e m f k lo hi r) =
+  run-forth {p} l (read e m f k above below r) =
       let s = run-forth (ok .tos e m) r in
       let h : has (e .from) (closure A p) ≡ true = subst (λ (x : ℕ). has x (closure A p) ≡ true) (sym f) (closure-complete A ok l stay) in
-      record { state = s .state; run = read (leavingFrom p e) (eliminated-in A p e l m k h) refl k lo hi (s .run); closed = s .closed }
+      record { state = s .state; run = read (leavingFrom p e) (eliminated-in A p e l m k h) refl k above below (s .run); closed = s .closed }
 
   -- the state at a run's end
   end-kept : {q : ℕ} {w : List ℕ} → Run (eliminated A) (eliminated A .start) w q → q < A .size
