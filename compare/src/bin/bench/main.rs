@@ -4,8 +4,8 @@
 //! sheet and writes one. An operation of the original that takes its automata by value is given
 //! clones, and the cloning counts. Both are compiled optimised.
 //!
-//! `bench` prints all tables, `bench small`, `bench calls`, `bench growth`, `bench worst` and `bench stack` one of them, and `bench order` a
-//! table of its own; a second word leaves only the rows whose call or input has it.
+//! `bench` prints all tables, `bench small`, `bench calls`, `bench growth`, `bench worst` and `bench stack` one of them; a second word
+//! leaves only the rows whose call or input has it.
 
 mod calls;
 mod growth;
@@ -180,10 +180,6 @@ fn main() {
     if asked("worst") {
         head("Worst cases");
         worst::all();
-    }
-    if only.as_deref() == Some("order") {
-        head("A search in no order");
-        worst::order();
     }
     if asked("stack") {
         stacks();

@@ -97,11 +97,6 @@ fn products() {
     }
 }
 
-/// A search that the records' order does not help.
-pub fn order() {
-    reachable(", in no order", hostile::in_no_order);
-}
-
 fn reachable(case: &str, ring: fn(usize) -> Sheet) {
     for n in doubling(2048) {
         let case = format!("{n} records of 256 states{case}");
@@ -116,6 +111,7 @@ fn others() {
     }
     reachable("", hostile::around);
     reachable(", downward", hostile::downward);
+    reachable(", in no order", hostile::in_no_order);
     for n in doubling(256) {
         let (a, b) = hostile::many_targets(n);
         calls::equivalence(&format!("{n} states, 7 triggers, 1 with {n} targets each"), &a, &b);
