@@ -52,7 +52,7 @@ bad-not n e h =
       sound = record { known = ltb-false _ _ (d .0); full = ltb-false _ _ (b .1); blank = blank };
     }
 
-good-not : (n : ℕ) (e : Transition) → ProperRecord n e → isBad n e ≡ false
+pub good-not : (n : ℕ) (e : Transition) → ProperRecord n e → isBad n e ≡ false
 unfolding isBad
 good-not n e g =
     rw (le-ltb 1 (e .kind) (g .sound .known), lt-leb n (e .from) (g .from-in), lt-leb n (e .to) (g .to-in), le-ltb (e .last) (e .first) (g .sound .full))

@@ -7,10 +7,10 @@ use mathlib.Core.Path.{_≡_, refl, sym, ap, ap₂, _∙_}
 use native.Mathlib.Nat.{eq-or-lt-of-le}
 use native.Mathlib.Omega.{arith}
 use borrow.Author.Needs.{needs}
-use borrow.Author.Tests.{lt-ltb, eq-eqb, eqb-true, eqb-false, not-false}
+use borrow.Author.Tests.{lt-ltb, le-ltb, ltb-false, lt-leb, le-leb, leb-false, eq-eqb, eqb-true, eqb-false, not-false}
 use mir.Syntax.{w32}
 use mir.Val.{Fits}
-use lib.Dec.{ltb, eqb}
+use lib.Dec.{ltb, leb, eqb}
 use lib.ListN.{length, getD, take, drop}
 use Rattle.lists.proofs.Tests.{test, and-both, or-left, or-right, cond-no}
 use Rattle.automata.specs.Automaton.{Transition}
@@ -19,9 +19,9 @@ use Rattle.automata.specs.Records.{wordsOf, readRecords}
 use Rattle.automata.specs.inner.Records.{recordAt}
 use Rattle.automata.proofs.Records.{records-at, part-record}
 use Rattle.sheets.specs.Fault.{isBad, recordFault, recordsFault, orElse}
-use Rattle.sheets.specs.inner.Passed.{Keyed, faultBehind, Passed}
+use Rattle.sheets.specs.inner.Passed.{Keyed, faultBehind, Passed, PassedBelow, rangeKey}
 use Rattle.sheets.proofs.Checking.{five-words, part-words, in-order}
-use Rattle.sheets.proofs.Meaning.{bad-not}
+use Rattle.sheets.proofs.Meaning.{bad-not, good-not}
 
 -- of two records that break no rule the one of the lesser key comes first
 module _ (n : ℕ) (p a : Transition) (good : isBad n p ≡ false) (fine : isBad n a ≡ false) (u : a .first < 4294967296) where
@@ -70,6 +70,12 @@ module _ (n before : ℕ) (a r : List ℕ) (k : Keyed n before a) (long : length
 pub ruleset passesLaws = (passes-bad, passes-key, passes-order, needs)
 
 -- one record more
+behind-next : (n : ℕ) (t : List ℕ) (prev : ℕ) → 10 ≤ length t - prev → recordFault n (wordsOf (recordAt t prev)) (recordAt t (prev + 5)) ≡ 0 → faultBehind n t prev ≡ faultBehind n t (prev + 5)
+unfolding faultBehind recordsFault
+behind-next n t prev h none =
+    ap (recordsFault n (wordsOf (recordAt t prev))) (records-at t (prev + 5) (omega arith))
+    ∙ ap (λ (x : ℕ). orElse x (recordsFault n (wordsOf (recordAt t (prev + 5))) (readRecords (drop (prev + 5 + 5) t)))) none
+
 module _ (n : ℕ) (t : List ℕ) (from : ℕ) where
   pub pass-begins : 5 ≤ length t - from → Passed n t from from
   pass-begins h = record { further = omega arith; within = h; same = refl }
@@ -96,13 +102,87 @@ module _ (n : ℕ) (t : List ℕ) (from : ℕ) where
       pass-good = cond-no (isBad n (recordAt t (prev + 5))) 4 _ none .0
 
       pub pass-next : Passed n t from (prev + 5)
-      unfolding faultBehind recordsFault
-      pass-next =
-          record {
-            further = omega (arith, p .further);
-            within = omega arith;
-            same = p .same ∙ ap (recordsFault n (wordsOf (recordAt t prev))) (records-at t (prev + 5) (omega arith))
-                ∙ ap (λ (x : ℕ). orElse x (recordsFault n (wordsOf (recordAt t (prev + 5))) (readRecords (drop (prev + 5 + 5) t)))) none;
-          }
+      pass-next = record { further = omega (arith, p .further); within = omega arith; same = p .same ∙ behind-next n t prev h none }
+
+      pub pass-below : PassedBelow n t from (prev + 5)
+      pass-below = record { further = pass-next .further; within = pass-next .within; good = λ l. pass-good; same = λ l. pass-next .same }
 
 pub ruleset passLaws = (pass-begins, pass-keyed, pass-long, pass-good, pass-next, needs)
+
+-- the key of a range, from the tests that it passes
+module _ (n before f k x y z : ℕ) (kind : k ≡ 1) (full : x ≤ y) (inside : z < n) (key : ℕ) (e : key ≡ f * 4294967296 + x) where
+  pub range-not : key ≤ before → 0 ≡ rangeKey n before (record { from = f; kind = k; first = x; last = y; to = z })
+  unfolding rangeKey
+  range-not l = rw (eq-eqb k 1 kind, le-ltb y x full, lt-leb n z inside, ← e, le-leb key before l)
+
+  pub range-is : before < key → key ≡ rangeKey n before (record { from = f; kind = k; first = x; last = y; to = z })
+  unfolding rangeKey
+  range-is l = rw (eq-eqb k 1 kind, le-ltb y x full, lt-leb n z inside, ← e, lt-leb key before l)
+
+-- what it tells, where it is not 0
+some-yes : (b : Bool) (x key : ℕ) → key ≡ cond b x 0 → (key ≡ 0 → ⊥) → (b ≡ true) × (key ≡ x)
+some-yes true x key e z = (refl, e)
+some-yes false x key e z = absurd (z e)
+
+some-no : (b : Bool) (x key : ℕ) → key ≡ cond b 0 x → (key ≡ 0 → ⊥) → (b ≡ false) × (key ≡ x)
+some-no true x key e z = absurd (z e)
+some-no false x key e z = (refl, e)
+
+module _ (n before : ℕ) (a : Transition) (key : ℕ) (e : key ≡ rangeKey n before a) (z : key ≡ 0 → ⊥) where
+  range : (a .kind ≡ 1) × (a .first ≤ a .last) × (a .to < n) × (before < key) × (key ≡ a .from * 4294967296 + a .first)
+  unfolding rangeKey
+  range =
+      let k = some-yes (eqb (a .kind) 1) _ key e z in
+      let f = some-no (ltb (a .last) (a .first)) _ key (k .1) z in
+      let o = some-no (leb n (a .to)) _ key (f .1) z in
+      let l = some-no (leb (a .from * 4294967296 + a .first) before) _ key (o .1) z in
+      let b = leb-false (a .from * 4294967296 + a .first) before (l .0) in
+      (eqb-true (a .kind) 1 (k .0), ltb-false (a .last) (a .first) (f .0), leb-false n (a .to) (o .0), omega (arith, l .1), l .1)
+
+  range-good : a .from < n → isBad n a ≡ false
+  range-good l =
+      good-not n a
+      record {
+        from-in = l;
+        to-in = range .2;
+        sound = record { known = omega (arith, range .0); full = range .1; blank = λ c. absurd (omega (arith, range .0)) };
+      }
+
+-- records that pass if the last of them leaves a state below n
+module _ (n : ℕ) (t : List ℕ) (from : ℕ) where
+  pub below-begins : 5 ≤ length t - from → isBad n (recordAt t from) ≡ false → PassedBelow n t from from
+  below-begins h g = record { further = omega arith; within = h; good = λ l. g; same = λ l. refl }
+
+  module _ (prev : ℕ) (p : PassedBelow n t from prev) where
+    pub below-passed : getD t prev 0 < n → Passed n t from prev
+    below-passed l = record { further = p .further; within = p .within; same = p .same l }
+
+    module _ (h : 10 ≤ length t - prev) (u : (i : ℕ) → Fits w32 (getD t i 0)) (before : ℕ) (i : before ≡ getD t prev 0 * 4294967296 + getD t (prev + 2) 0)
+        (key : ℕ) (e : key ≡ rangeKey n before (recordAt t (prev + 5))) (z : key ≡ 0 → ⊥) where
+      is-key : key ≡ getD t (prev + 5) 0 * 4294967296 + getD t (prev + 5 + 2) 0
+      is-key = range n before (recordAt t (prev + 5)) key e z .4
+
+      -- the state that the record before leaves is not above
+      lower : getD t (prev + 5) 0 < n → getD t prev 0 < n
+      lower l = omega (arith, i, is-key, range n before (recordAt t (prev + 5)) key e z .3, u (prev + 5 + 2))
+
+      good : getD t (prev + 5) 0 < n → isBad n (recordAt t (prev + 5)) ≡ false
+      good = range-good n before (recordAt t (prev + 5)) key e z
+
+      nothing : getD t (prev + 5) 0 < n → recordFault n (wordsOf (recordAt t prev)) (recordAt t (prev + 5)) ≡ 0
+      unfolding recordFault
+      nothing l =
+          rw (good l, key-less n (recordAt t prev) (recordAt t (prev + 5)) (p .good (lower l)) (good l) (omega (arith, u (prev + 5 + 2))) (omega (arith, i, is-key, range n before (recordAt t (prev + 5)) key e z .3)))
+
+      pub below-range : (key ≡ getD t (prev + 5) 0 * 4294967296 + getD t (prev + 5 + 2) 0) × PassedBelow n t from (prev + 5)
+      below-range = (
+        is-key,
+        record {
+          further = omega (arith, p .further);
+          within = omega arith;
+          good = good;
+          same = λ l. p .same (lower l) ∙ behind-next n t prev h (nothing l);
+        },
+      )
+
+pub ruleset belowLaws = (below-begins, below-passed, needs)

@@ -9,7 +9,7 @@ ghost use Rattle.automata.specs.Ordered.{less};
 ghost use Rattle.automata.specs.Records.{readRecords};
 ghost use Rattle.automata.specs.inner.Records.{recordAt};
 ghost use Rattle.sheets.specs.inner.Accepted.{Accepted};
-ghost use Rattle.sheets.specs.inner.Passed.{Keyed, Passed};
+ghost use Rattle.sheets.specs.inner.Passed.{Keyed, Passed, PassedBelow, rangeKey};
 ghost use Rattle.sheets.specs.Fault.{fault, statesFault, transitionsFault, recordsFault, recordFault, isBad, acceptWords};
 ghost use Rattle.sheets.specs.Checked.{checkedNumber};
 use refusal::InputRefusal;
@@ -130,8 +130,56 @@ fn passes(n: u32, before: u64, a: &[u32], b: &[u32]) -> bool
     is_less(a, b)
 }
 
+// The key of the record at `at` if it is a range that breaks no rule, except that it may leave no state of the sheet, and if its key is greater than `before`;
+// or else 0.
+fn range_key(n: u32, before: u64, t: &[u32], at: usize) -> u64
+    requires { ⌜ 5 ≤ length (now t) - at ⌝ }
+    ensures { λ r. ⌜ r ≡ rangeKey n before (recordAt (now (t .entry)) at) ⌝ }
+{
+    if t[at + 1] != 1 {
+        return 0;
+    }
+    if t[at + 3] < t[at + 2] {
+        return 0;
+    }
+    if n <= t[at + 4] {
+        return 0;
+    }
+    let key = order_key(t[at], t[at + 2]);
+    if key <= before {
+        return 0;
+    }
+    key
+}
+
+// The place of a record up to which all behind the one at `from` pass, if it leaves a state below n: states ascend with the keys of ranges, so that the state
+// that the last record leaves tells of all before it.
+fn pass_ascending(n: u32, t: &[u32], from: usize) -> usize
+    requires { ⌜ (5 ≤ length (now t) - from) × (isBad n (recordAt (now t) from) ≡ false) ⌝ }
+    ensures { λ r. ⌜ PassedBelow n (now (t .entry)) from r ⌝ }
+{
+    let mut prev = from;
+    let mut before = order_key(t[from], t[from + 2]);
+    while 10 <= t.len() - prev {
+        let at = prev + 5;
+        let mut key = range_key(n, before, t, at);
+        if key == 0 {
+            if n <= t[prev] {
+                return prev;
+            }
+            if !passes(n, before, &t[prev..prev + 5], &t[at..at + 5]) {
+                return prev;
+            }
+            key = order_key(t[at], t[at + 2]);
+        }
+        before = key;
+        prev = at;
+    }
+    prev
+}
+
 // The place of the last record that passes, from the one at `from` on, which breaks no rule.
-fn pass_records(n: u32, t: &[u32], from: usize) -> usize
+fn pass_each(n: u32, t: &[u32], from: usize) -> usize
     requires { ⌜ (5 ≤ length (now t) - from) × (isBad n (recordAt (now t) from) ≡ false) ⌝ }
     ensures { λ r. ⌜ Passed n (now (t .entry)) from r ⌝ }
 {
@@ -146,6 +194,19 @@ fn pass_records(n: u32, t: &[u32], from: usize) -> usize
         prev = at;
     }
     prev
+}
+
+// The place of the last record that passes, from the one at `from` on, which breaks no rule. Only where a record leaves no state of the sheet each is asked for
+// its state.
+fn pass_records(n: u32, t: &[u32], from: usize) -> usize
+    requires { ⌜ (5 ≤ length (now t) - from) × (isBad n (recordAt (now t) from) ≡ false) ⌝ }
+    ensures { λ r. ⌜ Passed n (now (t .entry)) from r ⌝ }
+{
+    let far = pass_ascending(n, t, from);
+    if t[far] < n {
+        return far;
+    }
+    pass_each(n, t, from)
 }
 
 // The first fault of the records.
