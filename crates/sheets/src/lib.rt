@@ -1,4 +1,5 @@
-// The sheet: an automaton as a list of words. The check reads each word once; `reading` reads accepted sheets.
+// The sheet: an automaton as a list of words. The check goes through the words once, and through the records twice where one of them leaves a state that the
+// sheet does not have; `reading` reads accepted sheets.
 ghost use mathlib.Core.Path.{_≡_};
 ghost use mathlib.Core.Bool.{false};
 ghost use mathlib.Core.List.{[]};
