@@ -145,6 +145,18 @@ pub fn in_no_order(records: usize) -> Sheet {
     ring(records, &std::iter::once(0).chain(others).collect::<Vec<_>>())
 }
 
+/// A ring in no order of all states but the one that accepts, which no record leads to.
+pub fn unreached(records: usize) -> Sheet {
+    let mut ring = in_no_order(records);
+    let last = ring.accept.iter().position(|&word| word == 1).unwrap_or_default() as u32;
+    for record in &mut ring.records {
+        if record[4] == last {
+            record[4] = ring.start;
+        }
+    }
+    ring
+}
+
 /// Two sheets of 256 states with `records` records each, where no record of the one covers one of the other.
 pub fn uncovered(records: usize) -> (Sheet, Sheet) {
     let (n, each) = (records as u32, (records / 256) as u32);

@@ -112,6 +112,7 @@ fn others() {
     reachable("", hostile::around);
     reachable(", downward", hostile::downward);
     reachable(", in no order", hostile::in_no_order);
+    reachable(", in no order, none accepts", hostile::unreached);
     for n in doubling(256) {
         let (a, b) = hostile::many_targets(n);
         calls::equivalence(&format!("{n} states, 7 triggers, 1 with {n} targets each"), &a, &b);
