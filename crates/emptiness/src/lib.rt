@@ -23,7 +23,7 @@ pub enum Pass {
 }
 
 // How many records between states that were not met a pass reads.
-const MOST_IDLE: usize = 64;
+const MOST_IDLE: usize = 8;
 
 // Follows the transitions that lead upward from the states that were met, in one pass over the records of an accepted sheet. It ends undecided at a
 // transition that leads down to a state that was not met, and where it has read too many records in vain.

@@ -9,7 +9,7 @@ use Rattle.emptiness.proofs.pass_down.Statement.{statement}
 use Rattle.emptiness.proofs.pass_down.Tie as tie
 
 abbrev Inv-loop : tie.InvT-loop
-Inv-loop s marks₀ n idle₀ left₀ marks idle left = (idle ≤ 64) × (left ≤ recordCount s) × PassInvariant Down (read s) marks (backward s (recordsAt s) left)
+Inv-loop s marks₀ n idle₀ left₀ marks idle left = (idle ≤ 8) × (left ≤ recordCount s) × PassInvariant Down (read s) marks (backward s (recordsAt s) left)
 
 abbrev μ-loop : tie.MeasureT-loop
 μ-loop s marks₀ n idle₀ left₀ marks idle left = left

@@ -10,7 +10,7 @@ use Rattle.emptiness.proofs.pass_up.Statement.{statement}
 use Rattle.emptiness.proofs.pass_up.Tie as tie
 
 abbrev Inv-loop : tie.InvT-loop
-Inv-loop s marks₀ idle₀ at₀ marks idle at = (idle ≤ 64) × (at ≤ length s) × PassInvariant Up (read s) marks (readRecords (drop at s))
+Inv-loop s marks₀ idle₀ at₀ marks idle at = (idle ≤ 8) × (at ≤ length s) × PassInvariant Up (read s) marks (readRecords (drop at s))
 
 abbrev μ-loop : tie.MeasureT-loop
 μ-loop s marks₀ idle₀ at₀ marks idle at = length s - at
