@@ -8,6 +8,7 @@ use native.Mathlib.Nat.{eq-or-lt-of-le}
 use native.Mathlib.Omega.{arith}
 use borrow.Author.Needs.{needs}
 use borrow.Author.Tests.{eq-eqb, eqb-true, eqb-false}
+use lib.Bits.{bitAnd, and-le-l, and-le-r}
 use lib.Dec.{eqb}
 use lib.ListN.{length, getD, drop, set, length-set}
 use lib.Seq.{getD-set-same, getD-set-other}
@@ -19,7 +20,7 @@ use Rattle.automata.specs.inner.Records.{recordAt}
 use Rattle.automata.proofs.Records.{records-at, records-end}
 use Rattle.sheets.specs.inner.Runs.{Named}
 use Rattle.sheets.proofs.Named.{named-target, named-next}
-use Rattle.emptiness.specs.inner.Marks.{Marked, unmet, Skipped, StackRoom, Pushed}
+use Rattle.emptiness.specs.inner.Marks.{Marked, unmet, Skipped, StackRoom, PushedState, was-met, was-unmet, Pushed}
 
 -- one mark more
 module _ (marks : List ℕ) (t : ℕ) (l : t < length marks) where
@@ -71,6 +72,20 @@ module _ (run marks : List ℕ) (at : ℕ) (p : Passed run marks at) where
 
 pub ruleset skipLaws = (skip-begins, skip-ended, skip-found, skip-next, named-target, named-next, needs)
 
+-- a state that may be put on the stack
+module _ (marks stack : List ℕ) (top t : ℕ) (u : t < 256) (r : StackRoom marks stack top) where
+  state-inside : t < length marks
+  state-inside = omega (arith, r .wide)
+
+  module _ (z : getD marks t 0 ≡ 0) where
+    state-fewer : suc (unmet (set marks t 1)) ≡ unmet marks
+    state-fewer = unmet-less marks t state-inside z
+
+    pub state-place : top < length stack
+    state-place = omega (arith, r .enough, r .long, state-fewer)
+
+pub ruleset stateLaws = (was-met, was-unmet, state-place, needs)
+
 -- one transition of those that are still to be followed
 module _ (marks stack : List ℕ) (top : ℕ) (es : List Transition) (d : Transition) (ds : List Transition) (m s : List ℕ) (e : ℕ)
     (p : Pushed marks stack top es (d ∷ ds) m s e) where
@@ -95,13 +110,13 @@ module _ (marks stack : List ℕ) (top : ℕ) (es : List Transition) (d : Transi
 
   module _ (u : d .to < 256) (z : getD m (d .to) 0 ≡ 0) where
     inside : d .to < length m
-    inside = omega (arith, p .room .wide)
+    inside = state-inside m s e (d .to) u (p .room)
 
     fewer : suc (unmet (set m (d .to) 1)) ≡ unmet m
-    fewer = unmet-less m (d .to) inside z
+    fewer = state-fewer m s e (d .to) u (p .room) z
 
     place : e < length s
-    place = omega (arith, p .room .enough, p .room .long, fewer)
+    place = state-place m s e (d .to) u (p .room) z
 
     same : (j : ℕ) → j < e → getD (set s e (d .to)) j 0 ≡ getD s j 0
     same j h = getD-set-other s e j (d .to) 0 (omega arith)
@@ -156,26 +171,65 @@ push-begins marks stack run top r =
       entered = λ j a b. absurd (omega arith);
     }
 
-module _ (marks stack run : List ℕ) (top at : ℕ) (m s : List ℕ) (e : ℕ) (p : Pushed marks stack top (readRecords run) (readRecords (drop at run)) m s e) where
-  pub push-ended : length run - at < 5 → Pushed marks stack top (readRecords run) [] m s e
-  push-ended h = subst (λ (ds : List Transition). Pushed marks stack top (readRecords run) ds m s e) (records-end run at h) p
+module _ (marks stack run : List ℕ) (top : ℕ) where
+  pub push-ended : (at : ℕ) (m s : List ℕ) (e : ℕ) → Pushed marks stack top (readRecords run) (readRecords (drop at run)) m s e → length run - at < 5
+      → Pushed marks stack top (readRecords run) [] m s e
+  push-ended at m s e p h = subst (λ (ds : List Transition). Pushed marks stack top (readRecords run) ds m s e) (records-end run at h) p
 
-  module _ (h : 5 ≤ length run - at) where
+  module _ (at : ℕ) (m s : List ℕ) (e : ℕ) (p : Pushed marks stack top (readRecords run) (readRecords (drop at run)) m s e)
+      (n : Named (readRecords (drop at run))) (h : 5 ≤ length run - at) where
     here : Pushed marks stack top (readRecords run) (recordAt run at ∷ readRecords (drop (at + 5) run)) m s e
     here = subst (λ (ds : List Transition). Pushed marks stack top (readRecords run) ds m s e) (records-at run at h) p
 
-    pub push-met : (getD m (getD run (at + 4) 0) 0 ≡ 0 → ⊥) → Pushed marks stack top (readRecords run) (readRecords (drop (at + 5) run)) m s e
-    push-met z = pushed-met marks stack top (readRecords run) (recordAt run at) _ m s e here (omega (arith, z))
+    push-next : (m′ s′ : List ℕ) (e′ : ℕ) → PushedState m s e (getD run (at + 4) 0) m′ s′ e′
+        → Pushed marks stack top (readRecords run) (readRecords (drop (at + 5) run)) m′ s′ e′
+    push-next _ _ _ (was-met z) = pushed-met marks stack top (readRecords run) (recordAt run at) _ m s e here (omega (arith, z))
+    push-next _ _ _ (was-unmet z) = pushed-new marks stack top (readRecords run) (recordAt run at) _ m s e here (named-target run at n h) z
 
-    module _ (n : Named (readRecords (drop at run))) where
-      pub push-inside : getD run (at + 4) 0 < length m
-      push-inside = omega (arith, p .room .wide, named-target run at n h)
+    pub push-last : length run - at < 10 → (m′ s′ : List ℕ) (e′ : ℕ) → PushedState m s e (getD run (at + 4) 0) m′ s′ e′
+        → Pushed marks stack top (readRecords run) [] m′ s′ e′
+    push-last l m′ s′ e′ a = push-ended (at + 5) m′ s′ e′ (push-next m′ s′ e′ a) (omega arith)
 
-      pub push-place : getD m (getD run (at + 4) 0) 0 ≡ 0 → e < length s
-      push-place z = place marks stack top (readRecords run) (recordAt run at) _ m s e here (named-target run at n h) z
+-- two records of the run
+module _ (run : List ℕ) (at : ℕ) (n : Named (readRecords (drop at run))) (h : 10 ≤ length run - at) where
+  nine : at + 5 + 4 ≡ at + 9
+  nine = omega arith
 
-      pub push-new : getD m (getD run (at + 4) 0) 0 ≡ 0
-          → Pushed marks stack top (readRecords run) (readRecords (drop (at + 5) run)) (set m (getD run (at + 4) 0) 1) (set s e (getD run (at + 4) 0)) (e + 1)
-      push-new z = pushed-new marks stack top (readRecords run) (recordAt run at) _ m s e here (named-target run at n h) z
+  ten : at + 5 + 5 ≡ at + 10
+  ten = omega arith
 
-pub ruleset pushLaws = (push-begins, push-ended, push-met, push-inside, push-place, push-new, named-next, needs)
+  pub named-first-target : getD run (at + 4) 0 < 256
+  named-first-target = named-target run at n (omega arith)
+
+  named-second : Named (readRecords (drop (at + 5) run))
+  named-second = named-next run at n (omega arith)
+
+  pub named-second-target : getD run (at + 9) 0 < 256
+  named-second-target = rw nine at (named-target run (at + 5) named-second (omega arith))
+
+  pub named-two : Named (readRecords (drop (at + 10) run))
+  named-two = rw ten at (named-next run (at + 5) named-second (omega arith))
+
+  module _ (marks stack : List ℕ) (top : ℕ) (m s : List ℕ) (e : ℕ) (p : Pushed marks stack top (readRecords run) (readRecords (drop at run)) m s e) where
+    module _ (m′ s′ : List ℕ) (e′ : ℕ) (a : PushedState m s e (getD run (at + 4) 0) m′ s′ e′) where
+      first : Pushed marks stack top (readRecords run) (readRecords (drop (at + 5) run)) m′ s′ e′
+      first = push-next marks stack run top at m s e p n (omega arith) m′ s′ e′ a
+
+      pub push-second-room : StackRoom m′ s′ e′
+      push-second-room = first .room
+
+      pub push-two : (m″ s″ : List ℕ) (e″ : ℕ) → PushedState m′ s′ e′ (getD run (at + 9) 0) m″ s″ e″
+          → Pushed marks stack top (readRecords run) (readRecords (drop (at + 10) run)) m″ s″ e″
+      push-two m″ s″ e″ b = rw ten at (push-next marks stack run top (at + 5) m′ s′ e′ first named-second (omega arith) m″ s″ e″ (rw nine b))
+
+    pub push-none : (bitAnd (getD m (getD run (at + 4) 0) 0) (getD m (getD run (at + 9) 0) 0) ≡ 0 → ⊥)
+        → Pushed marks stack top (readRecords run) (readRecords (drop (at + 10) run)) m s e
+    push-none z = push-two m s e (was-met (λ o. z (omega (arith, and-le-l x y)))) m s e (was-met (λ o. z (omega (arith, and-le-r x y))))
+      where
+        x : ℕ
+        x = getD m (getD run (at + 4) 0) 0
+
+        y : ℕ
+        y = getD m (getD run (at + 9) 0) 0
+
+pub ruleset pushLaws = (push-begins, push-ended, push-last, push-second-room, push-none, named-target, named-first-target, named-second-target, named-two, needs)

@@ -1,6 +1,7 @@
 // Emptiness: whether a state that accepts is reached from the start. The records ascend by the states that they leave, so one pass over them follows all
 // transitions that lead upward, and one from the last back to the first all that lead downward. Where neither pass decides, a search does: it marks each
 // state that it meets, follows its transitions once, and ends at the first state that accepts.
+ghost use Prim.Native.Nat.{_<_};
 ghost use mathlib.Core.List.{[]};
 ghost use mathlib.Core.Path.{_≡_};
 ghost use lib.ListN.{length};
@@ -10,7 +11,7 @@ ghost use Rattle.sheets.specs.inner.Accepted.{Accepted};
 ghost use Rattle.sheets.specs.Sheet.{read};
 ghost use Rattle.sheets.specs.inner.Runs.{Named};
 ghost use Rattle.emptiness.specs.inner.Passes.{MetStates, PassTells};
-ghost use Rattle.emptiness.specs.inner.Marks.{Unmarked, Skipped, StackRoom, Pushed, UnmarkedSearch};
+ghost use Rattle.emptiness.specs.inner.Marks.{Unmarked, Skipped, StackRoom, PushedState, Pushed, UnmarkedSearch};
 ghost use Rattle.emptiness.specs.Reachable.{hasReachableAccepting, reachableAnswer};
 use refusal::Decision;
 use sheets::Checked;
@@ -123,22 +124,39 @@ fn first_unmet(run: &[u32], marks: &[u8]) -> usize
     at
 }
 
-// The targets of the run that were not met are marked and put on the stack. The answer is the stack's end.
+// The state t is marked and put on the stack if it was not met. The answer is the stack's end.
+fn push_state(t: u32, marks: &mut [u8], stack: &mut [u32], top: usize) -> usize
+    requires { ⌜ (t < 256) × StackRoom (now marks) (now stack) top ⌝ }
+    ensures { λ e. ⌜ PushedState (now (marks .entry)) (now (stack .entry)) top t (now (marks .exit)) (now (stack .exit)) e ⌝ }
+{
+    let k = t as usize;
+    if marks[k] != 0 {
+        return top;
+    }
+    marks[k] = 1;
+    stack[top] = t;
+    top + 1
+}
+
+// The targets of the run that were not met are marked and put on the stack. The answer is the stack's end. Two records are asked at a time, since most
+// targets were met.
 fn push_unmet(run: &[u32], marks: &mut [u8], stack: &mut [u32], top: usize) -> usize
     requires { ⌜ Named (readRecords (now run)) × StackRoom (now marks) (now stack) top ⌝ }
     ensures { λ e. ⌜ Pushed (now (marks .entry)) (now (stack .entry)) top (readRecords (now (run .entry))) [] (now (marks .exit)) (now (stack .exit)) e ⌝ }
 {
     let mut e = top;
     let mut at: usize = 0;
-    while 5 <= run.len() - at {
+    while 10 <= run.len() - at {
         let t = run[at + 4];
-        let k = t as usize;
-        at += 5;
-        if marks[k] == 0 {
-            marks[k] = 1;
-            stack[e] = t;
-            e += 1;
+        let u = run[at + 9];
+        at += 10;
+        if marks[t as usize] & marks[u as usize] == 0 {
+            e = push_state(t, marks, stack, e);
+            e = push_state(u, marks, stack, e);
         }
+    }
+    if 5 <= run.len() - at {
+        return push_state(run[at + 4], marks, stack, e);
     }
     e
 }

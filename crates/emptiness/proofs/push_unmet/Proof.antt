@@ -5,7 +5,7 @@ use lib.ListN.{length, drop}
 use Rattle.automata.specs.Records.{readRecords}
 use Rattle.sheets.specs.inner.Runs.{Named}
 use Rattle.emptiness.specs.inner.Marks.{Pushed}
-use Rattle.emptiness.proofs.Marks.{pushLaws, push-inside}
+use Rattle.emptiness.proofs.Marks.{pushLaws, push-two}
 use Rattle.emptiness.proofs.push_unmet.Statement.{statement}
 use Rattle.emptiness.proofs.push_unmet.Tie as tie
 
@@ -31,40 +31,66 @@ mul-t c = search pushLaws
 shared-slice-read-t : tie.Need-shared-slice-read-t Inv-loop μ-loop
 shared-slice-read-t c = search pushLaws
 
-cast-k : tie.Need-cast-k Inv-loop μ-loop
-cast-k c = omega (arith, c .shared-slice-known .given (c .before .before .loop .at + 4))
+add-u : tie.Need-add-u Inv-loop μ-loop
+add-u c = search pushLaws
+
+mul-u : tie.Need-mul-u Inv-loop μ-loop
+mul-u c = search pushLaws
+
+shared-slice-read-u : tie.Need-shared-slice-read-u Inv-loop μ-loop
+shared-slice-read-u c = search pushLaws
 
 add-at : tie.Need-add-at Inv-loop μ-loop
 add-at c = search pushLaws
 
+cast-if1 : tie.Need-cast-if1 Inv-loop μ-loop
+cast-if1 c = omega (arith, c .shared-slice-known3 .given (c .before .before .before .loop .at + 4))
+
 slice-read-if1 : tie.Need-slice-read-if1 Inv-loop μ-loop
 slice-read-if1 c = search pushLaws
 
-slice-write-marks : tie.Need-slice-write-marks Inv-loop μ-loop
-slice-write-marks c =
-    let turn = c .before .before .before .before in
-    push-inside _ _ _ _ _ _ _ _ (turn .loop .inv .2) (c .before .before .before .loop-test .taken) (turn .loop .inv .1)
+cast-if1-2 : tie.Need-cast-if1-2 Inv-loop μ-loop
+cast-if1-2 c = omega (arith, c .before .shared-slice-known3 .given (c .before .before .before .before .loop .at + 9))
 
-mul-stack : tie.Need-mul-stack Inv-loop μ-loop
-mul-stack c = search pushLaws
+slice-read-if1-2 : tie.Need-slice-read-if1-2 Inv-loop μ-loop
+slice-read-if1-2 c = search pushLaws
 
-slice-write-stack : tie.Need-slice-write-stack Inv-loop μ-loop
-slice-write-stack c = search pushLaws
+push-state-requires : tie.Need-push-state-requires Inv-loop μ-loop
+push-state-requires c κs = search pushLaws
 
-add-e : tie.Need-add-e Inv-loop μ-loop
-add-e c = search pushLaws
+push-state-requires-2 : tie.Need-push-state-requires-2 Inv-loop μ-loop
+push-state-requires-2 c κs = search pushLaws
 
 loop-less : tie.Need-loop-less Inv-loop μ-loop
 loop-less c = search pushLaws
 
 loop-again : tie.Need-loop-again Inv-loop μ-loop
-loop-again c = search pushLaws
+loop-again c =
+    let second = c .before .before .before .before in
+    let first = second .before .before .before .before .before .before .before in
+    let turn = first .before .before .before .before .before .before .before .before in
+    (search pushLaws, search pushLaws, push-two _ _ (turn .before .loop .inv .1) (turn .loop-test .taken) _ _ _ _ _ _ (turn .before .loop .inv .2) _ _ _ (first .push-state .ensures) _ _ _ (second .push-state2 .ensures))
 
 loop-less-2 : tie.Need-loop-less-2 Inv-loop μ-loop
 loop-less-2 c = search pushLaws
 
 loop-again-2 : tie.Need-loop-again-2 Inv-loop μ-loop
 loop-again-2 c = search pushLaws
+
+sub-if2 : tie.Need-sub-if2 Inv-loop μ-loop
+sub-if2 c = search pushLaws
+
+add-push-state : tie.Need-add-push-state Inv-loop μ-loop
+add-push-state c = search pushLaws
+
+mul-push-state : tie.Need-mul-push-state Inv-loop μ-loop
+mul-push-state c = search pushLaws
+
+shared-slice-read-push-state : tie.Need-shared-slice-read-push-state Inv-loop μ-loop
+shared-slice-read-push-state c = search pushLaws
+
+push-state-requires-3 : tie.Need-push-state-requires-3 Inv-loop μ-loop
+push-state-requires-3 c κs = search pushLaws
 
 same-length : tie.Need-same-length Inv-loop μ-loop
 same-length c = search pushLaws
@@ -75,5 +101,48 @@ same-length-2 c = search pushLaws
 returns : tie.Need-returns Inv-loop μ-loop
 returns c = search pushLaws
 
+same-length-3 : tie.Need-same-length-3 Inv-loop μ-loop
+same-length-3 c = search pushLaws
+
+same-length-4 : tie.Need-same-length-4 Inv-loop μ-loop
+same-length-4 c = search pushLaws
+
+returns-2 : tie.Need-returns-2 Inv-loop μ-loop
+returns-2 c = search pushLaws
+
 pub push-unmet-spec : {M : Type 1} → statement M
-push-unmet-spec = tie.close (tie.spec Inv-loop μ-loop loop-holds sub-loop add-t mul-t shared-slice-read-t cast-k add-at slice-read-if1 slice-write-marks mul-stack slice-write-stack add-e loop-less loop-again loop-less-2 loop-again-2 same-length same-length-2 returns)
+push-unmet-spec =
+    tie.close
+    (tie.spec
+    Inv-loop
+    μ-loop
+    loop-holds
+    sub-loop
+    add-t
+    mul-t
+    shared-slice-read-t
+    add-u
+    mul-u
+    shared-slice-read-u
+    add-at
+    cast-if1
+    slice-read-if1
+    cast-if1-2
+    slice-read-if1-2
+    push-state-requires
+    push-state-requires-2
+    loop-less
+    loop-again
+    loop-less-2
+    loop-again-2
+    sub-if2
+    add-push-state
+    mul-push-state
+    shared-slice-read-push-state
+    push-state-requires-3
+    same-length
+    same-length-2
+    returns
+    same-length-3
+    same-length-4
+    returns-2)

@@ -4,7 +4,7 @@ use mathlib.Core.List.{List}
 use mathlib.Core.Logic.{_⊎_}
 use mathlib.Core.Path.{_≡_}
 use lib.Dec.{eqb}
-use lib.ListN.{length, getD, drop}
+use lib.ListN.{length, getD, drop, set}
 use Rattle.lists.specs.Lists.{_∈_, filter}
 use Rattle.automata.specs.Automaton.{Transition, Automaton, acceptOf}
 use Rattle.automata.specs.Records.{readRecords}
@@ -37,6 +37,11 @@ pub record StackRoom (marks stack : List ℕ) (top : ℕ) : Type 0 where
   pub wide : length marks ≡ 256
   pub long : length stack ≡ 256
   pub enough : top + unmet marks ≤ 256
+
+-- the state t was met already and nothing changed, or it was not, and is marked and stands on the stack, behind what stood there
+pub data PushedState (marks stack : List ℕ) (top t : ℕ) : List ℕ → List ℕ → ℕ → Type 0 where
+  was-met : (getD marks t 0 ≡ 0 → ⊥) → PushedState marks stack top t marks stack top
+  was-unmet : getD marks t 0 ≡ 0 → PushedState marks stack top t (set marks t 1) (set stack top t) (top + 1)
 
 -- the targets of the transitions es but those of ds were met; those that were not met before stand on the stack, behind what stood there
 pub record Pushed (marks stack : List ℕ) (top : ℕ) (es ds : List Transition) (marks′ stack′ : List ℕ) (top′ : ℕ) : Type 0 where
