@@ -23,7 +23,7 @@ use Rattle.determinize.specs.declared.Progress.the-variants.{Sets, Over}
 use Rattle.determinize.specs.declared.Exploration.{Exploration}
 use Rattle.determinize.specs.declared.Exploration.the-variants.{Finished, Unfinished}
 use Rattle.determinize.specs.inner.Notes.{SpansResult, TableResult}
-use Rattle.determinize.specs.inner.Attempts.{runLength, recordsOf, SpansExploration, TableResultWithRoom, TableExploration}
+use Rattle.determinize.specs.inner.Attempts.{runLength, runLengths, SpansExploration, TableResultWithRoom, TableExploration}
 
 -- `run_length`
 module _ (starts : List ℕ) (q : ℕ) where
@@ -43,25 +43,25 @@ pub ruleset lengthLaws = (length-past, length-none, length-some, needs)
 
 -- `is_long`
 module _ (starts set : List ℕ) where
-  pub long-begins : (q : ℕ) → q ≡ nextMember (setAt set 0) 0 → 0 + recordsOf starts (membersFrom q (setAt set 0)) ≡ recordsOf starts (setAt set 0)
+  pub long-begins : (q : ℕ) → q ≡ nextMember (setAt set 0) 0 → 0 + runLengths starts (membersFrom q (setAt set 0)) ≡ runLengths starts (setAt set 0)
   long-begins q h = rw (visit-start (setAt set 0) (at-canon set 0) q h) (omega arith)
 
-  module _ (q k : ℕ) (i : k + recordsOf starts (membersFrom q (setAt set 0)) ≡ recordsOf starts (setAt set 0)) where
-    pub long-ended : k ≤ 64 → 256 ≤ q → false ≡ ltb 64 (recordsOf starts (setAt set 0))
-    unfolding recordsOf
+  module _ (q k : ℕ) (i : k + runLengths starts (membersFrom q (setAt set 0)) ≡ runLengths starts (setAt set 0)) where
+    pub long-ended : k ≤ 320 → 256 ≤ q → false ≡ ltb 320 (runLengths starts (setAt set 0))
+    unfolding runLengths
     long-ended l h =
-        let z : recordsOf starts (membersFrom q (setAt set 0)) ≡ 0 = ap (recordsOf starts) (from-end (setAt set 0) (at-canon set 0) q h) in
-        sym (le-ltb 64 (recordsOf starts (setAt set 0)) (omega arith))
+        let z : runLengths starts (membersFrom q (setAt set 0)) ≡ 0 = ap (runLengths starts) (from-end (setAt set 0) (at-canon set 0) q h) in
+        sym (le-ltb 320 (runLengths starts (setAt set 0)) (omega arith))
 
     module _ (h : q < 256) (n : q ≡ nextMember (setAt set 0) q) (m : ℕ) (e : m ≡ runLength starts q) where
-      left : (x : ℕ) → x ≡ nextMember (setAt set 0) (q + 1) → recordsOf starts (membersFrom q (setAt set 0)) ≡ m + recordsOf starts (membersFrom x (setAt set 0))
-      unfolding recordsOf
-      left x j = ap (recordsOf starts) (visit-next (setAt set 0) (at-canon set 0) q x n h j) ∙ ap (λ y. y + recordsOf starts (membersFrom x (setAt set 0))) (sym e)
+      left : (x : ℕ) → x ≡ nextMember (setAt set 0) (q + 1) → runLengths starts (membersFrom q (setAt set 0)) ≡ m + runLengths starts (membersFrom x (setAt set 0))
+      unfolding runLengths
+      left x j = ap (runLengths starts) (visit-next (setAt set 0) (at-canon set 0) q x n h j) ∙ ap (λ y. y + runLengths starts (membersFrom x (setAt set 0))) (sym e)
 
-      pub long-found : 64 < k + m → true ≡ ltb 64 (recordsOf starts (setAt set 0))
-      long-found l = sym (lt-ltb 64 (recordsOf starts (setAt set 0)) (omega (arith, left (nextMember (setAt set 0) (q + 1)) refl)))
+      pub long-found : 320 < k + m → true ≡ ltb 320 (runLengths starts (setAt set 0))
+      long-found l = sym (lt-ltb 320 (runLengths starts (setAt set 0)) (omega (arith, left (nextMember (setAt set 0) (q + 1)) refl)))
 
-      pub long-next : (x : ℕ) → x ≡ nextMember (setAt set 0) (q + 1) → k + m + recordsOf starts (membersFrom x (setAt set 0)) ≡ recordsOf starts (setAt set 0)
+      pub long-next : (x : ℕ) → x ≡ nextMember (setAt set 0) (q + 1) → k + m + runLengths starts (membersFrom x (setAt set 0)) ≡ runLengths starts (setAt set 0)
       long-next x j = omega (arith, left x j)
 
 pub ruleset longLaws = (long-begins, long-ended, long-found, long-next, member-here, member-later, needs)

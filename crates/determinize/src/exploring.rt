@@ -16,7 +16,7 @@ ghost use Rattle.words.specs.inner.Gather.{Tables};
 ghost use Rattle.ranges.specs.Cuts.{nextCut};
 ghost use Rattle.determinize.specs.inner.Notes.{sinkNotes, SetPlaced, SpansResult};
 ghost use Rattle.determinize.specs.inner.Memory.{StateSet, TableAndNotes, StartTable};
-ghost use Rattle.determinize.specs.inner.Attempts.{runLength, recordsOf, SpansExploration, TableExploration};
+ghost use Rattle.determinize.specs.inner.Attempts.{runLength, runLengths, SpansExploration, TableExploration};
 use crate::Exploration;
 use crate::Progress;
 use ranges::Ends;
@@ -152,7 +152,7 @@ pub fn note_sink(notes: &mut [u32], count: usize, sink: u32, symbols: Ends) -> u
     count
 }
 
-// How many records the run of q has, by the table of the runs.
+// How many words the run of q has, by the table of the runs.
 fn run_length(starts: &[u32], q: usize) -> u32
     requires { ⌜ q < 256 ⌝ }
     ensures { λ r. ⌜ r ≡ runLength (now (starts .entry)) q ⌝ }
@@ -168,17 +168,17 @@ fn run_length(starts: &[u32], q: usize) -> u32
     end - start
 }
 
-// Whether the runs of the set's members have over 64 records together: then a pass over the events of the whole sheet is quicker than reading the runs
+// Whether the runs of the set's members have over 64 records together, of five words each: then a pass over the events of the whole sheet is quicker than reading the runs
 // for each span.
 pub fn is_long(starts: &[u32], set: &[u64]) -> bool
     requires { ⌜ 4 ≤ length (now set) ⌝ }
-    ensures { λ r. ⌜ r ≡ ltb 64 (recordsOf (now (starts .entry)) (setAt (now (set .entry)) 0)) ⌝ }
+    ensures { λ r. ⌜ r ≡ ltb 320 (runLengths (now (starts .entry)) (setAt (now (set .entry)) 0)) ⌝ }
 {
-    let mut records: u64 = 0;
+    let mut words: u64 = 0;
     let mut q = sets::next_member(set, 0);
     while q < 256 {
-        records += run_length(starts, q) as u64;
-        if 64 < records {
+        words += run_length(starts, q) as u64;
+        if 320 < words {
             return true;
         }
         q = sets::next_member(set, q + 1);
@@ -189,7 +189,7 @@ pub fn is_long(starts: &[u32], set: &[u64]) -> bool
 // Whether the set is long, asked once its fourth span is visited: most sets have no more.
 fn is_found_long(starts: &[u32], set: &[u64], spans: usize) -> bool
     requires { ⌜ 4 ≤ length (now set) ⌝ }
-    ensures { λ r. ⌜ r ≡ (eqb spans 4 && ltb 64 (recordsOf (now (starts .entry)) (setAt (now (set .entry)) 0))) ⌝ }
+    ensures { λ r. ⌜ r ≡ (eqb spans 4 && ltb 320 (runLengths (now (starts .entry)) (setAt (now (set .entry)) 0))) ⌝ }
 {
     if spans != 4 {
         return false;

@@ -47,20 +47,15 @@ module _ (s : List ℕ) (a : Accepted s) where
   unfolding ts leaving
   run-at starts q i l =
       let b = i .at q (omega arith) in
-      let e : getD starts (q + 1) 0 ≡ below (suc q) (read s .transitions) = i .at (q + 1) (omega arith) ∙ ap (λ n. below n (read s .transitions)) (add-one q) in
+      let e : getD starts (q + 1) 0 ≡ recordsAt s + 5 * below (suc q) (read s .transitions) = i .at (q + 1) (omega arith) ∙ ap (λ n. recordsAt s + 5 * below n (read s .transitions)) (add-one q) in
       let m = below-mono q (read s .transitions) in
       let n = below-length (suc q) (read s .transitions) in
       let c : length (read s .transitions) ≡ recordCount s = count in
-      let o : getD starts q 0 ≤ getD starts (q + 1) 0 = omega arith in
-      let w : getD starts (q + 1) 0 ≤ recordCount s = omega arith in
       record {
         known = let k = i .long in omega arith;
-        few-states = a .few-states;
-        few-records = a .few-records;
-        whole = a .whole;
-        ordered = o;
-        within = w;
-        words = between _ _ o w ∙ ap writeRecords (ap₂ (λ x y. take (x - y) (drop y (read s .transitions))) e b ∙ sym (leaving-run q _ up));
+        ordered = omega arith;
+        within = omega (arith, a .whole);
+        words = ap₂ (λ (x y : ℕ). take (x - y) (drop y s)) e b ∙ between _ _ m (omega arith) ∙ ap writeRecords (sym (leaving-run q _ up));
       }
 
   -- the records as the code has them
@@ -75,23 +70,27 @@ module _ (s : List ℕ) (a : Accepted s) where
   unfolding part
   starts-rising = subst Rising (sym part-ts) up
 
+  pub starts-most : (q : ℕ) → below q (readRecords (take (length s - recordsAt s) (drop (recordsAt s) s))) ≤ 2048
+  unfolding part
+  starts-most q = omega (arith, below-length q (readRecords part), ap length part-ts ∙ count, a .few-records)
+
   pub starts-few : length (take (length s - recordsAt s) (drop (recordsAt s) s)) ≤ 10240
   starts-few = simp (length-take, length-drop) (omega (arith, a .whole, a .few-records))
 
 -- the table so far, with the first record of q added
 module _ (s : List ℕ) (old now : List ℕ) (q : ℕ) (e : now ≡ startsBelow s old q) where
-  pub starts-next : (k : ℕ) → k ≡ below q (readRecords (take (length s - recordsAt s) (drop (recordsAt s) s))) → set now q k ≡ startsBelow s old (q + 1)
+  pub starts-next : (k : ℕ) → k ≡ below q (readRecords (take (length s - recordsAt s) (drop (recordsAt s) s))) → set now q (recordsAt s + 5 * k) ≡ startsBelow s old (q + 1)
   unfolding startsBelow
   starts-next k h =
-      let g : ℕ → ℕ = λ p. below p (read s .transitions) in
-      let n : k ≡ g q = h ∙ ap (λ l. below q (readRecords l)) (part-all (recordsAt s) s) in
+      let g : ℕ → ℕ = λ p. recordsAt s + 5 * below p (read s .transitions) in
+      let n : recordsAt s + 5 * k ≡ g q = ap (λ x. recordsAt s + 5 * x) (h ∙ ap (λ l. below q (readRecords l)) (part-all (recordsAt s) s)) in
       let o : 0 + length (tabulate q g) ≡ q = omega (arith, length-tabulate q g) in
-      ap₂ (λ l i. set l i k) e (sym o) ∙ sets-one old (tabulate q g) 0 k
+      ap₂ (λ l i. set l i (recordsAt s + 5 * k)) e (sym o) ∙ sets-one old (tabulate q g) 0 (recordsAt s + 5 * k)
       ∙ ap (λ v. sets old 0 v) (ap (λ x. tabulate q g ++ x ∷ []) n ∙ sym (tabulate-end q g) ∙ ap (λ i. tabulate i g) (sym (add-one q)))
 
   pub starts-ended : stateCount s < q → q ≤ stateCount s + 1 → now ≡ sets old 0 (startsOf s)
   unfolding startsOf startsBelow
-  starts-ended l h = let c : q ≡ suc (stateCount s) = omega arith in e ∙ ap (λ i. sets old 0 (tabulate i (λ p. below p (read s .transitions)))) c
+  starts-ended l h = let c : q ≡ suc (stateCount s) = omega arith in e ∙ ap (λ i. sets old 0 (tabulate i (λ p. recordsAt s + 5 * below p (read s .transitions)))) c
 
 pub starts-none : (s old : List ℕ) → old ≡ startsBelow s old 0
 unfolding tabulate startsBelow
@@ -100,7 +99,7 @@ starts-none s old = refl
 pub starts-indexed : (s old now : List ℕ) → now ≡ sets old 0 (startsOf s) → stateCount s < length old → Indexed s now
 unfolding startsOf
 starts-indexed s old now e h =
-    let g : ℕ → ℕ = λ p. below p (read s .transitions) in
+    let g : ℕ → ℕ = λ p. recordsAt s + 5 * below p (read s .transitions) in
     let v = tabulate (suc (stateCount s)) g in
     let n : length v ≡ suc (stateCount s) = length-tabulate (suc (stateCount s)) g in
     record {

@@ -34,21 +34,22 @@ fn greater(x: u32, y: u32) -> u32
     x
 }
 
-// The number of the first record of each state, and of the end, at the front of starts: it is the greatest number behind a record of a state below.
+// The place of the first record of each state, and of the end, at the front of starts: it stands behind the last record of the states below.
 pub fn run_starts(s: &[u32], starts: &mut [u32])
     requires { ⌜ Accepted (now s) × (stateCount (now s) < length (now starts)) ⌝ }
     ensures { λ r. ⌜ now (starts .exit) ≡ sets (now (starts .entry)) 0 (startsOf (now (s .entry))) ⌝ }
 {
     let n = s[2];
-    let base = n as usize + 4;
+    let base = n + 4;
+    let first = base as usize;
     let mut ends = [0u32; 257];
-    mark_ends(&s[base..], &mut ends);
+    mark_ends(&s[first..], &mut ends);
     let mut q: u32 = 0;
     let mut k: u32 = 0;
     while q <= n {
         let p = q as usize;
         k = greater(k, ends[p]);
-        starts[p] = k;
+        starts[p] = base + 5 * k;
         q += 1;
     }
 }
@@ -58,10 +59,9 @@ pub fn run<'a>(s: &'a [u32], starts: &[u32], q: u32) -> &'a [u32]
     requires { ⌜ RunAt (now s) (now starts) q ⌝ }
     ensures { λ r. ⌜ now r ≡ writeRecords (leaving (read (now (s .entry))) q) ⌝ }
 {
-    let base = s[2] as usize + 4;
     let p = q as usize;
-    let a = base + 5 * (starts[p] as usize);
-    let e = base + 5 * (starts[p + 1] as usize);
+    let a = starts[p] as usize;
+    let e = starts[p + 1] as usize;
     &s[a..e]
 }
 

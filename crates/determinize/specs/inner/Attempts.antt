@@ -15,14 +15,14 @@ use Rattle.determinize.specs.declared.Exploration.{Exploration}
 use Rattle.determinize.specs.declared.Exploration.the-variants.{Finished, Unfinished}
 use Rattle.determinize.specs.inner.Notes.{setNumber, SpansResult, TableResult}
 
--- how many records the run of q has, by the table of the runs
+-- how many words the run of q has, by the table of the runs
 unfoldable pub runLength : List ℕ → ℕ → ℕ
 runLength starts q = cond (ltb (q + 1) (length starts)) (getD starts (q + 1) 0 - getD starts q 0) 0
 
 -- how many the runs of the states have together
-unfoldable pub recordsOf : List ℕ → Set → ℕ
-recordsOf starts [] = 0
-recordsOf starts (q ∷ S) = runLength starts q + recordsOf starts S
+unfoldable pub runLengths : List ℕ → Set → ℕ
+runLengths starts [] = 0
+runLengths starts (q ∷ S) = runLength starts q + runLengths starts S
 
 -- what a try to visit the spans of a state came to, with the table t as it was: an answer, or the first row of the table is as it was
 unfoldable pub SpansExploration : ℕ → ℕ → Automaton → Set → List Set → ℕ → List ℕ → ℕ → List ℕ → List ℕ → List ℕ → Exploration → Type 0

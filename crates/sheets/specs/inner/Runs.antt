@@ -16,13 +16,13 @@ use Rattle.sheets.specs.inner.Accepted.{recordCount, Accepted}
 unfoldable pub below : ℕ → List Transition → ℕ
 below q es = length (filter (λ e. ltb (e .from) q) es)
 
--- for each state, and one past the last, the number of its first record
+-- for each state, and one past the last, the place of its first record
 unfoldable pub startsOf : List ℕ → List ℕ
-startsOf s = tabulate (suc (stateCount s)) (λ q. below q (read s .transitions))
+startsOf s = tabulate (suc (stateCount s)) (λ q. recordsAt s + 5 * below q (read s .transitions))
 
 -- old, with the first q entries of that table at its front
 unfoldable pub startsBelow : List ℕ → List ℕ → ℕ → List ℕ
-startsBelow s old q = sets old 0 (tabulate q (λ p. below p (read s .transitions)))
+startsBelow s old q = sets old 0 (tabulate q (λ p. recordsAt s + 5 * below p (read s .transitions)))
 
 -- the states that the transitions leave ascend
 abbrev pub Rising : List Transition → Type 0
@@ -38,7 +38,7 @@ pub record RunEnds (t ends : List ℕ) (k : ℕ) : Type 0 where
 -- starts is, at its front, the table `startsOf` of the sheet s
 pub record Indexed (s starts : List ℕ) : Type 0 where
   pub long : stateCount s < length starts
-  pub at : (q : ℕ) → q ≤ stateCount s → getD starts q 0 ≡ below q (read s .transitions)
+  pub at : (q : ℕ) → q ≤ stateCount s → getD starts q 0 ≡ recordsAt s + 5 * below q (read s .transitions)
 
 -- an accepted sheet and where the runs of its states begin
 pub record IndexedSheet (s starts : List ℕ) : Type 0 where
@@ -53,9 +53,6 @@ pub record Named (es : List Transition) : Type 0 where
 -- the records of state q stand in s where starts says
 pub record RunAt (s starts : List ℕ) (q : ℕ) : Type 0 where
   pub known : q + 1 < length starts
-  pub few-states : stateCount s ≤ mostStates
-  pub few-records : recordCount s ≤ mostTransitions
-  pub whole : length s ≡ recordsAt s + 5 * recordCount s
   pub ordered : getD starts q 0 ≤ getD starts (q + 1) 0
-  pub within : getD starts (q + 1) 0 ≤ recordCount s
-  pub words : take (recordsAt s + 5 * getD starts (q + 1) 0 - (recordsAt s + 5 * getD starts q 0)) (drop (recordsAt s + 5 * getD starts q 0) s) ≡ writeRecords (leaving (read s) q)
+  pub within : getD starts (q + 1) 0 ≤ length s
+  pub words : take (getD starts (q + 1) 0 - getD starts q 0) (drop (getD starts q 0) s) ≡ writeRecords (leaving (read s) q)

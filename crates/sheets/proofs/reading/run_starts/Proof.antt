@@ -1,30 +1,31 @@
 -- `run_starts` meets its contract: the table so far has the first record of each state below `q`.
 use Prim.Native.Nat.{_+_, _-_, _≤_}
 use mathlib.Core.Path.{_≡_}
+use native.Mathlib.Omega.{arith}
 use lib.ListN.{length, take, drop}
 use Rattle.sheets.specs.inner.Runs.{startsBelow}
 use Rattle.sheets.specs.Sheet.{stateCount, recordsAt}
 use Rattle.sheets.proofs.Below.{Greatest, ends-begin, greatest-is, greatest-next}
 use Rattle.sheets.proofs.Named.{sheet-named}
-use Rattle.sheets.proofs.Runs.{startsLaws, starts-rising, starts-few, starts-next}
+use Rattle.sheets.proofs.Runs.{startsLaws, starts-rising, starts-most, starts-few, starts-next}
 use Rattle.sheets.proofs.reading.run_starts.Statement.{statement}
 use Rattle.sheets.proofs.reading.run_starts.Tie as tie
 
 abbrev Inv-loop : tie.InvT-loop
-Inv-loop s starts₀ n base ends q₀ k₀ starts q k =
+Inv-loop s starts₀ n base first ends q₀ k₀ starts q k =
     (q ≤ stateCount s + 1) × (length starts ≡ length starts₀) × (starts ≡ startsBelow s starts₀ q) × Greatest (take (length s - recordsAt s) (drop (recordsAt s) s)) ends q k
 
 abbrev μ-loop : tie.MeasureT-loop
-μ-loop s starts₀ n base ends q₀ k₀ starts q k = stateCount s + 1 - q
+μ-loop s starts₀ n base first ends q₀ k₀ starts q k = stateCount s + 1 - q
 
 shared-slice-read-n : tie.Need-shared-slice-read-n Inv-loop μ-loop
 shared-slice-read-n c = search startsLaws
 
-cast-base : tie.Need-cast-base Inv-loop μ-loop
-cast-base c = search startsLaws
-
 add-base : tie.Need-add-base Inv-loop μ-loop
 add-base c = search startsLaws
+
+cast-first : tie.Need-cast-first Inv-loop μ-loop
+cast-first c = search startsLaws
 
 mul-mark-ends : tie.Need-mul-mark-ends Inv-loop μ-loop
 mul-mark-ends c = search startsLaws
@@ -60,7 +61,19 @@ greater-requires : tie.Need-greater-requires Inv-loop μ-loop
 greater-requires c κs = search startsLaws
 
 mul-starts : tie.Need-mul-starts Inv-loop μ-loop
-mul-starts c = search startsLaws
+mul-starts c =
+    let a = c .before .before .before .before .before .before .before .before .before .before .pre .0 in
+    let turn = c .before .before in
+    omega (arith, greatest-is _ _ (starts-rising _ a) (turn .before .before .mark-ends .ensures) _ _ (turn .loop .inv .3) _ (c .greater .ensures), starts-most _ a (turn .loop .q))
+
+add-starts : tie.Need-add-starts Inv-loop μ-loop
+add-starts c =
+    let a = c .before .before .before .before .before .before .before .before .before .before .pre .0 in
+    let turn = c .before .before in
+    omega (arith, a .few-states, greatest-is _ _ (starts-rising _ a) (turn .before .before .mark-ends .ensures) _ _ (turn .loop .inv .3) _ (c .greater .ensures), starts-most _ a (turn .loop .q))
+
+mul-starts-2 : tie.Need-mul-starts-2 Inv-loop μ-loop
+mul-starts-2 c = search startsLaws
 
 slice-write-starts : tie.Need-slice-write-starts Inv-loop μ-loop
 slice-write-starts c = search startsLaws
@@ -86,4 +99,4 @@ returns : tie.Need-returns Inv-loop μ-loop
 returns c = search startsLaws
 
 pub run-starts-spec : {M : Type 1} → statement M
-run-starts-spec = tie.close (tie.spec Inv-loop μ-loop shared-slice-read-n cast-base add-base mul-mark-ends sub-mark-ends part-mark-ends-start part-mark-ends-end slice-aggregate-mark-ends mark-ends-requires loop-holds cast-p mul-greater array-read-greater greater-requires mul-starts slice-write-starts add-q loop-less loop-again same-length returns)
+run-starts-spec = tie.close (tie.spec Inv-loop μ-loop shared-slice-read-n add-base cast-first mul-mark-ends sub-mark-ends part-mark-ends-start part-mark-ends-end slice-aggregate-mark-ends mark-ends-requires loop-holds cast-p mul-greater array-read-greater greater-requires mul-starts add-starts mul-starts-2 slice-write-starts add-q loop-less loop-again same-length returns)
