@@ -1,23 +1,28 @@
 -- The records of an accepted sheet that leave one state are a run, which the table of starts gives.
 use Prim.Native.Nat.{ℕ, suc, _+_, _-_, _*_, _≤_, _<_}
+use mathlib.Core.Bool.{true, false, cond}
 use mathlib.Core.List.{List, [], _∷_, _++_}
+use mathlib.Core.Logic.{⊎-elim}
 use mathlib.Core.Path.{_≡_, refl, sym, ap, ap₂, _∙_, subst}
 use native.Mathlib.Numerals.{add-one}
 use native.Mathlib.Omega.{arith}
 use borrow.Author.Needs.{needs}
+use borrow.Author.Tests.{lt-ltb, le-ltb, ltb-true, ltb-false}
+use lib.Dec.{ltb}
 use lib.ListN.{length, getD, take, drop, set, length-drop, length-take, List·getD-append}
 use lib.Seq.{sets, sets-eq, length-sets, drop-drop}
 use Rattle.lists.specs.Lists.{tabulate}
 use Rattle.lists.proofs.Lists.{tabulate-at, length-tabulate, tabulate-end}
 use Rattle.lists.proofs.Parts.{part-all, sets-one}
+use Rattle.lists.proofs.Tests.{test}
 use Rattle.automata.specs.Automaton.{Transition, leaving}
 use Rattle.automata.specs.Records.{readRecords, writeRecords}
 use Rattle.automata.proofs.Records.{read-drop, read-take, write-read, length-read}
 use Rattle.sheets.specs.Sheet.{stateCount, recordsAt, read}
 use Rattle.sheets.specs.inner.Accepted.{recordCount, Accepted}
-use Rattle.sheets.specs.inner.Runs.{below, startsOf, startsBelow, Rising, Indexed, RunAt}
+use Rattle.sheets.specs.inner.Runs.{below, startsOf, startsBelow, Rising, RunEnds, Indexed, RunAt}
 use Rattle.sheets.proofs.Meaning.{read-well}
-use Rattle.sheets.proofs.Below.{rising, below-mono, below-length, leaving-run, ends-begin, greatest-begin}
+use Rattle.sheets.proofs.Below.{Greatest, rising, below-mono, below-length, leaving-run, ends-begin, greatest-begin, greatest-is, greatest-next}
 
 module _ (s : List ℕ) (a : Accepted s) where
   ts : List Transition
@@ -91,6 +96,63 @@ module _ (s : List ℕ) (old now : List ℕ) (q : ℕ) (e : now ≡ startsBelow 
   pub starts-ended : stateCount s < q → q ≤ stateCount s + 1 → now ≡ sets old 0 (startsOf s)
   unfolding startsOf startsBelow
   starts-ended l h = let c : q ≡ suc (stateCount s) = omega arith in e ∙ ap (λ i. sets old 0 (tabulate i (λ p. recordsAt s + 5 * below p (read s .transitions)))) c
+
+-- the greatest of three numbers, in either order of comparing
+greatest-of : (k a b m x o : ℕ) → m ≡ cond (ltb k a) a k → x ≡ cond (ltb a b) b a → o ≡ cond (ltb k x) x k → o ≡ cond (ltb m b) b m
+greatest-of k a b m x o i j l =
+    ⊎-elim
+    (λ (c : ltb k a ≡ true).
+    let h = ltb-true k a c in
+    let y : m ≡ a = i ∙ ap (λ t. cond t a k) c in
+    ⊎-elim
+    (λ (d : ltb a b ≡ true). let z : x ≡ b = j ∙ ap (λ t. cond t b a) d in let n = ltb-true a b d in rw (y, d) (l ∙ ap (λ t. cond (ltb k t) t k) z ∙ ap (λ t. cond t b k) (lt-ltb k b (omega arith))))
+    (λ (d : ltb a b ≡ false). let z : x ≡ a = j ∙ ap (λ t. cond t b a) d in rw (y, d) (l ∙ ap (λ t. cond (ltb k t) t k) z ∙ ap (λ t. cond t a k) c)) (test (ltb a b)))
+    (λ (c : ltb k a ≡ false).
+    let h = ltb-false k a c in
+    let y : m ≡ k = i ∙ ap (λ t. cond t a k) c in
+    ⊎-elim
+    (λ (d : ltb a b ≡ true). let z : x ≡ b = j ∙ ap (λ t. cond t b a) d in rw y (l ∙ ap (λ t. cond (ltb k t) t k) z))
+    (λ (d : ltb a b ≡ false).
+    let z : x ≡ a = j ∙ ap (λ t. cond t b a) d in
+    let n = ltb-false a b d in
+    rw (y, le-ltb k b (omega arith)) (l ∙ ap (λ t. cond (ltb k t) t k) z ∙ ap (λ t. cond t a k) c))
+    (test (ltb a b)))
+    (test (ltb k a))
+
+-- the table with the first records of one state more, or of two
+module _ (s : List ℕ) (a : Accepted s) (ends : List ℕ)
+    (marked : RunEnds (take (length s - recordsAt s) (drop (recordsAt s) s)) ends (length (readRecords (take (length s - recordsAt s) (drop (recordsAt s) s))))) (q k : ℕ)
+    (g : Greatest (take (length s - recordsAt s) (drop (recordsAt s) s)) ends q k) (m : ℕ) (i : m ≡ cond (ltb k (getD ends q 0)) (getD ends q 0) k) where
+  first-is : m ≡ below q (readRecords (take (length s - recordsAt s) (drop (recordsAt s) s)))
+  first-is = greatest-is _ ends (starts-rising s a) marked q k g m i
+
+  pub starts-small : m ≤ 2048
+  starts-small = omega (arith, first-is, starts-most s a q)
+
+  pub starts-last : (old now : List ℕ) → now ≡ startsBelow s old q → stateCount s ≤ q → q ≤ stateCount s → set now q (recordsAt s + 5 * m) ≡ sets old 0 (startsOf s)
+  starts-last old now e l h = starts-ended s old _ (q + 1) (starts-next s old now q e m first-is) (omega arith) (omega arith)
+
+  module _ (x : ℕ) (j : x ≡ cond (ltb (getD ends q 0) (getD ends (q + 1) 0)) (getD ends (q + 1) 0) (getD ends q 0)) (o : ℕ) (l : o ≡ cond (ltb k x) x k) where
+    second : o ≡ cond (ltb m (getD ends (q + 1) 0)) (getD ends (q + 1) 0) m
+    second = greatest-of k (getD ends q 0) (getD ends (q + 1) 0) m x o i j l
+
+    between-states : Greatest (take (length s - recordsAt s) (drop (recordsAt s) s)) ends (q + 1) m
+    between-states = greatest-next _ ends (starts-rising s a) marked q k g m i
+
+    second-is : o ≡ below (q + 1) (readRecords (take (length s - recordsAt s) (drop (recordsAt s) s)))
+    second-is = greatest-is _ ends (starts-rising s a) marked (q + 1) m between-states o second
+
+    two : q + 1 + 1 ≡ q + 2
+    two = omega arith
+
+    pub starts-small-too : o ≤ 2048
+    starts-small-too = omega (arith, second-is, starts-most s a (q + 1))
+
+    pub starts-two : (old now : List ℕ) → now ≡ startsBelow s old q → set (set now q (recordsAt s + 5 * m)) (q + 1) (recordsAt s + 5 * o) ≡ startsBelow s old (q + 2)
+    starts-two old now e = starts-next s old _ (q + 1) (starts-next s old now q e m first-is) o second-is ∙ ap (startsBelow s old) two
+
+    pub greatest-two : Greatest (take (length s - recordsAt s) (drop (recordsAt s) s)) ends (q + 2) o
+    greatest-two = subst (λ (n : ℕ). Greatest (take (length s - recordsAt s) (drop (recordsAt s) s)) ends n o) two (greatest-next _ ends (starts-rising s a) marked (q + 1) m between-states o second)
 
 pub starts-none : (s old : List ℕ) → old ≡ startsBelow s old 0
 unfolding tabulate startsBelow

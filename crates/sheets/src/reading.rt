@@ -34,7 +34,8 @@ fn greater(x: u32, y: u32) -> u32
     x
 }
 
-// The place of the first record of each state, and of the end, at the front of starts: it stands behind the last record of the states below.
+// The place of the first record of each state, and of the end, at the front of starts: it stands behind the last record of the states below. Two states a turn,
+// so that one comparison waits for the turn before and not two.
 pub fn run_starts(s: &[u32], starts: &mut [u32])
     requires { ⌜ Accepted (now s) × (stateCount (now s) < length (now starts)) ⌝ }
     ensures { λ r. ⌜ now (starts .exit) ≡ sets (now (starts .entry)) 0 (startsOf (now (s .entry))) ⌝ }
@@ -46,11 +47,18 @@ pub fn run_starts(s: &[u32], starts: &mut [u32])
     mark_ends(&s[first..], &mut ends);
     let mut q: u32 = 0;
     let mut k: u32 = 0;
-    while q <= n {
+    while q < n {
         let p = q as usize;
-        k = greater(k, ends[p]);
-        starts[p] = base + 5 * k;
-        q += 1;
+        let end = ends[p];
+        let next = ends[p + 1];
+        starts[p] = base + 5 * greater(k, end);
+        k = greater(k, greater(end, next));
+        starts[p + 1] = base + 5 * k;
+        q += 2;
+    }
+    if q == n {
+        let p = q as usize;
+        starts[p] = base + 5 * greater(k, ends[p]);
     }
 }
 
