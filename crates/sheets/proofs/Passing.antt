@@ -3,11 +3,11 @@ use Prim.Native.Nat.{ℕ, _+_, _-_, _*_, _≤_, _<_}
 use mathlib.Core.Bool.{Bool, true, false, not, cond, _&&_, or-true}
 use mathlib.Core.List.{List, [], _∷_}
 use mathlib.Core.Logic.{_⊎_, ⊎-elim}
-use mathlib.Core.Path.{_≡_, refl, sym, ap, ap₂, _∙_}
+use mathlib.Core.Path.{_≡_, refl, sym, ap, ap₂, _∙_, subst}
 use native.Mathlib.Nat.{eq-or-lt-of-le}
 use native.Mathlib.Omega.{arith}
 use borrow.Author.Needs.{needs}
-use borrow.Author.Tests.{lt-ltb, le-ltb, ltb-false, lt-leb, le-leb, leb-false, eq-eqb, eqb-true, eqb-false, not-false}
+use borrow.Author.Tests.{lt-ltb, le-ltb, ltb-false, lt-leb, le-leb, leb-false, eq-eqb, ne-eqb, eqb-true, eqb-false, not-false}
 use mir.Syntax.{w32}
 use mir.Val.{Fits}
 use lib.Dec.{ltb, leb, eqb}
@@ -19,7 +19,7 @@ use Rattle.automata.specs.Records.{wordsOf, readRecords}
 use Rattle.automata.specs.inner.Records.{recordAt}
 use Rattle.automata.proofs.Records.{records-at, part-record}
 use Rattle.sheets.specs.Fault.{isBad, recordFault, recordsFault, orElse}
-use Rattle.sheets.specs.inner.Passed.{Keyed, faultBehind, Passed, PassedBelow, rangeKey}
+use Rattle.sheets.specs.inner.Passed.{Keyed, faultBehind, Passed, PassedBelow, rangeKey, rangeKeys}
 use Rattle.sheets.proofs.Checking.{five-words, part-words, in-order}
 use Rattle.sheets.proofs.Meaning.{bad-not, good-not}
 
@@ -185,4 +185,34 @@ module _ (n : ℕ) (t : List ℕ) (from : ℕ) where
         },
       )
 
-pub ruleset belowLaws = (below-begins, below-passed, needs)
+-- two ranges
+module _ (n before : ℕ) (d e : Transition) (k : ℕ) (i : k ≡ rangeKey n before d) where
+  pub keys-none : k ≡ 0 → 0 ≡ rangeKeys n before d e
+  unfolding rangeKeys
+  keys-none z = rw (eq-eqb (rangeKey n before d) 0 (sym i ∙ z))
+
+  pub keys-some : (k ≡ 0 → ⊥) → (r : ℕ) → r ≡ rangeKey n k e → r ≡ rangeKeys n before d e
+  unfolding rangeKeys
+  keys-some z r j = rw (ne-eqb (rangeKey n before d) 0 (λ o. z (i ∙ o))) (j ∙ ap (λ x. rangeKey n x e) i)
+
+module _ (n : ℕ) (t : List ℕ) (from prev : ℕ) (p : PassedBelow n t from prev) (h : 15 ≤ length t - prev) (u : (i : ℕ) → Fits w32 (getD t i 0)) (before : ℕ)
+    (i : before ≡ getD t prev 0 * 4294967296 + getD t (prev + 2) 0) (key : ℕ) (e : key ≡ rangeKeys n before (recordAt t (prev + 5)) (recordAt t (prev + 5 + 5))) (z : key ≡ 0 → ⊥) where
+  both : (eqb (rangeKey n before (recordAt t (prev + 5))) 0 ≡ false) × (key ≡ rangeKey n (rangeKey n before (recordAt t (prev + 5))) (recordAt t (prev + 5 + 5)))
+  unfolding rangeKeys
+  both = some-no (eqb (rangeKey n before (recordAt t (prev + 5))) 0) _ key e z
+
+  pub below-two : (key ≡ getD t (prev + 10) 0 * 4294967296 + getD t (prev + 10 + 2) 0) × PassedBelow n t from (prev + 10)
+  below-two =
+      let first = below-range n t from prev p (omega arith) u before i _ refl (eqb-false _ 0 (both .0)) in
+      let next = below-range n t from (prev + 5) (first .1) (omega arith) u _ (first .0) key (both .1) z in
+      let ten : prev + 5 + 5 ≡ prev + 10 = omega arith in
+      subst (λ (x : ℕ). (key ≡ getD t x 0 * 4294967296 + getD t (x + 2) 0) × PassedBelow n t from x) ten next
+
+-- what passes behind records that pass
+pub pass-further : (n : ℕ) (t : List ℕ) (from far to : ℕ) → PassedBelow n t from far → getD t far 0 < n → Passed n t far to → Passed n t from to
+pass-further n t from far to p l q = record { further = omega (arith, p .further, q .further); within = q .within; same = p .same l ∙ q .same }
+
+pub far-good : (n : ℕ) (t : List ℕ) (from far : ℕ) → PassedBelow n t from far → getD t far 0 < n → isBad n (recordAt t far) ≡ false
+far-good n t from far p l = p .good l
+
+pub ruleset belowLaws = (below-begins, far-good, pass-further, needs)

@@ -10,7 +10,7 @@ ghost use Rattle.automata.specs.Ordered.{less};
 ghost use Rattle.automata.specs.Records.{readRecords};
 ghost use Rattle.automata.specs.inner.Records.{recordAt};
 ghost use Rattle.sheets.specs.inner.Accepted.{Accepted};
-ghost use Rattle.sheets.specs.inner.Passed.{Keyed, Passed, PassedBelow, rangeKey};
+ghost use Rattle.sheets.specs.inner.Passed.{Keyed, Passed, PassedBelow, rangeKey, rangeKeys};
 ghost use Rattle.sheets.specs.Fault.{fault, statesFault, transitionsFault, recordsFault, recordFault, isBad, acceptWords};
 ghost use Rattle.sheets.specs.Checked.{checkedNumber};
 use refusal::InputRefusal;
@@ -153,28 +153,42 @@ fn range_key(n: u32, before: u64, t: &[u32], at: usize) -> u64
     key
 }
 
+// The same of two records, one behind the other: the key of the second.
+fn range_keys(n: u32, before: u64, t: &[u32], at: usize) -> u64
+    requires { ⌜ 10 ≤ length (now t) - at ⌝ }
+    ensures { λ r. ⌜ r ≡ rangeKeys n before (recordAt (now (t .entry)) at) (recordAt (now (t .entry)) (at + 5)) ⌝ }
+{
+    let key = range_key(n, before, t, at);
+    if key == 0 {
+        return 0;
+    }
+    range_key(n, key, t, at + 5)
+}
+
 // The place of a record up to which all behind the one at `from` pass, if it leaves a state below n: states ascend with the keys of ranges, so that the state
-// that the last record leaves tells of all before it.
+// that the last record leaves tells of all before it. Two records a turn; one may be left.
 fn pass_ascending(n: u32, t: &[u32], from: usize) -> usize
     requires { ⌜ (5 ≤ length (now t) - from) × (isBad n (recordAt (now t) from) ≡ false) ⌝ }
     ensures { λ r. ⌜ PassedBelow n (now (t .entry)) from r ⌝ }
 {
     let mut prev = from;
     let mut before = order_key(t[from], t[from + 2]);
-    while 10 <= t.len() - prev {
-        let at = prev + 5;
-        let mut key = range_key(n, before, t, at);
+    while 15 <= t.len() - prev {
+        let key = range_keys(n, before, t, prev + 5);
         if key == 0 {
+            let at = prev + 5;
             if n <= t[prev] {
                 return prev;
             }
             if !passes(n, before, &t[prev..prev + 5], &t[at..at + 5]) {
                 return prev;
             }
-            key = order_key(t[at], t[at + 2]);
+            before = order_key(t[at], t[at + 2]);
+            prev = at;
+        } else {
+            before = key;
+            prev += 10;
         }
-        before = key;
-        prev = at;
     }
     prev
 }
@@ -205,7 +219,7 @@ fn pass_records(n: u32, t: &[u32], from: usize) -> usize
 {
     let far = pass_ascending(n, t, from);
     if t[far] < n {
-        return far;
+        return pass_each(n, t, far);
     }
     pass_each(n, t, from)
 }

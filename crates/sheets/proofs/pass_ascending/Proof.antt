@@ -1,9 +1,10 @@
 -- `pass_ascending` meets its contract: the records up to the one at `prev` pass, if that leaves a state below n.
 use Prim.Native.Nat.{_+_, _-_, _*_}
 use mathlib.Core.Path.{_≡_}
+use native.Mathlib.Omega.{arith}
 use lib.ListN.{length, getD}
 use Rattle.sheets.specs.inner.Passed.{PassedBelow}
-use Rattle.sheets.proofs.Passing.{belowLaws, below-passed, below-range, pass-keyed, pass-long, pass-below}
+use Rattle.sheets.proofs.Passing.{belowLaws, below-passed, below-two, pass-keyed, pass-long, pass-below}
 use Rattle.sheets.proofs.pass_ascending.Statement.{statement}
 use Rattle.sheets.proofs.pass_ascending.Tie as tie
 
@@ -37,11 +38,14 @@ loop-holds c = search belowLaws
 sub-loop : tie.Need-sub-loop Inv-loop μ-loop
 sub-loop c = search belowLaws
 
+add-range-keys : tie.Need-add-range-keys Inv-loop μ-loop
+add-range-keys c = search belowLaws
+
+range-keys-requires : tie.Need-range-keys-requires Inv-loop μ-loop
+range-keys-requires c κs = search belowLaws
+
 add-at : tie.Need-add-at Inv-loop μ-loop
 add-at c = search belowLaws
-
-range-key-requires : tie.Need-range-key-requires Inv-loop μ-loop
-range-key-requires c κs = search belowLaws
 
 mul-if2 : tie.Need-mul-if2 Inv-loop μ-loop
 mul-if2 c = search belowLaws
@@ -88,7 +92,7 @@ passes-requires c κs =
     let more = c .before .before .before .before .before .before .loop-test .taken in
     let within = c .before .before .if2 .left in
     let passed = below-passed _ _ _ _ (turn .1) within in
-    (pass-keyed _ _ _ _ passed more (turn .1 .good within) _ (turn .0), pass-long _ _ _ _ passed more)
+    (pass-keyed _ _ _ _ passed (omega (arith, more)) (turn .1 .good within) _ (turn .0), pass-long _ _ _ _ passed (omega (arith, more)))
 
 returns-2 : tie.Need-returns-2 Inv-loop μ-loop
 returns-2 c = search belowLaws
@@ -119,7 +123,11 @@ loop-again c =
     let passing = c .before .before .before .before in
     let asked = passing .before .before .before in
     let turn = asked .before .before .before .before .before in
-    (c .order-key2 .ensures, pass-below _ _ _ _ (below-passed _ _ _ _ (turn .loop .inv .1) (asked .if2 .left)) (asked .before .before .before .before .loop-test .taken) _ (passing .passes .ensures) (c .before .before .before .if3 .left))
+    let more = asked .before .before .before .before .loop-test .taken in
+    (c .order-key2 .ensures, pass-below _ _ _ _ (below-passed _ _ _ _ (turn .loop .inv .1) (asked .if2 .left)) (omega (arith, more)) _ (passing .passes .ensures) (c .before .before .before .if3 .left))
+
+add-prev : tie.Need-add-prev Inv-loop μ-loop
+add-prev c = search belowLaws
 
 loop-less-2 : tie.Need-loop-less-2 Inv-loop μ-loop
 loop-less-2 c = search belowLaws
@@ -127,7 +135,7 @@ loop-less-2 c = search belowLaws
 loop-again-2 : tie.Need-loop-again-2 Inv-loop μ-loop
 loop-again-2 c =
     let turn = c .before .before .before .loop .inv in
-    below-range _ _ _ _ (turn .1) (c .before .before .loop-test .taken) (c .before .before .before .before .before .shared-slice-known3 .given) _ (turn .0) _ (c .before .range-key .ensures) (c .if1 .left)
+    below-two _ _ _ _ (turn .1) (c .before .before .loop-test .taken) (c .before .before .before .before .before .shared-slice-known3 .given) _ (turn .0) _ (c .before .range-keys .ensures) (c .if1 .left)
 
 returns-3 : tie.Need-returns-3 Inv-loop μ-loop
 returns-3 c = search belowLaws
@@ -146,8 +154,9 @@ pass-ascending-spec =
     order-key-requires
     loop-holds
     sub-loop
+    add-range-keys
+    range-keys-requires
     add-at
-    range-key-requires
     mul-if2
     shared-slice-read-if2
     returns
@@ -171,6 +180,7 @@ pass-ascending-spec =
     order-key-requires-2
     loop-less
     loop-again
+    add-prev
     loop-less-2
     loop-again-2
     returns-3)

@@ -38,3 +38,7 @@ unfoldable pub rangeKey : ℕ → ℕ → Transition → ℕ
 rangeKey n before e =
     cond (eqb (e .kind) 1)
     (cond (ltb (e .last) (e .first)) 0 (cond (leb n (e .to)) 0 (cond (leb (e .from * 4294967296 + e .first) before) 0 (e .from * 4294967296 + e .first)))) 0
+
+-- the same of two ranges, one behind the other: the key of the second
+unfoldable pub rangeKeys : ℕ → ℕ → Transition → Transition → ℕ
+rangeKeys n before d e = cond (eqb (rangeKey n before d) 0) 0 (rangeKey n (rangeKey n before d) e)
