@@ -44,22 +44,22 @@ unmet-less (x ∷ marks) (suc t) l h = go (eqb x 0) (unmet-less marks t (omega a
     go true e = ap suc e
     go false e = e
 
--- the targets of the records before `at` were met
-pub record Passed (run marks : List ℕ) (at : ℕ) : Type 0 where
-  pub among : (e : Transition) → e ∈ readRecords (drop at run) → e ∈ readRecords run
-  pub before : (e : Transition) → e ∈ readRecords run → Marked marks (e .to) ⊎ (e ∈ readRecords (drop at run))
+-- of the records from the place `from` on, the targets of those before `at` were met
+pub record Passed (run : List ℕ) (from : ℕ) (marks : List ℕ) (at : ℕ) : Type 0 where
+  pub among : (e : Transition) → e ∈ readRecords (drop at run) → e ∈ readRecords (drop from run)
+  pub before : (e : Transition) → e ∈ readRecords (drop from run) → Marked marks (e .to) ⊎ (e ∈ readRecords (drop at run))
 
-pub skip-begins : (run marks : List ℕ) → Passed run marks 0
-skip-begins run marks = record { among = λ e m. m; before = λ e m. inr m }
+pub skip-begins : (run : List ℕ) (from : ℕ) (marks : List ℕ) → Passed run from marks from
+skip-begins run from marks = record { among = λ e m. m; before = λ e m. inr m }
 
-module _ (run marks : List ℕ) (at : ℕ) (p : Passed run marks at) where
-  pub skip-ended : at ≤ length run → length run - at < 5 → Skipped run marks at
+module _ (run : List ℕ) (from : ℕ) (marks : List ℕ) (at : ℕ) (p : Passed run from marks at) where
+  pub skip-ended : at ≤ length run → length run - at < 5 → Skipped run from marks at
   skip-ended l h = record { within = l; among = p .among; before = p .before; here = λ m. absurd (omega arith) }
 
-  pub skip-found : at ≤ length run → getD marks (getD run (at + 4) 0) 0 ≡ 0 → Skipped run marks at
+  pub skip-found : at ≤ length run → getD marks (getD run (at + 4) 0) 0 ≡ 0 → Skipped run from marks at
   skip-found l z = record { within = l; among = p .among; before = p .before; here = λ m. z }
 
-  pub skip-next : 5 ≤ length run - at → (getD marks (getD run (at + 4) 0) 0 ≡ 0 → ⊥) → Passed run marks (at + 5)
+  pub skip-next : 5 ≤ length run - at → (getD marks (getD run (at + 4) 0) 0 ≡ 0 → ⊥) → Passed run from marks (at + 5)
   skip-next h z =
       record {
         among = λ e m. p .among e (rw (records-at run at h) (List·Memᴰ·tail m));
@@ -156,8 +156,8 @@ module _ (marks stack : List ℕ) (top : ℕ) (es : List Transition) (d : Transi
             le-of k = omega arith
 
 -- a run, record by record
-pub push-begins : (marks stack run : List ℕ) (top : ℕ) → StackRoom marks stack top → Pushed marks stack top (readRecords run) (readRecords (drop 0 run)) marks stack top
-push-begins marks stack run top r =
+pub push-begins : (marks stack run : List ℕ) (from top : ℕ) → StackRoom marks stack top → Pushed marks stack top (readRecords (drop from run)) (readRecords (drop from run)) marks stack top
+push-begins marks stack run from top r =
     record {
       room = r;
       grows = omega arith;
@@ -171,23 +171,23 @@ push-begins marks stack run top r =
       entered = λ j a b. absurd (omega arith);
     }
 
-module _ (marks stack run : List ℕ) (top : ℕ) where
-  pub push-ended : (at : ℕ) (m s : List ℕ) (e : ℕ) → Pushed marks stack top (readRecords run) (readRecords (drop at run)) m s e → length run - at < 5
-      → Pushed marks stack top (readRecords run) [] m s e
-  push-ended at m s e p h = subst (λ (ds : List Transition). Pushed marks stack top (readRecords run) ds m s e) (records-end run at h) p
+module _ (marks stack run : List ℕ) (from top : ℕ) where
+  pub push-ended : (at : ℕ) (m s : List ℕ) (e : ℕ) → Pushed marks stack top (readRecords (drop from run)) (readRecords (drop at run)) m s e → length run - at < 5
+      → Pushed marks stack top (readRecords (drop from run)) [] m s e
+  push-ended at m s e p h = subst (λ (ds : List Transition). Pushed marks stack top (readRecords (drop from run)) ds m s e) (records-end run at h) p
 
-  module _ (at : ℕ) (m s : List ℕ) (e : ℕ) (p : Pushed marks stack top (readRecords run) (readRecords (drop at run)) m s e)
+  module _ (at : ℕ) (m s : List ℕ) (e : ℕ) (p : Pushed marks stack top (readRecords (drop from run)) (readRecords (drop at run)) m s e)
       (n : Named (readRecords (drop at run))) (h : 5 ≤ length run - at) where
-    here : Pushed marks stack top (readRecords run) (recordAt run at ∷ readRecords (drop (at + 5) run)) m s e
-    here = subst (λ (ds : List Transition). Pushed marks stack top (readRecords run) ds m s e) (records-at run at h) p
+    here : Pushed marks stack top (readRecords (drop from run)) (recordAt run at ∷ readRecords (drop (at + 5) run)) m s e
+    here = subst (λ (ds : List Transition). Pushed marks stack top (readRecords (drop from run)) ds m s e) (records-at run at h) p
 
     push-next : (m′ s′ : List ℕ) (e′ : ℕ) → PushedState m s e (getD run (at + 4) 0) m′ s′ e′
-        → Pushed marks stack top (readRecords run) (readRecords (drop (at + 5) run)) m′ s′ e′
-    push-next _ _ _ (was-met z) = pushed-met marks stack top (readRecords run) (recordAt run at) _ m s e here (omega (arith, z))
-    push-next _ _ _ (was-unmet z) = pushed-new marks stack top (readRecords run) (recordAt run at) _ m s e here (named-target run at n h) z
+        → Pushed marks stack top (readRecords (drop from run)) (readRecords (drop (at + 5) run)) m′ s′ e′
+    push-next _ _ _ (was-met z) = pushed-met marks stack top (readRecords (drop from run)) (recordAt run at) _ m s e here (omega (arith, z))
+    push-next _ _ _ (was-unmet z) = pushed-new marks stack top (readRecords (drop from run)) (recordAt run at) _ m s e here (named-target run at n h) z
 
     pub push-last : length run - at < 10 → (m′ s′ : List ℕ) (e′ : ℕ) → PushedState m s e (getD run (at + 4) 0) m′ s′ e′
-        → Pushed marks stack top (readRecords run) [] m′ s′ e′
+        → Pushed marks stack top (readRecords (drop from run)) [] m′ s′ e′
     push-last l m′ s′ e′ a = push-ended (at + 5) m′ s′ e′ (push-next m′ s′ e′ a) (omega arith)
 
 -- two records of the run
@@ -210,20 +210,20 @@ module _ (run : List ℕ) (at : ℕ) (n : Named (readRecords (drop at run))) (h 
   pub named-two : Named (readRecords (drop (at + 10) run))
   named-two = rw ten at (named-next run (at + 5) named-second (omega arith))
 
-  module _ (marks stack : List ℕ) (top : ℕ) (m s : List ℕ) (e : ℕ) (p : Pushed marks stack top (readRecords run) (readRecords (drop at run)) m s e) where
+  module _ (marks stack : List ℕ) (from top : ℕ) (m s : List ℕ) (e : ℕ) (p : Pushed marks stack top (readRecords (drop from run)) (readRecords (drop at run)) m s e) where
     module _ (m′ s′ : List ℕ) (e′ : ℕ) (a : PushedState m s e (getD run (at + 4) 0) m′ s′ e′) where
-      first : Pushed marks stack top (readRecords run) (readRecords (drop (at + 5) run)) m′ s′ e′
-      first = push-next marks stack run top at m s e p n (omega arith) m′ s′ e′ a
+      first : Pushed marks stack top (readRecords (drop from run)) (readRecords (drop (at + 5) run)) m′ s′ e′
+      first = push-next marks stack run from top at m s e p n (omega arith) m′ s′ e′ a
 
       pub push-second-room : StackRoom m′ s′ e′
       push-second-room = first .room
 
       pub push-two : (m″ s″ : List ℕ) (e″ : ℕ) → PushedState m′ s′ e′ (getD run (at + 9) 0) m″ s″ e″
-          → Pushed marks stack top (readRecords run) (readRecords (drop (at + 10) run)) m″ s″ e″
-      push-two m″ s″ e″ b = rw ten at (push-next marks stack run top (at + 5) m′ s′ e′ first named-second (omega arith) m″ s″ e″ (rw nine b))
+          → Pushed marks stack top (readRecords (drop from run)) (readRecords (drop (at + 10) run)) m″ s″ e″
+      push-two m″ s″ e″ b = rw ten at (push-next marks stack run from top (at + 5) m′ s′ e′ first named-second (omega arith) m″ s″ e″ (rw nine b))
 
     pub push-none : (bitAnd (getD m (getD run (at + 4) 0) 0) (getD m (getD run (at + 9) 0) 0) ≡ 0 → ⊥)
-        → Pushed marks stack top (readRecords run) (readRecords (drop (at + 10) run)) m s e
+        → Pushed marks stack top (readRecords (drop from run)) (readRecords (drop (at + 10) run)) m s e
     push-none z = push-two m s e (was-met (λ o. z (omega (arith, and-le-l x y)))) m s e (was-met (λ o. z (omega (arith, and-le-r x y))))
       where
         x : ℕ

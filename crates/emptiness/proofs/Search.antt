@@ -9,10 +9,10 @@ use native.Mathlib.Omega.{arith}
 use borrow.Author.Needs.{needs}
 use borrow.Author.Tests.{eq-eqb, eqb-true, leb-true, leb-false}
 use lib.Dec.{eqb, leb}
-use lib.ListN.{length, getD, take, drop, set, length-set}
+use lib.ListN.{length, getD, take, drop, set, length-set, length-take}
+use lib.Seq.{take-add, drop-at, length-take-le}
 use Rattle.lists.specs.Lists.{_∈_}
 use Rattle.lists.proofs.Lists.{filter-in, filter-out, length-filter}
-use Rattle.lists.proofs.Parts.{part-all}
 use Rattle.lists.proofs.Tests.{test}
 use Rattle.automata.specs.Automaton.{Transition, Automaton, InBounds, leaving}
 use Rattle.automata.specs.Records.{readRecords, writeRecords}
@@ -64,28 +64,57 @@ module _ (s : List ℕ) (a : Accepted s) (marks stack : List ℕ) (top q : ℕ) 
   pub state-bound : q < stateCount s
   state-bound = path-bound ok (ok .starts) way
 
-  pub state-run : (starts old line : List ℕ) → UnmarkedSearch s starts old line → RunAt s starts q
-  state-run starts old line r = run-at s a starts q (r .indexed) state-bound
+  -- its records are the last of those before the place where they end
+  module _ (starts old line : List ℕ) (r : UnmarkedSearch s starts old line) where
+    runs : RunAt s starts q
+    runs = run-at s a starts q (r .indexed) state-bound
+
+    pub run-known : q + 1 < length starts
+    run-known = runs .known
+
+    pub run-ordered : getD starts q 0 ≤ getD starts (q + 1) 0
+    run-ordered = runs .ordered
+
+    pub run-within : getD starts (q + 1) 0 ≤ length s
+    run-within = runs .within
+
+    pub run-few : getD starts (q + 1) 0 ≤ 10500
+    run-few = omega (arith, runs .within, a .whole, a .few-states, a .few-records)
+
+    pub run-short : length (take (getD starts (q + 1) 0 - 0) (drop 0 s)) ≤ 10500
+    run-short = simp length-take (omega (arith, run-few))
+
+    pub run-records : drop (getD starts q 0) (take (getD starts (q + 1) 0 - 0) (drop 0 s)) ≡ writeRecords (leaving (read s) q)
+    run-records =
+        let z : getD starts (q + 1) 0 - 0 ≡ getD starts q 0 + (getD starts (q + 1) 0 - getD starts q 0) = omega (arith, runs .ordered) in
+        ap (λ (n : ℕ). drop (getD starts q 0) (take n s)) z ∙ ap (drop (getD starts q 0)) (take-add (getD starts q 0) (getD starts (q + 1) 0 - getD starts q 0) s)
+        ∙ drop-at (take (getD starts q 0) s) (take (getD starts (q + 1) 0 - getD starts q 0) (drop (getD starts q 0) s)) (getD starts q 0) (length-take-le (getD starts q 0) s (omega (arith, runs .ordered, runs .within))) ∙ runs .words
+
+    pub run-asked : (getD starts q 0 ≤ length (take (getD starts (q + 1) 0 - 0) (drop 0 s))) × Named (readRecords (drop (getD starts q 0) (take (getD starts (q + 1) 0 - 0) (drop 0 s))))
+    run-asked = (
+      simp length-take (omega (arith, runs .ordered, runs .within)),
+      run-named s a q _ run-records,
+    )
 
   -- a state that accepts is found
   pub state-accepts : (w : ℕ) → w ≡ getD (read s .accept) q 0 → 0 < w → true ≡ hasReachableAccepting (read s)
   state-accepts w e h = sym (accepting-paths (read s) ok .1 (q, way, omega (arith, e)))
 
-  module _ (w : ℕ) (we : w ≡ getD (read s .accept) q 0) (wz : w ≤ 0) (run : List ℕ) (e : run ≡ writeRecords (leaving (read s) q)) (at : ℕ)
-      (k : Skipped run marks at) where
-    records : readRecords run ≡ leaving (read s) q
+  module _ (w : ℕ) (we : w ≡ getD (read s .accept) q 0) (wz : w ≤ 0) (run : List ℕ) (from : ℕ) (e : drop from run ≡ writeRecords (leaving (read s) q)) (at : ℕ)
+      (k : Skipped run from marks at) where
+    records : readRecords (drop from run) ≡ leaving (read s) q
     records = ap readRecords e ∙ read-write (leaving (read s) q)
 
-    run-in : (d : Transition) → d ∈ read s .transitions → d .from ≡ q → d ∈ readRecords run
+    run-in : (d : Transition) → d ∈ read s .transitions → d .from ≡ q → d ∈ readRecords (drop from run)
     unfolding leaving
     run-in d i f = rw records (filter-in _ i (eq-eqb (d .from) q f))
 
-    run-out : (d : Transition) → d ∈ readRecords run → Path (read s) (getD s 1 0) (d .to)
+    run-out : (d : Transition) → d ∈ readRecords (drop from run) → Path (read s) (getD s 1 0) (d .to)
     unfolding leaving
     run-out d i = let r = filter-out _ d (read s .transitions) (rw records at i) in path-more way d (r .0) (eqb-true _ _ (r .1))
 
-    names : Named (readRecords run)
-    names = run-named s a q run e
+    names : Named (readRecords (drop from run))
+    names = run-named s a q (drop from run) e
 
     -- no target of the state is left
     module _ (h : length run - at < 5) where
@@ -132,8 +161,8 @@ module _ (s : List ℕ) (a : Accepted s) (marks stack : List ℕ) (top q : ℕ) 
       left : Named (readRecords (drop at run))
       left = record { froms = λ d m. names .froms d (k .among d m); tos = λ d m. names .tos d (k .among d m) }
 
-      behind : (d : Transition) → d ∈ readRecords (take (length run - (at + 5)) (drop (at + 5) run)) → d ∈ readRecords run
-      behind d m = k .among d (rw (records-at run at h) (List·Memᴰ·tail (rw (part-all (at + 5) run) at m)))
+      behind : (d : Transition) → d ∈ readRecords (drop (at + 5) run) → d ∈ readRecords (drop from run)
+      behind d m = k .among d (rw (records-at run at h) (List·Memᴰ·tail m))
 
       next-bound : getD run (at + 4) 0 < 256
       next-bound = named-target run at left h
@@ -144,17 +173,17 @@ module _ (s : List ℕ) (a : Accepted s) (marks stack : List ℕ) (top q : ℕ) 
       next-fewer : suc (unmet (set marks (getD run (at + 4) 0) 1)) ≡ unmet marks
       next-fewer = unmet-less marks (getD run (at + 4) 0) next-inside (k .here h)
 
-      next-named : Named (readRecords (take (length run - (at + 5)) (drop (at + 5) run)))
-      next-named = subst (λ (l : List ℕ). Named (readRecords l)) (sym (part-all (at + 5) run)) (named-next run at left h)
+      next-named : Named (readRecords (drop (at + 5) run))
+      next-named = named-next run at left h
 
       next-room : StackRoom (set marks (getD run (at + 4) 0) 1) stack top
       next-room = record { wide = length-set marks _ 1 ∙ t .room .wide; long = t .room .long; enough = omega (arith, t .room .enough, next-fewer) }
 
-      pub next-asked : Named (readRecords (take (length run - (at + 5)) (drop (at + 5) run))) × StackRoom (set marks (getD run (at + 4) 0) 1) stack top
-      next-asked = (next-named, next-room)
+      pub next-asked : (at + 5 ≤ length run) × Named (readRecords (drop (at + 5) run)) × StackRoom (set marks (getD run (at + 4) 0) 1) stack top
+      next-asked = (omega arith, next-named, next-room)
 
       module _ (after line : List ℕ) (end : ℕ)
-          (p : Pushed (set marks (getD run (at + 4) 0) 1) stack top (readRecords (take (length run - (at + 5)) (drop (at + 5) run))) [] after line end) where
+          (p : Pushed (set marks (getD run (at + 4) 0) 1) stack top (readRecords (drop (at + 5) run)) [] after line end) where
         pub next-less : 2 * unmet after + end < 2 * unmet marks + top
         next-less = omega (arith, p .total, p .grows, next-fewer)
 
@@ -172,7 +201,7 @@ module _ (s : List ℕ) (a : Accepted s) (marks stack : List ℕ) (top q : ℕ) 
           where
             one : (d : Transition) → d ∈ (recordAt run at ∷ readRecords (drop (at + 5) run)) → Marked after (d .to)
             one d (List·Memᴰ·head c) = subst (λ (x : Transition). Marked after (x .to)) (sym c) this
-            one d (List·Memᴰ·tail i) = ⊎-elim (λ m. m) (λ m. elim m [ ]) (p .targets d (rw (part-all (at + 5) run) i))
+            one d (List·Memᴰ·tail i) = ⊎-elim (λ m. m) (λ m. elim m [ ]) (p .targets d i)
 
         pub search-next : Searched (read s) after line end (getD run (at + 4) 0)
         search-next =
@@ -228,4 +257,4 @@ search-begin s starts marks stack r =
     only : (x : ℕ) → Marked (set marks (getD s 1 0) 1) x → x ≡ getD s 1 0
     only = start-only s (r .accepted) marks (r .unmarked)
 
-pub ruleset searchLaws = (run-named, state-bound, state-run, state-accepts, start-inside, search-begin, needs)
+pub ruleset searchLaws = (run-known, run-within, state-bound, state-accepts, start-inside, search-begin, needs)

@@ -1,10 +1,10 @@
 // Emptiness: whether a state that accepts is reached from the start. The records ascend by the states that they leave, so one pass over them follows all
 // transitions that lead upward, and one from the last back to the first all that lead downward. Where neither pass decides, a search does: it marks each
 // state that it meets, follows its transitions once, and ends at the first state that accepts.
-ghost use Prim.Native.Nat.{_<_};
+ghost use Prim.Native.Nat.{_≤_, _<_};
 ghost use mathlib.Core.List.{[]};
 ghost use mathlib.Core.Path.{_≡_};
-ghost use lib.ListN.{length};
+ghost use lib.ListN.{length, drop};
 ghost use Rattle.automata.specs.Records.{readRecords};
 ghost use Rattle.refusal.specs.Decision.{decisionOf};
 ghost use Rattle.sheets.specs.inner.Accepted.{Accepted};
@@ -109,14 +109,14 @@ fn decide_by_passes(s: &[u32], marks: &mut [u8]) -> Pass
     pass_down(s, marks)
 }
 
-// Where the first record of the run stands whose target was not met; a place with no record behind it, if there is none.
-fn first_unmet(run: &[u32], marks: &[u8]) -> usize
-    requires { ⌜ Named (readRecords (now run)) × (length (now marks) ≡ 256) ⌝ }
-    ensures { λ at. ⌜ Skipped (now (run .entry)) (now (marks .entry)) at ⌝ }
+// Where the first of the records from the place `from` on stands whose target was not met; a place with no record behind it, if there is none.
+fn first_unmet(t: &[u32], from: usize, marks: &[u8]) -> usize
+    requires { ⌜ (from ≤ length (now t)) × Named (readRecords (drop from (now t))) × (length (now marks) ≡ 256) ⌝ }
+    ensures { λ at. ⌜ Skipped (now (t .entry)) from (now (marks .entry)) at ⌝ }
 {
-    let mut at: usize = 0;
-    while 5 <= run.len() - at {
-        if marks[run[at + 4] as usize] == 0 {
+    let mut at = from;
+    while 5 <= t.len() - at {
+        if marks[t[at + 4] as usize] == 0 {
             return at;
         }
         at += 5;
@@ -138,30 +138,31 @@ fn push_state(t: u32, marks: &mut [u8], stack: &mut [u32], top: usize) -> usize
     top + 1
 }
 
-// The targets of the run that were not met are marked and put on the stack. The answer is the stack's end. Two records are asked at a time, since most
-// targets were met.
-fn push_unmet(run: &[u32], marks: &mut [u8], stack: &mut [u32], top: usize) -> usize
-    requires { ⌜ Named (readRecords (now run)) × StackRoom (now marks) (now stack) top ⌝ }
-    ensures { λ e. ⌜ Pushed (now (marks .entry)) (now (stack .entry)) top (readRecords (now (run .entry))) [] (now (marks .exit)) (now (stack .exit)) e ⌝ }
+// The targets of the records from the place `from` on that were not met are marked and put on the stack. The answer is the stack's end. Two records are asked
+// at a time, since most targets were met.
+fn push_unmet(t: &[u32], from: usize, marks: &mut [u8], stack: &mut [u32], top: usize) -> usize
+    requires { ⌜ (from ≤ length (now t)) × Named (readRecords (drop from (now t))) × StackRoom (now marks) (now stack) top ⌝ }
+    ensures { λ e. ⌜ Pushed (now (marks .entry)) (now (stack .entry)) top (readRecords (drop from (now (t .entry)))) [] (now (marks .exit)) (now (stack .exit)) e ⌝ }
 {
     let mut e = top;
-    let mut at: usize = 0;
-    while 10 <= run.len() - at {
-        let t = run[at + 4];
-        let u = run[at + 9];
+    let mut at = from;
+    while 10 <= t.len() - at {
+        let p = t[at + 4];
+        let q = t[at + 9];
         at += 10;
-        if marks[t as usize] & marks[u as usize] == 0 {
-            e = push_state(t, marks, stack, e);
-            e = push_state(u, marks, stack, e);
+        if marks[p as usize] & marks[q as usize] == 0 {
+            e = push_state(p, marks, stack, e);
+            e = push_state(q, marks, stack, e);
         }
     }
-    if 5 <= run.len() - at {
-        return push_state(run[at + 4], marks, stack, e);
+    if 5 <= t.len() - at {
+        return push_state(t[at + 4], marks, stack, e);
     }
     e
 }
 
-// Whether a state that accepts is met, from the start on. A state's first unmet target is followed next, without the stack.
+// Whether a state that accepts is met, from the start on. A state's first unmet target is followed next, without the stack. A state's records are the last of
+// the sheet up to where they end.
 fn explore(s: &[u32], starts: &[u32], marks: &mut [u8], stack: &mut [u32]) -> bool
     requires { ⌜ UnmarkedSearch (now s) (now starts) (now marks) (now stack) ⌝ }
     ensures { λ r. ⌜ r ≡ hasReachableAccepting (read (now (s .entry))) ⌝ }
@@ -173,12 +174,14 @@ fn explore(s: &[u32], starts: &[u32], marks: &mut [u8], stack: &mut [u32]) -> bo
         if 0 < sheets::accept_word(s, q) {
             return true;
         }
-        let run = sheets::run(s, starts, q);
-        let at = first_unmet(run, marks);
-        if 5 <= run.len() - at {
-            q = run[at + 4];
+        let p = q as usize;
+        let end = starts[p + 1] as usize;
+        let t = &s[0..end];
+        let at = first_unmet(t, starts[p] as usize, marks);
+        if 5 <= t.len() - at {
+            q = t[at + 4];
             marks[q as usize] = 1;
-            top = push_unmet(&run[at + 5..], marks, stack, top);
+            top = push_unmet(t, at + 5, marks, stack, top);
         } else {
             if top == 0 {
                 return false;

@@ -9,10 +9,10 @@ use Rattle.emptiness.proofs.first_unmet.Statement.{statement}
 use Rattle.emptiness.proofs.first_unmet.Tie as tie
 
 abbrev Inv-loop : tie.InvT-loop
-Inv-loop run marks at₀ at = (at ≤ length run) × Named (readRecords (drop at run)) × Passed run marks at
+Inv-loop t from marks at₀ at = (at ≤ length t) × Named (readRecords (drop at t)) × Passed t from marks at
 
 abbrev μ-loop : tie.MeasureT-loop
-μ-loop run marks at₀ at = length run - at
+μ-loop t from marks at₀ at = length t - at
 
 pub first-unmet-spec : {M : Type 1} → statement M
 first-unmet-spec =

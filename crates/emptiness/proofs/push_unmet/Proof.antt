@@ -10,11 +10,11 @@ use Rattle.emptiness.proofs.push_unmet.Statement.{statement}
 use Rattle.emptiness.proofs.push_unmet.Tie as tie
 
 abbrev Inv-loop : tie.InvT-loop
-Inv-loop run marks₀ stack₀ top e₀ at₀ marks stack e at =
-    (at ≤ length run) × Named (readRecords (drop at run)) × Pushed marks₀ stack₀ top (readRecords run) (readRecords (drop at run)) marks stack e
+Inv-loop t from marks₀ stack₀ top e₀ at₀ marks stack e at =
+    (at ≤ length t) × Named (readRecords (drop at t)) × Pushed marks₀ stack₀ top (readRecords (drop from t)) (readRecords (drop at t)) marks stack e
 
 abbrev μ-loop : tie.MeasureT-loop
-μ-loop run marks₀ stack₀ top e₀ at₀ marks stack e at = length run - at
+μ-loop t from marks₀ stack₀ top e₀ at₀ marks stack e at = length t - at
 
 loop-holds : tie.Need-loop-holds Inv-loop μ-loop
 loop-holds c = search pushLaws
@@ -22,23 +22,23 @@ loop-holds c = search pushLaws
 sub-loop : tie.Need-sub-loop Inv-loop μ-loop
 sub-loop c = search pushLaws
 
-add-t : tie.Need-add-t Inv-loop μ-loop
-add-t c = search pushLaws
+add-p : tie.Need-add-p Inv-loop μ-loop
+add-p c = search pushLaws
 
-mul-t : tie.Need-mul-t Inv-loop μ-loop
-mul-t c = search pushLaws
+mul-p : tie.Need-mul-p Inv-loop μ-loop
+mul-p c = search pushLaws
 
-shared-slice-read-t : tie.Need-shared-slice-read-t Inv-loop μ-loop
-shared-slice-read-t c = search pushLaws
+shared-slice-read-p : tie.Need-shared-slice-read-p Inv-loop μ-loop
+shared-slice-read-p c = search pushLaws
 
-add-u : tie.Need-add-u Inv-loop μ-loop
-add-u c = search pushLaws
+add-q : tie.Need-add-q Inv-loop μ-loop
+add-q c = search pushLaws
 
-mul-u : tie.Need-mul-u Inv-loop μ-loop
-mul-u c = search pushLaws
+mul-q : tie.Need-mul-q Inv-loop μ-loop
+mul-q c = search pushLaws
 
-shared-slice-read-u : tie.Need-shared-slice-read-u Inv-loop μ-loop
-shared-slice-read-u c = search pushLaws
+shared-slice-read-q : tie.Need-shared-slice-read-q Inv-loop μ-loop
+shared-slice-read-q c = search pushLaws
 
 add-at : tie.Need-add-at Inv-loop μ-loop
 add-at c = search pushLaws
@@ -69,7 +69,8 @@ loop-again c =
     let second = c .before .before .before .before in
     let first = second .before .before .before .before .before .before .before in
     let turn = first .before .before .before .before .before .before .before .before in
-    (search pushLaws, search pushLaws, push-two _ _ (turn .before .loop .inv .1) (turn .loop-test .taken) _ _ _ _ _ _ (turn .before .loop .inv .2) _ _ _ (first .push-state .ensures) _ _ _ (second .push-state2 .ensures))
+    let args = turn .before .before .before .before .before .args in
+    (search pushLaws, search pushLaws, push-two (args .t .now) (turn .before .loop .at) (turn .before .loop .inv .1) (turn .loop-test .taken) _ _ (args .from) _ _ _ _ (turn .before .loop .inv .2) _ _ _ (first .push-state .ensures) _ _ _ (second .push-state2 .ensures))
 
 loop-less-2 : tie.Need-loop-less-2 Inv-loop μ-loop
 loop-less-2 c = search pushLaws
@@ -118,12 +119,12 @@ push-unmet-spec =
     μ-loop
     loop-holds
     sub-loop
-    add-t
-    mul-t
-    shared-slice-read-t
-    add-u
-    mul-u
-    shared-slice-read-u
+    add-p
+    mul-p
+    shared-slice-read-p
+    add-q
+    mul-q
+    shared-slice-read-q
     add-at
     cast-if1
     slice-read-if1

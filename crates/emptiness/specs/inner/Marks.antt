@@ -25,12 +25,12 @@ pub record Unmarked (marks : List ℕ) : Type 0 where
 unfoldable pub unmet : List ℕ → ℕ
 unmet marks = length (filter (λ x. eqb x 0) marks)
 
--- the targets of the records before `at` were met, and that of the record there was not
-pub record Skipped (run marks : List ℕ) (at : ℕ) : Type 0 where
-  pub within : at ≤ length run
-  pub among : (e : Transition) → e ∈ readRecords (drop at run) → e ∈ readRecords run
-  pub before : (e : Transition) → e ∈ readRecords run → Marked marks (e .to) ⊎ (e ∈ readRecords (drop at run))
-  pub here : 5 ≤ length run - at → getD marks (getD run (at + 4) 0) 0 ≡ 0
+-- of the records from the place `from` on, the targets of those before `at` were met, and that of the record there was not
+pub record Skipped (t : List ℕ) (from : ℕ) (marks : List ℕ) (at : ℕ) : Type 0 where
+  pub within : at ≤ length t
+  pub among : (e : Transition) → e ∈ readRecords (drop at t) → e ∈ readRecords (drop from t)
+  pub before : (e : Transition) → e ∈ readRecords (drop from t) → Marked marks (e .to) ⊎ (e ∈ readRecords (drop at t))
+  pub here : 5 ≤ length t - at → getD marks (getD t (at + 4) 0) 0 ≡ 0
 
 -- the stack has room for each state that was not met
 pub record StackRoom (marks stack : List ℕ) (top : ℕ) : Type 0 where
