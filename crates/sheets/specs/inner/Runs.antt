@@ -8,9 +8,9 @@ use lib.Seq.{sets}
 use Rattle.lists.specs.Lists.{_∈_, filter, tabulate, Ascending}
 use Rattle.automata.specs.Automaton.{Transition, leaving}
 use Rattle.automata.specs.Records.{readRecords, writeRecords}
-use Rattle.automata.specs.WellFormed.{mostStates, mostTransitions}
+use Rattle.automata.specs.WellFormed.{mostStates}
 use Rattle.sheets.specs.Sheet.{stateCount, recordsAt, read}
-use Rattle.sheets.specs.inner.Accepted.{recordCount, Accepted}
+use Rattle.sheets.specs.inner.Accepted.{Accepted}
 
 -- how many of the transitions leave a state below q
 unfoldable pub below : ℕ → List Transition → ℕ
