@@ -110,14 +110,18 @@ sub-if2 c = search searchLaws
 add-q : tie.Need-add-q Inv-loop μ-loop
 add-q c =
     let found = c .before in
-    let turn = found .before .before .before .before .before .before .before in
+    let rejected = found .before .before .before .before .before in
+    let word = rejected .before in
+    let turn = word .before in
     let pre = turn .before .before .before .before .before .before .pre in
     omega (arith, found .first-unmet .ensures .within, run-short _ (pre .accepted) _ _ _ _ (turn .loop .inv) _ _ _ pre)
 
 mul-q : tie.Need-mul-q Inv-loop μ-loop
 mul-q c =
     let found = c .before in
-    let turn = found .before .before .before .before .before .before .before in
+    let rejected = found .before .before .before .before .before in
+    let word = rejected .before in
+    let turn = word .before in
     let pre = turn .before .before .before .before .before .before .pre in
     omega (arith, found .first-unmet .ensures .within, run-short _ (pre .accepted) _ _ _ _ (turn .loop .inv) _ _ _ pre)
 
@@ -127,49 +131,61 @@ shared-slice-read-q-2 c = search searchLaws
 cast-marks-2 : tie.Need-cast-marks-2 Inv-loop μ-loop
 cast-marks-2 c =
     let found = c .before .before in
-    let turn = found .before .before .before .before .before .before .before in
+    let rejected = found .before .before .before .before .before in
+    let word = rejected .before in
+    let turn = word .before in
     let pre = turn .before .before .before .before .before .before .pre in
     let records = run-records _ (pre .accepted) _ _ _ _ (turn .loop .inv) _ _ _ pre in
-    omega (arith, next-inside _ (pre .accepted) _ _ _ _ (turn .loop .inv) _ (found .before .before .before .before .before .before .accept-word .ensures) (found .before .before .before .before .before .if1 .left) _ _ records _ (found .first-unmet .ensures) (c .before .if2 .taken), turn .loop .inv .room .wide)
+    omega (arith, next-inside _ (pre .accepted) _ _ _ _ (turn .loop .inv) _ (word .accept-word .ensures) (rejected .if1 .left) _ _ records _ (found .first-unmet .ensures) (c .before .if2 .taken), turn .loop .inv .room .wide)
 
 slice-write-marks-2 : tie.Need-slice-write-marks-2 Inv-loop μ-loop
 slice-write-marks-2 c =
     let found = c .before .before in
-    let turn = found .before .before .before .before .before .before .before in
+    let rejected = found .before .before .before .before .before in
+    let word = rejected .before in
+    let turn = word .before in
     let pre = turn .before .before .before .before .before .before .pre in
     let records = run-records _ (pre .accepted) _ _ _ _ (turn .loop .inv) _ _ _ pre in
-    next-inside _ (pre .accepted) _ _ _ _ (turn .loop .inv) _ (found .before .before .before .before .before .before .accept-word .ensures) (found .before .before .before .before .before .if1 .left) _ _ records _ (found .first-unmet .ensures) (c .before .if2 .taken)
+    next-inside _ (pre .accepted) _ _ _ _ (turn .loop .inv) _ (word .accept-word .ensures) (rejected .if1 .left) _ _ records _ (found .first-unmet .ensures) (c .before .if2 .taken)
 
 add-push-unmet : tie.Need-add-push-unmet Inv-loop μ-loop
 add-push-unmet c =
     let found = c .before .before in
-    let turn = found .before .before .before .before .before .before .before in
+    let rejected = found .before .before .before .before .before in
+    let word = rejected .before in
+    let turn = word .before in
     let pre = turn .before .before .before .before .before .before .pre in
     omega (arith, found .first-unmet .ensures .within, run-short _ (pre .accepted) _ _ _ _ (turn .loop .inv) _ _ _ pre)
 
 push-unmet-requires : tie.Need-push-unmet-requires Inv-loop μ-loop
 push-unmet-requires c κs =
     let found = c .before .before .before .before in
-    let turn = found .before .before .before .before .before .before .before in
+    let rejected = found .before .before .before .before .before in
+    let word = rejected .before in
+    let turn = word .before in
     let pre = turn .before .before .before .before .before .before .pre in
     let records = run-records _ (pre .accepted) _ _ _ _ (turn .loop .inv) _ _ _ pre in
-    next-asked _ (pre .accepted) _ _ _ _ (turn .loop .inv) _ (found .before .before .before .before .before .before .accept-word .ensures) (found .before .before .before .before .before .if1 .left) _ _ records _ (found .first-unmet .ensures) (c .before .before .before .if2 .taken)
+    next-asked _ (pre .accepted) _ _ _ _ (turn .loop .inv) _ (word .accept-word .ensures) (rejected .if1 .left) _ _ records _ (found .first-unmet .ensures) (c .before .before .before .if2 .taken)
 
 loop-less : tie.Need-loop-less Inv-loop μ-loop
 loop-less c =
     let found = c .before .before .before .before .before .before .before .before .before in
-    let turn = found .before .before .before .before .before .before .before in
+    let rejected = found .before .before .before .before .before in
+    let word = rejected .before in
+    let turn = word .before in
     let pre = turn .before .before .before .before .before .before .pre in
     let records = run-records _ (pre .accepted) _ _ _ _ (turn .loop .inv) _ _ _ pre in
-    next-less _ (pre .accepted) _ _ _ _ (turn .loop .inv) _ (found .before .before .before .before .before .before .accept-word .ensures) (found .before .before .before .before .before .if1 .left) _ _ records _ (found .first-unmet .ensures) (c .before .before .before .before .before .before .before .before .if2 .taken) _ _ _ (c .before .before .before .before .push-unmet .ensures)
+    next-less _ (pre .accepted) _ _ _ _ (turn .loop .inv) _ (word .accept-word .ensures) (rejected .if1 .left) _ _ records _ (found .first-unmet .ensures) (c .before .before .before .before .before .before .before .before .if2 .taken) _ _ _ (c .before .before .before .before .push-unmet .ensures)
 
 loop-again : tie.Need-loop-again Inv-loop μ-loop
 loop-again c =
     let found = c .before .before .before .before .before .before .before .before .before in
-    let turn = found .before .before .before .before .before .before .before in
+    let rejected = found .before .before .before .before .before in
+    let word = rejected .before in
+    let turn = word .before in
     let pre = turn .before .before .before .before .before .before .pre in
     let records = run-records _ (pre .accepted) _ _ _ _ (turn .loop .inv) _ _ _ pre in
-    search-next _ (pre .accepted) _ _ _ _ (turn .loop .inv) _ (found .before .before .before .before .before .before .accept-word .ensures) (found .before .before .before .before .before .if1 .left) _ _ records _ (found .first-unmet .ensures) (c .before .before .before .before .before .before .before .before .if2 .taken) _ _ _ (c .before .before .before .before .push-unmet .ensures)
+    search-next _ (pre .accepted) _ _ _ _ (turn .loop .inv) _ (word .accept-word .ensures) (rejected .if1 .left) _ _ records _ (found .first-unmet .ensures) (c .before .before .before .before .before .before .before .before .if2 .taken) _ _ _ (c .before .before .before .before .push-unmet .ensures)
 
 same-length-3 : tie.Need-same-length-3 Inv-loop μ-loop
 same-length-3 c = search searchLaws
@@ -180,10 +196,12 @@ same-length-4 c = search searchLaws
 returns-2 : tie.Need-returns-2 Inv-loop μ-loop
 returns-2 c =
     let found = c .before .before in
-    let turn = found .before .before .before .before .before .before .before in
+    let rejected = found .before .before .before .before .before in
+    let word = rejected .before in
+    let turn = word .before in
     let pre = turn .before .before .before .before .before .before .pre in
     let records = run-records _ (pre .accepted) _ _ _ _ (turn .loop .inv) _ _ _ pre in
-    search-end _ (pre .accepted) _ _ _ _ (turn .loop .inv) _ (found .before .before .before .before .before .before .accept-word .ensures) (found .before .before .before .before .before .if1 .left) _ _ records _ (found .first-unmet .ensures) (c .before .if2 .left) (c .if3 .taken)
+    search-end _ (pre .accepted) _ _ _ _ (turn .loop .inv) _ (word .accept-word .ensures) (rejected .if1 .left) _ _ records _ (found .first-unmet .ensures) (c .before .if2 .left) (c .if3 .taken)
 
 sub-top : tie.Need-sub-top Inv-loop μ-loop
 sub-top c = search searchLaws
@@ -194,26 +212,32 @@ mul-q-2 c = search searchLaws
 slice-read-q : tie.Need-slice-read-q Inv-loop μ-loop
 slice-read-q c =
     let found = c .before .before .before in
-    let turn = found .before .before .before .before .before .before .before in
+    let rejected = found .before .before .before .before .before in
+    let word = rejected .before in
+    let turn = word .before in
     let pre = turn .before .before .before .before .before .before .pre in
     let records = run-records _ (pre .accepted) _ _ _ _ (turn .loop .inv) _ _ _ pre in
-    back-place _ (pre .accepted) _ _ _ _ (turn .loop .inv) _ (found .before .before .before .before .before .before .accept-word .ensures) (found .before .before .before .before .before .if1 .left) _ _ records _ (found .first-unmet .ensures) (c .before .before .if2 .left) (c .before .if3 .left)
+    back-place _ (pre .accepted) _ _ _ _ (turn .loop .inv) _ (word .accept-word .ensures) (rejected .if1 .left) _ _ records _ (found .first-unmet .ensures) (c .before .before .if2 .left) (c .before .if3 .left)
 
 loop-less-2 : tie.Need-loop-less-2 Inv-loop μ-loop
 loop-less-2 c =
     let found = c .before .before .before in
-    let turn = found .before .before .before .before .before .before .before in
+    let rejected = found .before .before .before .before .before in
+    let word = rejected .before in
+    let turn = word .before in
     let pre = turn .before .before .before .before .before .before .pre in
     let records = run-records _ (pre .accepted) _ _ _ _ (turn .loop .inv) _ _ _ pre in
-    back-less _ (pre .accepted) _ _ _ _ (turn .loop .inv) _ (found .before .before .before .before .before .before .accept-word .ensures) (found .before .before .before .before .before .if1 .left) _ _ records _ (found .first-unmet .ensures) (c .before .before .if2 .left) (c .before .if3 .left)
+    back-less _ (pre .accepted) _ _ _ _ (turn .loop .inv) _ (word .accept-word .ensures) (rejected .if1 .left) _ _ records _ (found .first-unmet .ensures) (c .before .before .if2 .left) (c .before .if3 .left)
 
 loop-again-2 : tie.Need-loop-again-2 Inv-loop μ-loop
 loop-again-2 c =
     let found = c .before .before .before in
-    let turn = found .before .before .before .before .before .before .before in
+    let rejected = found .before .before .before .before .before in
+    let word = rejected .before in
+    let turn = word .before in
     let pre = turn .before .before .before .before .before .before .pre in
     let records = run-records _ (pre .accepted) _ _ _ _ (turn .loop .inv) _ _ _ pre in
-    search-back _ (pre .accepted) _ _ _ _ (turn .loop .inv) _ (found .before .before .before .before .before .before .accept-word .ensures) (found .before .before .before .before .before .if1 .left) _ _ records _ (found .first-unmet .ensures) (c .before .before .if2 .left) (c .before .if3 .left)
+    search-back _ (pre .accepted) _ _ _ _ (turn .loop .inv) _ (word .accept-word .ensures) (rejected .if1 .left) _ _ records _ (found .first-unmet .ensures) (c .before .before .if2 .left) (c .before .if3 .left)
 
 pub explore-spec : {M : Type 1} → statement M
 explore-spec =
