@@ -14,29 +14,34 @@ use Rattle.refusal.specs.declared.InputRefusal.{InputRefusal}
 use Rattle.sheets.specs.inner.Accepted
 use Rattle.sheets.specs.Checked.{checkedNumber}
 use Rattle.sheets.specs.Fault.{fault}
-use Rattle.sheets.specs.inner.Runs.{startsOf}
-use Rattle.sheets.specs.Sheet.{read}
+use Rattle.sheets.specs.inner.Runs.{startsOf, Indexed}
+use Rattle.sheets.specs.Sheet.{stateCount, read}
 use Rattle.sheets.specs.declared.Checked.{Checked}
 use Rattle.sheets.specs.declared.Checked.the-variants.{Accepted, Refused}
 use Rattle.sheets.proofs.Accepted.{check-accepted}
 use Rattle.sheets.proofs.Checking.{sheet-passed, sheet-refused}
 use Rattle.sheets.proofs.Runs.{starts-indexed}
-use Rattle.emptiness.specs.inner.Marks.{Unmarked, UnmarkedSearch}
+use Rattle.emptiness.specs.inner.Marks.{Unmarked, FirstTargets, UnmarkedSearch}
 use Rattle.emptiness.specs.Reachable.{hasReachableAccepting, reachableAnswer}
 
 pub no-marks : Unmarked (replicate 256 0)
 no-marks = record { wide = length-replicate {A = ℕ} 256 0; nothing = blank-at 256 }
 
-pub all-ready : (s old starts : List ℕ) → Accepted.Accepted s → starts ≡ sets old 0 (startsOf s) → length old ≡ 257 → UnmarkedSearch s starts (replicate 256 0) (replicate 256 0)
-all-ready s old starts a e l =
+pub all-indexed : (s old starts : List ℕ) → Accepted.Accepted s → starts ≡ sets old 0 (startsOf s) → length old ≡ 257 → Indexed s starts
+all-indexed s old starts a e l = starts-indexed s old starts e (omega (arith, a .few-states))
+
+pub all-ready : (s old starts targets : List ℕ) → Accepted.Accepted s → starts ≡ sets old 0 (startsOf s) → length old ≡ 257 → FirstTargets s starts targets (stateCount s)
+    → UnmarkedSearch s starts targets (replicate 256 0) (replicate 256 0)
+all-ready s old starts targets a e l f =
     record {
       accepted = a;
-      indexed = starts-indexed s old starts e (omega (arith, a .few-states));
+      indexed = all-indexed s old starts a e l;
+      first = f;
       unmarked = no-marks;
       long = length-replicate {A = ℕ} 256 0;
     }
 
-pub ruleset reachedLaws = (all-ready, length-replicate, needs)
+pub ruleset reachedLaws = (all-indexed, all-ready, length-replicate, needs)
 
 module _ (s : List ℕ) (r : Checked) (e : checkedNumber r ≡ fault s) where
   pub answer-given : r ≡ Accepted → (b : Bool) → b ≡ hasReachableAccepting (read s) → given b ≡ reachableAnswer s

@@ -20,7 +20,7 @@ use Rattle.automata.specs.inner.Records.{recordAt}
 use Rattle.automata.proofs.Records.{records-at, records-end}
 use Rattle.sheets.specs.inner.Runs.{Named}
 use Rattle.sheets.proofs.Named.{named-target, named-next}
-use Rattle.emptiness.specs.inner.Marks.{Marked, unmet, Skipped, StackRoom, PushedState, was-met, was-unmet, Pushed}
+use Rattle.emptiness.specs.inner.Marks.{Marked, unmet, StackRoom, PushedState, was-met, was-unmet, Pushed}
 
 -- one mark more
 module _ (marks : List ℕ) (t : ℕ) (l : t < length marks) where
@@ -43,34 +43,6 @@ unmet-less (x ∷ marks) (suc t) l h = go (eqb x 0) (unmet-less marks t (omega a
         → suc (length (cond b (x ∷ filter (λ y. eqb y 0) (set marks t 1)) (filter (λ y. eqb y 0) (set marks t 1)))) ≡ length (cond b (x ∷ filter (λ y. eqb y 0) marks) (filter (λ y. eqb y 0) marks))
     go true e = ap suc e
     go false e = e
-
--- of the records from the place `from` on, the targets of those before `at` were met
-pub record Passed (run : List ℕ) (from : ℕ) (marks : List ℕ) (at : ℕ) : Type 0 where
-  pub among : (e : Transition) → e ∈ readRecords (drop at run) → e ∈ readRecords (drop from run)
-  pub before : (e : Transition) → e ∈ readRecords (drop from run) → Marked marks (e .to) ⊎ (e ∈ readRecords (drop at run))
-
-pub skip-begins : (run : List ℕ) (from : ℕ) (marks : List ℕ) → Passed run from marks from
-skip-begins run from marks = record { among = λ e m. m; before = λ e m. inr m }
-
-module _ (run : List ℕ) (from : ℕ) (marks : List ℕ) (at : ℕ) (p : Passed run from marks at) where
-  pub skip-ended : at ≤ length run → length run - at < 5 → Skipped run from marks at
-  skip-ended l h = record { within = l; among = p .among; before = p .before; here = λ m. absurd (omega arith) }
-
-  pub skip-found : at ≤ length run → getD marks (getD run (at + 4) 0) 0 ≡ 0 → Skipped run from marks at
-  skip-found l z = record { within = l; among = p .among; before = p .before; here = λ m. z }
-
-  pub skip-next : 5 ≤ length run - at → (getD marks (getD run (at + 4) 0) 0 ≡ 0 → ⊥) → Passed run from marks (at + 5)
-  skip-next h z =
-      record {
-        among = λ e m. p .among e (rw (records-at run at h) (List·Memᴰ·tail m));
-        before = λ e m. ⊎-elim inl (λ i. one e (rw (records-at run at h) at i)) (p .before e m);
-      }
-    where
-      one : (e : Transition) → e ∈ (recordAt run at ∷ readRecords (drop (at + 5) run)) → Marked marks (e .to) ⊎ (e ∈ readRecords (drop (at + 5) run))
-      one e (List·Memᴰ·head q) = inl (subst (λ (d : Transition). Marked marks (d .to)) (sym q) (omega (arith, z)))
-      one e (List·Memᴰ·tail i) = inr i
-
-pub ruleset skipLaws = (skip-begins, skip-ended, skip-found, skip-next, named-target, named-next, needs)
 
 -- a state that may be put on the stack
 module _ (marks stack : List ℕ) (top t : ℕ) (u : t < 256) (r : StackRoom marks stack top) where

@@ -8,10 +8,10 @@ ghost use lib.ListN.{length, drop};
 ghost use Rattle.automata.specs.Records.{readRecords};
 ghost use Rattle.refusal.specs.Decision.{decisionOf};
 ghost use Rattle.sheets.specs.inner.Accepted.{Accepted};
-ghost use Rattle.sheets.specs.Sheet.{read};
-ghost use Rattle.sheets.specs.inner.Runs.{Named};
+ghost use Rattle.sheets.specs.Sheet.{stateCount, read};
+ghost use Rattle.sheets.specs.inner.Runs.{Named, Indexed, RunAt};
 ghost use Rattle.emptiness.specs.inner.Passes.{MetStates, PassTells};
-ghost use Rattle.emptiness.specs.inner.Marks.{Unmarked, Skipped, StackRoom, PushedState, Pushed, UnmarkedSearch};
+ghost use Rattle.emptiness.specs.inner.Marks.{Unmarked, StackRoom, PushedState, Pushed, firstTarget, FirstTargets, UnmarkedSearch};
 ghost use Rattle.emptiness.specs.Reachable.{hasReachableAccepting, reachableAnswer};
 use refusal::Decision;
 use sheets::Checked;
@@ -109,21 +109,6 @@ fn decide_by_passes(s: &[u32], marks: &mut [u8]) -> Pass
     pass_down(s, marks)
 }
 
-// Where the first of the records from the place `from` on stands whose target was not met; a place with no record behind it, if there is none.
-fn first_unmet(t: &[u32], from: usize, marks: &[u8]) -> usize
-    requires { ⌜ (from ≤ length (now t)) × Named (readRecords (drop from (now t))) × (length (now marks) ≡ 256) ⌝ }
-    ensures { λ at. ⌜ Skipped (now (t .entry)) from (now (marks .entry)) at ⌝ }
-{
-    let mut at = from;
-    while 5 <= t.len() - at {
-        if marks[t[at + 4] as usize] == 0 {
-            return at;
-        }
-        at += 5;
-    }
-    at
-}
-
 // The state t is marked and put on the stack if it was not met. The answer is the stack's end.
 fn push_state(t: u32, marks: &mut [u8], stack: &mut [u32], top: usize) -> usize
     requires { ⌜ (t < 256) × StackRoom (now marks) (now stack) top ⌝ }
@@ -161,10 +146,37 @@ fn push_unmet(t: &[u32], from: usize, marks: &mut [u8], stack: &mut [u32], top: 
     e
 }
 
-// Whether a state that accepts is met, from the start on. A state's first unmet target is followed next, without the stack. A state's records are the last of
-// the sheet up to where they end.
-fn explore(s: &[u32], starts: &[u32], marks: &mut [u8], stack: &mut [u32]) -> bool
-    requires { ⌜ UnmarkedSearch (now s) (now starts) (now marks) (now stack) ⌝ }
+// The target of the first record that leaves q; q itself, if none does.
+fn first_target(s: &[u32], starts: &[u32], q: u32) -> u32
+    requires { ⌜ RunAt (now s) (now starts) q ⌝ }
+    ensures { λ r. ⌜ r ≡ firstTarget (now (s .entry)) (now (starts .entry)) q ⌝ }
+{
+    let p = q as usize;
+    let at = starts[p] as usize;
+    let end = starts[p + 1] as usize;
+    if 5 <= end - at {
+        return s[at + 4];
+    }
+    q
+}
+
+// The first target of each state.
+fn first_targets(s: &[u32], starts: &[u32], targets: &mut [u32])
+    requires { ⌜ Accepted (now s) × Indexed (now s) (now starts) × (length (now targets) ≡ 256) ⌝ }
+    ensures { λ r. ⌜ FirstTargets (now (s .entry)) (now (starts .entry)) (now (targets .exit)) (stateCount (now (s .entry))) ⌝ }
+{
+    let n = s[2];
+    let mut q: u32 = 0;
+    while q < n {
+        targets[q as usize] = first_target(s, starts, q);
+        q += 1;
+    }
+}
+
+// Whether a state that accepts is met, from the start on. The first target of a state is followed next if it was not met, without the stack: it is looked up in
+// a table, so that the next turn need not wait for a record. A state's records are the last of the sheet up to where they end.
+fn explore(s: &[u32], starts: &[u32], targets: &[u32], marks: &mut [u8], stack: &mut [u32]) -> bool
+    requires { ⌜ UnmarkedSearch (now s) (now starts) (now targets) (now marks) (now stack) ⌝ }
     ensures { λ r. ⌜ r ≡ hasReachableAccepting (read (now (s .entry))) ⌝ }
 {
     let mut q = s[1];
@@ -177,12 +189,14 @@ fn explore(s: &[u32], starts: &[u32], marks: &mut [u8], stack: &mut [u32]) -> bo
         let p = q as usize;
         let end = starts[p + 1] as usize;
         let t = &s[0..end];
-        let at = first_unmet(t, starts[p] as usize, marks);
-        if 5 <= t.len() - at {
-            q = t[at + 4];
+        let from = starts[p] as usize;
+        let first = targets[p];
+        if marks[first as usize] == 0 {
+            q = first;
             marks[q as usize] = 1;
-            top = push_unmet(t, at + 5, marks, stack, top);
+            top = push_unmet(t, from + 5, marks, stack, top);
         } else {
+            top = push_unmet(t, from, marks, stack, top);
             if top == 0 {
                 return false;
             }
@@ -198,10 +212,12 @@ fn search_accepting(s: &[u32]) -> bool
     ensures { λ r. ⌜ r ≡ hasReachableAccepting (read (now (s .entry))) ⌝ }
 {
     let mut starts = [0u32; 257];
+    let mut targets = [0u32; 256];
     let mut marks = [0u8; 256];
     let mut stack = [0u32; 256];
     sheets::run_starts(s, &mut starts);
-    explore(s, &starts, &mut marks, &mut stack)
+    first_targets(s, &starts, &mut targets);
+    explore(s, &starts, &targets, &mut marks, &mut stack)
 }
 
 // Whether a reachable state of an accepted sheet accepts.

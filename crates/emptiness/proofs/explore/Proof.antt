@@ -3,15 +3,15 @@ use Prim.Native.Nat.{_+_, _*_}
 use native.Mathlib.Omega.{arith}
 use Rattle.sheets.specs.Sheet.{read}
 use Rattle.emptiness.specs.inner.Marks.{unmet, Searched}
-use Rattle.emptiness.proofs.Search.{searchLaws, search-begin, state-bound, state-accepts, run-known, run-ordered, run-within, run-few, run-short, run-records, run-asked, next-inside, next-asked, next-less, search-next, search-end, back-place, back-less, search-back}
+use Rattle.emptiness.proofs.Search.{searchLaws, search-begin, state-bound, state-few, state-accepts, run-known, run-ordered, run-within, run-few, first-bound, first-asked, first-less, search-first, all-asked, search-end, back-place, back-less, search-back}
 use Rattle.emptiness.proofs.explore.Statement.{statement}
 use Rattle.emptiness.proofs.explore.Tie as tie
 
 abbrev Inv-loop : tie.InvT-loop
-Inv-loop s starts marks₀ stack₀ q₀ top₀ marks stack q top = Searched (read s) marks stack top q
+Inv-loop s starts targets marks₀ stack₀ q₀ top₀ marks stack q top = Searched (read s) marks stack top q
 
 abbrev μ-loop : tie.MeasureT-loop
-μ-loop s starts marks₀ stack₀ q₀ top₀ marks stack q top = 2 * unmet marks + top
+μ-loop s starts targets marks₀ stack₀ q₀ top₀ marks stack q top = 2 * unmet marks + top
 
 shared-slice-read-q : tie.Need-shared-slice-read-q Inv-loop μ-loop
 shared-slice-read-q c = search searchLaws
@@ -23,10 +23,13 @@ slice-write-marks : tie.Need-slice-write-marks Inv-loop μ-loop
 slice-write-marks c = search searchLaws
 
 loop-holds : tie.Need-loop-holds Inv-loop μ-loop
-loop-holds c = search-begin _ _ _ _ (c .before .before .before .before .before .pre)
+loop-holds c = search-begin _ _ _ _ _ (c .before .before .before .before .before .before .pre)
 
 accept-word-requires : tie.Need-accept-word-requires Inv-loop μ-loop
-accept-word-requires c κs = let a = c .before .before .before .before .before .before .pre .accepted in (a, state-bound _ a _ _ _ _ (c .loop .inv))
+accept-word-requires c κs =
+    let turn = c in
+    let pre = turn .before .before .before .before .before .before .before .pre in
+    (pre .accepted, state-bound _ _ _ _ _ pre _ _ _ _ (turn .loop .inv))
 
 same-length : tie.Need-same-length Inv-loop μ-loop
 same-length c = search searchLaws
@@ -35,37 +38,40 @@ same-length-2 : tie.Need-same-length-2 Inv-loop μ-loop
 same-length-2 c = search searchLaws
 
 returns : tie.Need-returns Inv-loop μ-loop
-returns c = state-accepts _ (c .before .before .before .before .before .before .before .before .pre .accepted) _ _ _ _ (c .before .before .loop .inv) _ (c .before .accept-word .ensures) (c .if1 .taken)
+returns c =
+    let turn = c .before .before in
+    let pre = turn .before .before .before .before .before .before .before .pre in
+    state-accepts _ _ _ _ _ pre _ _ _ _ (turn .loop .inv) _ (c .before .accept-word .ensures) (c .if1 .taken)
 
 cast-p : tie.Need-cast-p Inv-loop μ-loop
 cast-p c =
     let turn = c .before .before in
-    let pre = turn .before .before .before .before .before .before .pre in
-    omega (arith, state-bound _ (pre .accepted) _ _ _ _ (turn .loop .inv), pre .accepted .few-states)
+    let pre = turn .before .before .before .before .before .before .before .pre in
+    omega (arith, state-few _ _ _ _ _ pre _ _ _ _ (turn .loop .inv))
 
 add-end : tie.Need-add-end Inv-loop μ-loop
 add-end c =
     let turn = c .before .before in
-    let pre = turn .before .before .before .before .before .before .pre in
-    omega (arith, state-bound _ (pre .accepted) _ _ _ _ (turn .loop .inv), pre .accepted .few-states)
+    let pre = turn .before .before .before .before .before .before .before .pre in
+    omega (arith, state-few _ _ _ _ _ pre _ _ _ _ (turn .loop .inv))
 
 mul-end : tie.Need-mul-end Inv-loop μ-loop
 mul-end c =
     let turn = c .before .before in
-    let pre = turn .before .before .before .before .before .before .pre in
-    omega (arith, state-bound _ (pre .accepted) _ _ _ _ (turn .loop .inv), pre .accepted .few-states)
+    let pre = turn .before .before .before .before .before .before .before .pre in
+    omega (arith, state-few _ _ _ _ _ pre _ _ _ _ (turn .loop .inv))
 
 shared-slice-read-end : tie.Need-shared-slice-read-end Inv-loop μ-loop
 shared-slice-read-end c =
     let turn = c .before .before .before in
-    let pre = turn .before .before .before .before .before .before .pre in
-    run-known _ (pre .accepted) _ _ _ _ (turn .loop .inv) _ _ _ pre
+    let pre = turn .before .before .before .before .before .before .before .pre in
+    run-known _ _ _ _ _ pre _ _ _ _ (turn .loop .inv)
 
 cast-end : tie.Need-cast-end Inv-loop μ-loop
 cast-end c =
     let turn = c .before .before .before in
-    let pre = turn .before .before .before .before .before .before .pre in
-    omega (arith, run-few _ (pre .accepted) _ _ _ _ (turn .loop .inv) _ _ _ pre)
+    let pre = turn .before .before .before .before .before .before .before .pre in
+    omega (arith, run-few _ _ _ _ _ pre _ _ _ _ (turn .loop .inv))
 
 sub-t : tie.Need-sub-t Inv-loop μ-loop
 sub-t c = search searchLaws
@@ -76,116 +82,96 @@ part-t-start c = search searchLaws
 part-t-end : tie.Need-part-t-end Inv-loop μ-loop
 part-t-end c =
     let turn = c .before .before .before in
-    let pre = turn .before .before .before .before .before .before .pre in
-    run-within _ (pre .accepted) _ _ _ _ (turn .loop .inv) _ _ _ pre
+    let pre = turn .before .before .before .before .before .before .before .pre in
+    run-within _ _ _ _ _ pre _ _ _ _ (turn .loop .inv)
 
-mul-first-unmet : tie.Need-mul-first-unmet Inv-loop μ-loop
-mul-first-unmet c =
+mul-from : tie.Need-mul-from Inv-loop μ-loop
+mul-from c =
     let turn = c .before .before .before .before in
-    let pre = turn .before .before .before .before .before .before .pre in
-    omega (arith, state-bound _ (pre .accepted) _ _ _ _ (turn .loop .inv), pre .accepted .few-states)
+    let pre = turn .before .before .before .before .before .before .before .pre in
+    omega (arith, state-few _ _ _ _ _ pre _ _ _ _ (turn .loop .inv))
 
-shared-slice-read-first-unmet : tie.Need-shared-slice-read-first-unmet Inv-loop μ-loop
-shared-slice-read-first-unmet c =
+shared-slice-read-from : tie.Need-shared-slice-read-from Inv-loop μ-loop
+shared-slice-read-from c =
     let turn = c .before .before .before .before .before in
-    let pre = turn .before .before .before .before .before .before .pre in
-    omega (arith, run-known _ (pre .accepted) _ _ _ _ (turn .loop .inv) _ _ _ pre)
+    let pre = turn .before .before .before .before .before .before .before .pre in
+    omega (arith, run-known _ _ _ _ _ pre _ _ _ _ (turn .loop .inv))
 
-cast-first-unmet : tie.Need-cast-first-unmet Inv-loop μ-loop
-cast-first-unmet c =
+cast-from : tie.Need-cast-from Inv-loop μ-loop
+cast-from c =
     let turn = c .before .before .before .before .before in
-    let pre = turn .before .before .before .before .before .before .pre in
-    omega (arith, run-ordered _ (pre .accepted) _ _ _ _ (turn .loop .inv) _ _ _ pre, run-few _ (pre .accepted) _ _ _ _ (turn .loop .inv) _ _ _ pre)
+    let pre = turn .before .before .before .before .before .before .before .pre in
+    omega (arith, run-ordered _ _ _ _ _ pre _ _ _ _ (turn .loop .inv), run-few _ _ _ _ _ pre _ _ _ _ (turn .loop .inv))
 
-first-unmet-requires : tie.Need-first-unmet-requires Inv-loop μ-loop
-first-unmet-requires c κs =
+mul-first : tie.Need-mul-first Inv-loop μ-loop
+mul-first c =
+    let turn = c .before .before .before .before .before in
+    let pre = turn .before .before .before .before .before .before .before .pre in
+    omega (arith, state-few _ _ _ _ _ pre _ _ _ _ (turn .loop .inv))
+
+shared-slice-read-first : tie.Need-shared-slice-read-first Inv-loop μ-loop
+shared-slice-read-first c =
     let turn = c .before .before .before .before .before .before in
-    let pre = turn .before .before .before .before .before .before .pre in
-    let asked = run-asked _ (pre .accepted) _ _ _ _ (turn .loop .inv) _ _ _ pre in
-    (asked .0, asked .1, turn .loop .inv .room .wide)
+    let pre = turn .before .before .before .before .before .before .before .pre in
+    omega (arith, state-few _ _ _ _ _ pre _ _ _ _ (turn .loop .inv), pre .first .long)
 
-sub-if2 : tie.Need-sub-if2 Inv-loop μ-loop
-sub-if2 c = search searchLaws
+cast-if2 : tie.Need-cast-if2 Inv-loop μ-loop
+cast-if2 c =
+    let turn = c .before .before .before .before .before .before in
+    let pre = turn .before .before .before .before .before .before .before .pre in
+    omega (arith, first-bound _ _ _ _ _ pre _ _ _ _ (turn .loop .inv))
 
-add-q : tie.Need-add-q Inv-loop μ-loop
-add-q c =
-    let found = c .before in
-    let rejected = found .before .before .before .before .before in
-    let word = rejected .before in
-    let turn = word .before in
-    let pre = turn .before .before .before .before .before .before .pre in
-    omega (arith, found .first-unmet .ensures .within, run-short _ (pre .accepted) _ _ _ _ (turn .loop .inv) _ _ _ pre)
-
-mul-q : tie.Need-mul-q Inv-loop μ-loop
-mul-q c =
-    let found = c .before in
-    let rejected = found .before .before .before .before .before in
-    let word = rejected .before in
-    let turn = word .before in
-    let pre = turn .before .before .before .before .before .before .pre in
-    omega (arith, found .first-unmet .ensures .within, run-short _ (pre .accepted) _ _ _ _ (turn .loop .inv) _ _ _ pre)
-
-shared-slice-read-q-2 : tie.Need-shared-slice-read-q-2 Inv-loop μ-loop
-shared-slice-read-q-2 c = search searchLaws
+slice-read-if2 : tie.Need-slice-read-if2 Inv-loop μ-loop
+slice-read-if2 c =
+    let turn = c .before .before .before .before .before .before .before in
+    let pre = turn .before .before .before .before .before .before .before .pre in
+    omega (arith, first-bound _ _ _ _ _ pre _ _ _ _ (turn .loop .inv), turn .loop .inv .room .wide)
 
 cast-marks-2 : tie.Need-cast-marks-2 Inv-loop μ-loop
 cast-marks-2 c =
-    let found = c .before .before in
-    let rejected = found .before .before .before .before .before in
-    let word = rejected .before in
-    let turn = word .before in
-    let pre = turn .before .before .before .before .before .before .pre in
-    let records = run-records _ (pre .accepted) _ _ _ _ (turn .loop .inv) _ _ _ pre in
-    omega (arith, next-inside _ (pre .accepted) _ _ _ _ (turn .loop .inv) _ (word .accept-word .ensures) (rejected .if1 .left) _ _ records _ (found .first-unmet .ensures) (c .before .if2 .taken), turn .loop .inv .room .wide)
+    let turn = c .before .before .before .before .before .before .before .before in
+    let pre = turn .before .before .before .before .before .before .before .pre in
+    omega (arith, first-bound _ _ _ _ _ pre _ _ _ _ (turn .loop .inv))
 
 slice-write-marks-2 : tie.Need-slice-write-marks-2 Inv-loop μ-loop
 slice-write-marks-2 c =
-    let found = c .before .before in
-    let rejected = found .before .before .before .before .before in
-    let word = rejected .before in
-    let turn = word .before in
-    let pre = turn .before .before .before .before .before .before .pre in
-    let records = run-records _ (pre .accepted) _ _ _ _ (turn .loop .inv) _ _ _ pre in
-    next-inside _ (pre .accepted) _ _ _ _ (turn .loop .inv) _ (word .accept-word .ensures) (rejected .if1 .left) _ _ records _ (found .first-unmet .ensures) (c .before .if2 .taken)
+    let turn = c .before .before .before .before .before .before .before .before in
+    let pre = turn .before .before .before .before .before .before .before .pre in
+    omega (arith, first-bound _ _ _ _ _ pre _ _ _ _ (turn .loop .inv), turn .loop .inv .room .wide)
 
 add-push-unmet : tie.Need-add-push-unmet Inv-loop μ-loop
 add-push-unmet c =
-    let found = c .before .before in
-    let rejected = found .before .before .before .before .before in
-    let word = rejected .before in
-    let turn = word .before in
-    let pre = turn .before .before .before .before .before .before .pre in
-    omega (arith, found .first-unmet .ensures .within, run-short _ (pre .accepted) _ _ _ _ (turn .loop .inv) _ _ _ pre)
+    let turn = c .before .before .before .before .before .before .before .before in
+    let pre = turn .before .before .before .before .before .before .before .pre in
+    omega (arith, run-ordered _ _ _ _ _ pre _ _ _ _ (turn .loop .inv), run-few _ _ _ _ _ pre _ _ _ _ (turn .loop .inv))
 
 push-unmet-requires : tie.Need-push-unmet-requires Inv-loop μ-loop
 push-unmet-requires c κs =
-    let found = c .before .before .before .before in
-    let rejected = found .before .before .before .before .before in
-    let word = rejected .before in
-    let turn = word .before in
-    let pre = turn .before .before .before .before .before .before .pre in
-    let records = run-records _ (pre .accepted) _ _ _ _ (turn .loop .inv) _ _ _ pre in
-    next-asked _ (pre .accepted) _ _ _ _ (turn .loop .inv) _ (word .accept-word .ensures) (rejected .if1 .left) _ _ records _ (found .first-unmet .ensures) (c .before .before .before .if2 .taken)
+    let turn = c .before .before .before .before .before .before .before .before .before .before in
+    let pre = turn .before .before .before .before .before .before .before .pre in
+    first-asked _ _ _ _ _ pre _ _ _ _ (turn .loop .inv) (c .before .before .if2 .taken)
 
 loop-less : tie.Need-loop-less Inv-loop μ-loop
 loop-less c =
-    let found = c .before .before .before .before .before .before .before .before .before in
-    let rejected = found .before .before .before .before .before in
+    let rejected = c .before .before .before .before .before .before .before .before .before .before .before .before .before in
     let word = rejected .before in
     let turn = word .before in
-    let pre = turn .before .before .before .before .before .before .pre in
-    let records = run-records _ (pre .accepted) _ _ _ _ (turn .loop .inv) _ _ _ pre in
-    next-less _ (pre .accepted) _ _ _ _ (turn .loop .inv) _ (word .accept-word .ensures) (rejected .if1 .left) _ _ records _ (found .first-unmet .ensures) (c .before .before .before .before .before .before .before .before .if2 .taken) _ _ _ (c .before .before .before .before .push-unmet .ensures)
+    let pre = turn .before .before .before .before .before .before .before .pre in
+    first-less _ _ _ _ _ pre _ _ _ _ (turn .loop .inv) (c .before .before .before .before .before .before .before .if2 .taken) _ (word .accept-word .ensures) (rejected .if1 .left) _ _ _ (c .before .before .before .before .push-unmet .ensures)
 
 loop-again : tie.Need-loop-again Inv-loop μ-loop
 loop-again c =
-    let found = c .before .before .before .before .before .before .before .before .before in
-    let rejected = found .before .before .before .before .before in
+    let rejected = c .before .before .before .before .before .before .before .before .before .before .before .before .before in
     let word = rejected .before in
     let turn = word .before in
-    let pre = turn .before .before .before .before .before .before .pre in
-    let records = run-records _ (pre .accepted) _ _ _ _ (turn .loop .inv) _ _ _ pre in
-    search-next _ (pre .accepted) _ _ _ _ (turn .loop .inv) _ (word .accept-word .ensures) (rejected .if1 .left) _ _ records _ (found .first-unmet .ensures) (c .before .before .before .before .before .before .before .before .if2 .taken) _ _ _ (c .before .before .before .before .push-unmet .ensures)
+    let pre = turn .before .before .before .before .before .before .before .pre in
+    search-first _ _ _ _ _ pre _ _ _ _ (turn .loop .inv) (c .before .before .before .before .before .before .before .if2 .taken) _ (word .accept-word .ensures) (rejected .if1 .left) _ _ _ (c .before .before .before .before .push-unmet .ensures)
+
+push-unmet-requires-2 : tie.Need-push-unmet-requires-2 Inv-loop μ-loop
+push-unmet-requires-2 c κs =
+    let turn = c .before .before .before .before .before .before .before .before .before .before in
+    let pre = turn .before .before .before .before .before .before .before .pre in
+    all-asked _ _ _ _ _ pre _ _ _ _ (turn .loop .inv)
 
 same-length-3 : tie.Need-same-length-3 Inv-loop μ-loop
 same-length-3 c = search searchLaws
@@ -195,49 +181,41 @@ same-length-4 c = search searchLaws
 
 returns-2 : tie.Need-returns-2 Inv-loop μ-loop
 returns-2 c =
-    let found = c .before .before in
-    let rejected = found .before .before .before .before .before in
+    let rejected = c .before .before .before .before .before .before .before .before .before .before .before .before .before .before in
     let word = rejected .before in
     let turn = word .before in
-    let pre = turn .before .before .before .before .before .before .pre in
-    let records = run-records _ (pre .accepted) _ _ _ _ (turn .loop .inv) _ _ _ pre in
-    search-end _ (pre .accepted) _ _ _ _ (turn .loop .inv) _ (word .accept-word .ensures) (rejected .if1 .left) _ _ records _ (found .first-unmet .ensures) (c .before .if2 .left) (c .if3 .taken)
+    let pre = turn .before .before .before .before .before .before .before .pre in
+    search-end _ _ _ _ _ pre _ _ _ _ (turn .loop .inv) _ (word .accept-word .ensures) (rejected .if1 .left) _ _ _ (c .before .before .before .before .before .push-unmet2 .ensures) (c .if3 .taken)
 
 sub-top : tie.Need-sub-top Inv-loop μ-loop
 sub-top c = search searchLaws
 
-mul-q-2 : tie.Need-mul-q-2 Inv-loop μ-loop
-mul-q-2 c = search searchLaws
+mul-q : tie.Need-mul-q Inv-loop μ-loop
+mul-q c = search searchLaws
 
 slice-read-q : tie.Need-slice-read-q Inv-loop μ-loop
 slice-read-q c =
-    let found = c .before .before .before in
-    let rejected = found .before .before .before .before .before in
+    let rejected = c .before .before .before .before .before .before .before .before .before .before .before .before .before .before .before in
     let word = rejected .before in
     let turn = word .before in
-    let pre = turn .before .before .before .before .before .before .pre in
-    let records = run-records _ (pre .accepted) _ _ _ _ (turn .loop .inv) _ _ _ pre in
-    back-place _ (pre .accepted) _ _ _ _ (turn .loop .inv) _ (word .accept-word .ensures) (rejected .if1 .left) _ _ records _ (found .first-unmet .ensures) (c .before .before .if2 .left) (c .before .if3 .left)
+    let pre = turn .before .before .before .before .before .before .before .pre in
+    back-place _ _ _ _ _ pre _ _ _ _ (turn .loop .inv) _ (word .accept-word .ensures) (rejected .if1 .left) _ _ _ (c .before .before .before .before .before .before .push-unmet2 .ensures) (c .before .if3 .left)
 
 loop-less-2 : tie.Need-loop-less-2 Inv-loop μ-loop
 loop-less-2 c =
-    let found = c .before .before .before in
-    let rejected = found .before .before .before .before .before in
+    let rejected = c .before .before .before .before .before .before .before .before .before .before .before .before .before .before .before in
     let word = rejected .before in
     let turn = word .before in
-    let pre = turn .before .before .before .before .before .before .pre in
-    let records = run-records _ (pre .accepted) _ _ _ _ (turn .loop .inv) _ _ _ pre in
-    back-less _ (pre .accepted) _ _ _ _ (turn .loop .inv) _ (word .accept-word .ensures) (rejected .if1 .left) _ _ records _ (found .first-unmet .ensures) (c .before .before .if2 .left) (c .before .if3 .left)
+    let pre = turn .before .before .before .before .before .before .before .pre in
+    back-less _ _ _ _ _ pre _ _ _ _ (turn .loop .inv) _ (word .accept-word .ensures) (rejected .if1 .left) _ _ _ (c .before .before .before .before .before .before .push-unmet2 .ensures) (c .before .if3 .left)
 
 loop-again-2 : tie.Need-loop-again-2 Inv-loop μ-loop
 loop-again-2 c =
-    let found = c .before .before .before in
-    let rejected = found .before .before .before .before .before in
+    let rejected = c .before .before .before .before .before .before .before .before .before .before .before .before .before .before .before in
     let word = rejected .before in
     let turn = word .before in
-    let pre = turn .before .before .before .before .before .before .pre in
-    let records = run-records _ (pre .accepted) _ _ _ _ (turn .loop .inv) _ _ _ pre in
-    search-back _ (pre .accepted) _ _ _ _ (turn .loop .inv) _ (word .accept-word .ensures) (rejected .if1 .left) _ _ records _ (found .first-unmet .ensures) (c .before .before .if2 .left) (c .before .if3 .left)
+    let pre = turn .before .before .before .before .before .before .before .pre in
+    search-back _ _ _ _ _ pre _ _ _ _ (turn .loop .inv) _ (word .accept-word .ensures) (rejected .if1 .left) _ _ _ (c .before .before .before .before .before .before .push-unmet2 .ensures) (c .before .if3 .left)
 
 pub explore-spec : {M : Type 1} → statement M
 explore-spec =
@@ -261,25 +239,25 @@ explore-spec =
     sub-t
     part-t-start
     part-t-end
-    mul-first-unmet
-    shared-slice-read-first-unmet
-    cast-first-unmet
-    first-unmet-requires
-    sub-if2
-    add-q
-    mul-q
-    shared-slice-read-q-2
+    mul-from
+    shared-slice-read-from
+    cast-from
+    mul-first
+    shared-slice-read-first
+    cast-if2
+    slice-read-if2
     cast-marks-2
     slice-write-marks-2
     add-push-unmet
     push-unmet-requires
     loop-less
     loop-again
+    push-unmet-requires-2
     same-length-3
     same-length-4
     returns-2
     sub-top
-    mul-q-2
+    mul-q
     slice-read-q
     loop-less-2
     loop-again-2)

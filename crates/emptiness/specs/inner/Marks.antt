@@ -1,15 +1,16 @@
 -- For inner contracts. What the search keeps: a mark for each state that was met, and a stack of met states whose transitions are still to be followed.
 use Prim.Native.Nat.{ℕ, _+_, _-_, _≤_, _<_}
+use mathlib.Core.Bool.{cond}
 use mathlib.Core.List.{List}
 use mathlib.Core.Logic.{_⊎_}
 use mathlib.Core.Path.{_≡_}
-use lib.Dec.{eqb}
-use lib.ListN.{length, getD, drop, set}
+use lib.Dec.{eqb, leb}
+use lib.ListN.{length, getD, set}
 use Rattle.lists.specs.Lists.{_∈_, filter}
 use Rattle.automata.specs.Automaton.{Transition, Automaton, acceptOf}
-use Rattle.automata.specs.Records.{readRecords}
 use Rattle.sheets.specs.inner.Accepted.{Accepted}
 use Rattle.sheets.specs.inner.Runs.{Indexed}
+use Rattle.sheets.specs.Sheet.{stateCount}
 use Rattle.emptiness.specs.Reachable.{Path}
 
 -- the state q was met
@@ -24,13 +25,6 @@ pub record Unmarked (marks : List ℕ) : Type 0 where
 -- how many states were not met
 unfoldable pub unmet : List ℕ → ℕ
 unmet marks = length (filter (λ x. eqb x 0) marks)
-
--- of the records from the place `from` on, the targets of those before `at` were met, and that of the record there was not
-pub record Skipped (t : List ℕ) (from : ℕ) (marks : List ℕ) (at : ℕ) : Type 0 where
-  pub within : at ≤ length t
-  pub among : (e : Transition) → e ∈ readRecords (drop at t) → e ∈ readRecords (drop from t)
-  pub before : (e : Transition) → e ∈ readRecords (drop from t) → Marked marks (e .to) ⊎ (e ∈ readRecords (drop at t))
-  pub here : 5 ≤ length t - at → getD marks (getD t (at + 4) 0) 0 ≡ 0
 
 -- the stack has room for each state that was not met
 pub record StackRoom (marks stack : List ℕ) (top : ℕ) : Type 0 where
@@ -70,9 +64,19 @@ pub record Searched (A : Automaton) (marks stack : List ℕ) (top q : ℕ) : Typ
   pub paths : (x : ℕ) → Marked marks x → Path A (A .start) x
   pub others : (x : ℕ) → Marked marks x → (x ≡ q) ⊎ (((j : ℕ) × (j < top) × (getD stack j 0 ≡ x)) ⊎ Done A marks x)
 
--- before the search: where the runs of the accepted sheet begin is known, and no state was met
-pub record UnmarkedSearch (s starts marks stack : List ℕ) : Type 0 where
+-- the target of the first record that leaves q; q itself, if none does
+unfoldable pub firstTarget : List ℕ → List ℕ → ℕ → ℕ
+firstTarget s starts q = cond (leb 5 (getD starts (q + 1) 0 - getD starts q 0)) (getD s (getD starts q 0 + 4) 0) q
+
+-- the first targets of the states below n
+pub record FirstTargets (s starts targets : List ℕ) (n : ℕ) : Type 0 where
+  pub long : length targets ≡ 256
+  pub at : (q : ℕ) → q < n → getD targets q 0 ≡ firstTarget s starts q
+
+-- before the search: where the runs of the accepted sheet begin is known, and the first target of each state, and no state was met
+pub record UnmarkedSearch (s starts targets marks stack : List ℕ) : Type 0 where
   pub accepted : Accepted s
   pub indexed : Indexed s starts
+  pub first : FirstTargets s starts targets (stateCount s)
   pub unmarked : Unmarked marks
   pub long : length stack ≡ 256
