@@ -21,8 +21,9 @@ use Rattle.sheets.specs.declared.Checked.the-variants.{Accepted, Refused}
 use Rattle.sheets.proofs.Accepted.{check-accepted}
 use Rattle.sheets.proofs.Checking.{sheet-passed, sheet-refused}
 use Rattle.sheets.proofs.Runs.{starts-indexed}
-use Rattle.emptiness.specs.inner.Marks.{Unmarked, FirstTargets, UnmarkedSearch}
+use Rattle.emptiness.specs.inner.Marks.{Unmarked, targetsBelow, UnmarkedSearch}
 use Rattle.emptiness.specs.Reachable.{hasReachableAccepting, reachableAnswer}
+use Rattle.emptiness.proofs.Targets.{targets-all}
 
 pub no-marks : Unmarked (replicate 256 0)
 no-marks = record { wide = length-replicate {A = ℕ} 256 0; nothing = blank-at 256 }
@@ -30,13 +31,13 @@ no-marks = record { wide = length-replicate {A = ℕ} 256 0; nothing = blank-at 
 pub all-indexed : (s old starts : List ℕ) → Accepted.Accepted s → starts ≡ sets old 0 (startsOf s) → length old ≡ 257 → Indexed s starts
 all-indexed s old starts a e l = starts-indexed s old starts e (omega (arith, a .few-states))
 
-pub all-ready : (s old starts targets : List ℕ) → Accepted.Accepted s → starts ≡ sets old 0 (startsOf s) → length old ≡ 257 → FirstTargets s starts targets (stateCount s)
-    → UnmarkedSearch s starts targets (replicate 256 0) (replicate 256 0)
+pub all-ready : (s old starts targets : List ℕ) → Accepted.Accepted s → starts ≡ sets old 0 (startsOf s) → length old ≡ 257
+    → targets ≡ targetsBelow (read s) (replicate 256 0) (stateCount s) → UnmarkedSearch s starts targets (replicate 256 0) (replicate 256 0)
 all-ready s old starts targets a e l f =
     record {
       accepted = a;
       indexed = all-indexed s old starts a e l;
-      first = f;
+      first = targets-all (read s) (replicate 256 0) targets f (length-replicate {A = ℕ} 256 0) (a .few-states);
       unmarked = no-marks;
       long = length-replicate {A = ℕ} 256 0;
     }

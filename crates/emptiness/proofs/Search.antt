@@ -207,11 +207,11 @@ module _ (s starts targets old line : List ℕ) (r : UnmarkedSearch s starts tar
       → (5 ≤ length (upTo s starts q) - getD starts q 0) × (getD targets q 0 ≡ getD (upTo s starts q) (getD starts q 0 + 4) 0)
   first-here h = (
     simp length-take (omega (arith, runs .ordered, runs .within)),
-    r .first .at q state-bound ∙ sym (target-is s starts q h) ∙ sym (getD-take (getD starts (q + 1) 0 - 0) s (getD starts q 0 + 4) 0 (omega (arith, runs .ordered))),
+    r .first .at q state-bound ∙ sym (target-is s starts q runs h) ∙ sym (getD-take (getD starts (q + 1) 0 - 0) s (getD starts q 0 + 4) 0 (omega (arith, runs .ordered))),
   )
 
   first-none : getD starts (q + 1) 0 - getD starts q 0 < 5 → getD targets q 0 ≡ q
-  first-none h = r .first .at q state-bound ∙ sym (target-none s starts q h)
+  first-none h = r .first .at q state-bound ∙ sym (target-none s starts q runs h)
 
   pub first-bound : getD targets q 0 < 256
   first-bound =

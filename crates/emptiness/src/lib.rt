@@ -11,7 +11,7 @@ ghost use Rattle.sheets.specs.inner.Accepted.{Accepted};
 ghost use Rattle.sheets.specs.Sheet.{stateCount, read};
 ghost use Rattle.sheets.specs.inner.Runs.{Named, Indexed, RunAt};
 ghost use Rattle.emptiness.specs.inner.Passes.{MetStates, PassTells};
-ghost use Rattle.emptiness.specs.inner.Marks.{Unmarked, StackRoom, PushedState, Pushed, firstTarget, FirstTargets, UnmarkedSearch};
+ghost use Rattle.emptiness.specs.inner.Marks.{Unmarked, StackRoom, PushedState, Pushed, firstTarget, targetsBelow, UnmarkedSearch};
 ghost use Rattle.emptiness.specs.Reachable.{hasReachableAccepting, reachableAnswer};
 use refusal::Decision;
 use sheets::Checked;
@@ -149,7 +149,7 @@ fn push_unmet(t: &[u32], from: usize, marks: &mut [u8], stack: &mut [u32], top: 
 // The target of the first record that leaves q; q itself, if none does.
 fn first_target(s: &[u32], starts: &[u32], q: u32) -> u32
     requires { ⌜ RunAt (now s) (now starts) q ⌝ }
-    ensures { λ r. ⌜ r ≡ firstTarget (now (s .entry)) (now (starts .entry)) q ⌝ }
+    ensures { λ r. ⌜ r ≡ firstTarget (read (now (s .entry))) q ⌝ }
 {
     let p = q as usize;
     let at = starts[p] as usize;
@@ -160,10 +160,10 @@ fn first_target(s: &[u32], starts: &[u32], q: u32) -> u32
     q
 }
 
-// The first target of each state.
+// The first target of each state, at the front of targets.
 fn first_targets(s: &[u32], starts: &[u32], targets: &mut [u32])
     requires { ⌜ Accepted (now s) × Indexed (now s) (now starts) × (length (now targets) ≡ 256) ⌝ }
-    ensures { λ r. ⌜ FirstTargets (now (s .entry)) (now (starts .entry)) (now (targets .exit)) (stateCount (now (s .entry))) ⌝ }
+    ensures { λ r. ⌜ now (targets .exit) ≡ targetsBelow (read (now (s .entry))) (now (targets .entry)) (stateCount (now (s .entry))) ⌝ }
 {
     let n = s[2];
     let mut q: u32 = 0;

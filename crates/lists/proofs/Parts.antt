@@ -1,12 +1,14 @@
 -- Parts of lists and runs of stores, in the terms that code has: `now` of `&s[a..]` is `take (length s - a) (drop a s)`.
-use Prim.Native.Nat.{ℕ, suc, _+_, _-_, _<_}
+use Prim.Native.Nat.{ℕ, suc, _+_, _-_, _≤_, _<_}
 use mathlib.Core.List.{List, [], _∷_, _++_}
-use mathlib.Core.Path.{_≡_, refl, _∙_, ap}
+use mathlib.Core.Path.{_≡_, refl, sym, _∙_, ap}
 use native.Mathlib.Nat.{le-refl}
 use native.Mathlib.Numerals.{add-one}
 use native.Mathlib.Omega.{arith}
-use lib.ListN.{length, getD, take, drop, set, length-drop}
-use lib.Seq.{drop-cons, take-all, take-suc, sets, set-comm}
+use lib.ListN.{length, getD, take, drop, set, length-drop, List·getD-append}
+use lib.Seq.{drop-cons, take-all, take-suc, sets, sets-eq, set-comm}
+use Rattle.lists.specs.Lists.{tabulate}
+use Rattle.lists.proofs.Lists.{tabulate-at, length-tabulate, tabulate-end}
 
 -- what is left of a list from an index within it on
 pub drop-at : (s : List ℕ) (i : ℕ) → i < length s → drop i s ≡ getD s i 0 ∷ drop (i + 1) s
@@ -38,3 +40,14 @@ sets-one l v i x = sets-append l v (x ∷ []) i
 pub set-before : (l v : List ℕ) (i j x : ℕ) → j < i → set (sets l i v) j x ≡ sets (set l j x) i v
 set-before l [] i j x h = refl
 set-before l (a ∷ v) i j x h = set-before (set l i a) v (suc i) j x (omega arith) ∙ ap (λ t. sets t (suc i) v) (set-comm l i j a x (omega arith))
+
+-- a table at the front of a list: one entry more, and its entries
+pub table-next : (l : List ℕ) (g : ℕ → ℕ) (n : ℕ) → set (sets l 0 (tabulate n g)) n (g n) ≡ sets l 0 (tabulate (n + 1) g)
+table-next l g n =
+    let o : 0 + length (tabulate n g) ≡ n = omega (arith, length-tabulate n g) in
+    ap (λ i. set (sets l 0 (tabulate n g)) i (g n)) (sym o) ∙ sets-one l (tabulate n g) 0 (g n) ∙ ap (sets l 0) (sym (tabulate-end n g) ∙ ap (λ i. tabulate i g) (sym (add-one n)))
+
+pub table-at : (l : List ℕ) (g : ℕ → ℕ) (n q : ℕ) → n ≤ length l → q < n → getD (sets l 0 (tabulate n g)) q 0 ≡ g q
+table-at l g n q f h =
+    let k : length (tabulate n g) ≡ n = length-tabulate n g in
+    ap (λ x. getD x q 0) (sets-eq (tabulate n g) l 0 (omega arith)) ∙ List·getD-append (tabulate n g) _ 0 q (omega arith) ∙ tabulate-at n g q 0 h

@@ -1,7 +1,7 @@
 -- The records of an accepted sheet that leave one state are a run, which the table of starts gives.
 use Prim.Native.Nat.{ℕ, suc, _+_, _-_, _*_, _≤_, _<_}
 use mathlib.Core.Bool.{true, false, cond}
-use mathlib.Core.List.{List, [], _∷_, _++_}
+use mathlib.Core.List.{List}
 use mathlib.Core.Logic.{⊎-elim}
 use mathlib.Core.Path.{_≡_, refl, sym, ap, ap₂, _∙_, subst}
 use native.Mathlib.Numerals.{add-one}
@@ -9,11 +9,10 @@ use native.Mathlib.Omega.{arith}
 use borrow.Author.Needs.{needs}
 use borrow.Author.Tests.{lt-ltb, le-ltb, ltb-true, ltb-false}
 use lib.Dec.{ltb}
-use lib.ListN.{length, getD, take, drop, set, length-drop, length-take, List·getD-append}
-use lib.Seq.{sets, sets-eq, length-sets, drop-drop}
+use lib.ListN.{length, getD, take, drop, set, length-drop, length-take}
+use lib.Seq.{sets, length-sets, drop-drop}
 use Rattle.lists.specs.Lists.{tabulate}
-use Rattle.lists.proofs.Lists.{tabulate-at, length-tabulate, tabulate-end}
-use Rattle.lists.proofs.Parts.{part-all, sets-one}
+use Rattle.lists.proofs.Parts.{part-all, table-next, table-at}
 use Rattle.lists.proofs.Tests.{test}
 use Rattle.automata.specs.Automaton.{Transition, leaving}
 use Rattle.automata.specs.Records.{readRecords, writeRecords}
@@ -89,9 +88,7 @@ module _ (s : List ℕ) (old now : List ℕ) (q : ℕ) (e : now ≡ startsBelow 
   starts-next k h =
       let g : ℕ → ℕ = λ p. recordsAt s + 5 * below p (read s .transitions) in
       let n : recordsAt s + 5 * k ≡ g q = ap (λ x. recordsAt s + 5 * x) (h ∙ ap (λ l. below q (readRecords l)) (part-all (recordsAt s) s)) in
-      let o : 0 + length (tabulate q g) ≡ q = omega (arith, length-tabulate q g) in
-      ap₂ (λ l i. set l i (recordsAt s + 5 * k)) e (sym o) ∙ sets-one old (tabulate q g) 0 (recordsAt s + 5 * k)
-      ∙ ap (λ v. sets old 0 v) (ap (λ x. tabulate q g ++ x ∷ []) n ∙ sym (tabulate-end q g) ∙ ap (λ i. tabulate i g) (sym (add-one q)))
+      ap₂ (λ l x. set l q x) e n ∙ table-next old g q
 
   pub starts-ended : stateCount s < q → q ≤ stateCount s + 1 → now ≡ sets old 0 (startsOf s)
   unfolding startsOf startsBelow
@@ -161,14 +158,9 @@ starts-none s old = refl
 pub starts-indexed : (s old now : List ℕ) → now ≡ sets old 0 (startsOf s) → stateCount s < length old → Indexed s now
 unfolding startsOf
 starts-indexed s old now e h =
-    let g : ℕ → ℕ = λ p. recordsAt s + 5 * below p (read s .transitions) in
-    let v = tabulate (suc (stateCount s)) g in
-    let n : length v ≡ suc (stateCount s) = length-tabulate (suc (stateCount s)) g in
     record {
-      long = omega (arith, ap length e ∙ length-sets old 0 v);
-      at = λ q l.
-          ap (λ x. getD x q 0) (e ∙ sets-eq v old 0 (omega arith)) ∙ List·getD-append v _ 0 q (omega arith)
-          ∙ tabulate-at (suc (stateCount s)) g q 0 (omega arith);
+      long = omega (arith, ap length e ∙ length-sets old 0 (tabulate (suc (stateCount s)) (λ p. recordsAt s + 5 * below p (read s .transitions))));
+      at = λ q l. ap (λ x. getD x q 0) e ∙ table-at old (λ p. recordsAt s + 5 * below p (read s .transitions)) (suc (stateCount s)) q (omega arith) (omega arith);
     }
 
 pub ruleset startsLaws = (starts-none, starts-rising, starts-few, starts-ended, ends-begin, greatest-begin, needs)

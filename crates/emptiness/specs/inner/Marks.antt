@@ -1,16 +1,16 @@
 -- For inner contracts. What the search keeps: a mark for each state that was met, and a stack of met states whose transitions are still to be followed.
 use Prim.Native.Nat.{ℕ, _+_, _-_, _≤_, _<_}
-use mathlib.Core.Bool.{cond}
-use mathlib.Core.List.{List}
+use mathlib.Core.List.{List, map}
 use mathlib.Core.Logic.{_⊎_}
 use mathlib.Core.Path.{_≡_}
-use lib.Dec.{eqb, leb}
+use lib.Dec.{eqb}
 use lib.ListN.{length, getD, set}
-use Rattle.lists.specs.Lists.{_∈_, filter}
-use Rattle.automata.specs.Automaton.{Transition, Automaton, acceptOf}
+use lib.Seq.{sets}
+use Rattle.lists.specs.Lists.{_∈_, filter, tabulate}
+use Rattle.automata.specs.Automaton.{Transition, Automaton, acceptOf, leaving}
 use Rattle.sheets.specs.inner.Accepted.{Accepted}
 use Rattle.sheets.specs.inner.Runs.{Indexed}
-use Rattle.sheets.specs.Sheet.{stateCount}
+use Rattle.sheets.specs.Sheet.{read}
 use Rattle.emptiness.specs.Reachable.{Path}
 
 -- the state q was met
@@ -64,19 +64,23 @@ pub record Searched (A : Automaton) (marks stack : List ℕ) (top q : ℕ) : Typ
   pub paths : (x : ℕ) → Marked marks x → Path A (A .start) x
   pub others : (x : ℕ) → Marked marks x → (x ≡ q) ⊎ (((j : ℕ) × (j < top) × (getD stack j 0 ≡ x)) ⊎ Done A marks x)
 
--- the target of the first record that leaves q; q itself, if none does
-unfoldable pub firstTarget : List ℕ → List ℕ → ℕ → ℕ
-firstTarget s starts q = cond (leb 5 (getD starts (q + 1) 0 - getD starts q 0)) (getD s (getD starts q 0 + 4) 0) q
+-- the target of the first transition that leaves q; q itself, if none does
+unfoldable pub firstTarget : Automaton → ℕ → ℕ
+firstTarget A q = getD (map (λ e. e .to) (leaving A q)) 0 q
 
--- the first targets of the states below n
-pub record FirstTargets (s starts targets : List ℕ) (n : ℕ) : Type 0 where
+-- old, with the first targets of the states below n at its front
+unfoldable pub targetsBelow : Automaton → List ℕ → ℕ → List ℕ
+targetsBelow A old n = sets old 0 (tabulate n (firstTarget A))
+
+-- targets is, at its front, the table of the first targets of all states
+pub record FirstTargets (A : Automaton) (targets : List ℕ) : Type 0 where
   pub long : length targets ≡ 256
-  pub at : (q : ℕ) → q < n → getD targets q 0 ≡ firstTarget s starts q
+  pub at : (q : ℕ) → q < A .size → getD targets q 0 ≡ firstTarget A q
 
 -- before the search: where the runs of the accepted sheet begin is known, and the first target of each state, and no state was met
 pub record UnmarkedSearch (s starts targets marks stack : List ℕ) : Type 0 where
   pub accepted : Accepted s
   pub indexed : Indexed s starts
-  pub first : FirstTargets s starts targets (stateCount s)
+  pub first : FirstTargets (read s) targets
   pub unmarked : Unmarked marks
   pub long : length stack ≡ 256
