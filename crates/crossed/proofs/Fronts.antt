@@ -16,7 +16,8 @@ use Rattle.sheets.proofs.Meaning.{write-room}
 use Rattle.crossed.specs.Calls.{OutputsMemory, sheetOf, labelsOf}
 
 -- the memory m of a call whose answer, behind 20, is a, and a is the pattern P
-module _ (m : OutputsMemory) (a : Answer Pattern) (call : m .after ≡ replyToPattern (m .sheet) (m .labels) (m .words) (m .bytes) (roomFirst (m .sheet) (m .labels) a)) (P : Pattern) (is : a ≡ given P) where
+module _ (m : OutputsMemory) (a : Answer Pattern) (call : m .after ≡ replyToPattern (m .sheet) (m .labels) (m .words) (m .bytes) (roomFirst (m .sheet) (m .labels) a))
+    (P : Pattern) (is : a ≡ given P) where
   left : m .after ≡ outputsReply 0 (length (write (P .automaton))) (length (writeLabels (P .labels))) (sets (m .sheet) 0 (write (P .automaton))) (sets (m .labels) 0 (writeLabels (P .labels)))
   unfolding outputs
   left = call ∙ ap (replyToPattern (m .sheet) (m .labels) (m .words) (m .bytes)) (room-first (m .sheet) (m .labels) a (m .room) ∙ is)

@@ -40,7 +40,8 @@ run-word upper b (skip e m f k r) = run-word upper b r
 run-word upper b (runs.read {a = a} e m f k l u r) = more {a = a} (omega arith) (omega (arith, b e m)) (run-word upper b r)
 
 -- accepted sheets s and t whose determinizations are D and E
-module _ (s : List ℕ) (f : fault s ≡ 0) (D : Automaton) (e : determinize 0 lastSymbol (read s) ≡ given D) (t : List ℕ) (g : fault t ≡ 0) (E : Automaton) (h : determinize 0 lastSymbol (read t) ≡ given E) where
+module _ (s : List ℕ) (f : fault s ≡ 0) (D : Automaton) (e : determinize 0 lastSymbol (read s) ≡ given D) (t : List ℕ) (g : fault t ≡ 0) (E : Automaton)
+    (h : determinize 0 lastSymbol (read t) ≡ given E) where
   other-back : read (write (flipped E)) ≡ flipped E
   other-back = read-write-sheet (flipped E) (flipped-wellformed t g E h .accepts)
 

@@ -95,7 +95,8 @@ module _ (lower upper : ℕ) (a b o o′ p : List ℕ) (r : Determinized) (is-r 
   pub first-refused : (k : StateRefusal) → r ≡ Refused k → BothDeterminized lower upper (read a) (read b) o′ p (both.Refused k)
   first-refused k e = determinized-first lower upper (read a) (read b) (stateNumber k) (front-refused lower upper a o o′ r is-r k e)
 
-  module _ (m i : ℕ) (e : r ≡ Sheet m i) (good-a : Accepted a) (long-o : 10500 ≤ length o) (p′ : List ℕ) (q : Determinized) (is-q : determinizedOf q p′ ≡ sheetOutput p (determinize lower upper (read b))) where
+  module _ (m i : ℕ) (e : r ≡ Sheet m i) (good-a : Accepted a) (long-o : 10500 ≤ length o) (p′ : List ℕ) (q : Determinized)
+      (is-q : determinizedOf q p′ ≡ sheetOutput p (determinize lower upper (read b))) where
     first : Front lower upper a o′ m
     first = front-given lower upper a o o′ r is-r m i e good-a long-o
 

@@ -92,7 +92,8 @@ module _ (lower upper : ℕ) (A B : Automaton) where
   unfolding determinized withFirst withSecond
   determinized-second D d n e = rw (d, e)
 
-  refused-by : (n : ℕ) → (determinized lower upper A B ≡ refused n) ↔ ((determinize lower upper A ≡ refused n) ⊎ (((D : Automaton) × (determinize lower upper A ≡ given D)) × (determinize lower upper B ≡ refused n)))
+  refused-by : (n : ℕ)
+      → (determinized lower upper A B ≡ refused n) ↔ ((determinize lower upper A ≡ refused n) ⊎ (((D : Automaton) × (determinize lower upper A ≡ given D)) × (determinize lower upper B ≡ refused n)))
   unfolding determinized
   refused-by n = (answers-refused lower upper n (determinize lower upper A) (determinize lower upper B), ⊎-elim (determinized-first n) (λ (d, e). determinized-second (d .0) (d .1) n e))
 
@@ -167,7 +168,8 @@ other-bits (suc m) zero h k d = inl (omega arith, λ z. omega arith)
 other-bits (suc m) (suc n) h k d = absurd (d (omega arith))
 
 -- the words of both
-module _ (lower upper : ℕ) (A B : Automaton) (well-a : WellFormed A) (well-b : WellFormed B) (D E : Automaton) (is-d : determinize lower upper A ≡ given D) (is-e : determinize lower upper B ≡ given E) where
+module _ (lower upper : ℕ) (A B : Automaton) (well-a : WellFormed A) (well-b : WellFormed B) (D E : Automaton) (is-d : determinize lower upper A ≡ given D)
+    (is-e : determinize lower upper B ≡ given E) where
   by-a : (w : List ℕ) → Word lower upper w → Accepts A w ↔ (0 < acceptAfter D w)
   by-a = accepts-determinized lower upper A well-a D is-d
 

@@ -14,19 +14,23 @@ classes-positive (old i l r c) h = classes-positive c (omega arith)
 classes-positive (new o c) h = omega arith
 
 -- what holds of each pair holds of all that the pairs generate
-pub generated-into : {n : ℕ} {one two : ℕ → ℕ} {k : ℕ} (R : ℕ → ℕ → Type 0) → ((p : ℕ) → p < n → R p p) → ((p q : ℕ) → R p q → R q p) → ((p q s : ℕ) → R p q → R q s → R p s) → ((i : ℕ) → i < k → R (one i) (two i)) → {p q : ℕ} → Generated n one two k p q → R p q
+pub generated-into : {n : ℕ} {one two : ℕ → ℕ} {k : ℕ} (R : ℕ → ℕ → Type 0) → ((p : ℕ) → p < n → R p p) → ((p q : ℕ) → R p q → R q p)
+    → ((p q s : ℕ) → R p q → R q s → R p s) → ((i : ℕ) → i < k → R (one i) (two i)) → {p q : ℕ} → Generated n one two k p q → R p q
 generated-into R s u c h (pair i b) = h i b
 generated-into R s u c h (reflexive {p = p} b) = s p b
 generated-into R s u c h (symmetric {p = p} {q = q} l) = u p q (generated-into R s u c h l)
 generated-into R s u c h (transitive {p = p} {q = q} {s = w} l m) = c p q w (generated-into R s u c h l) (generated-into R s u c h m)
 
 -- more pairs generate more
-pub generated-more : {n : ℕ} {one two one′ two′ : ℕ → ℕ} {k m : ℕ} → k ≤ m → ((j : ℕ) → j < k → one′ j ≡ one j) → ((j : ℕ) → j < k → two′ j ≡ two j) → {p q : ℕ} → Generated n one two k p q → Generated n one′ two′ m p q
+pub generated-more : {n : ℕ} {one two one′ two′ : ℕ → ℕ} {k m : ℕ} → k ≤ m → ((j : ℕ) → j < k → one′ j ≡ one j) → ((j : ℕ) → j < k → two′ j ≡ two j)
+    → {p q : ℕ} → Generated n one two k p q → Generated n one′ two′ m p q
 generated-more {n} {one} {two} {one′} {two′} {k} {m} h a b l = generated-into (Generated n one′ two′ m) (λ p c. reflexive c) (λ p q l. symmetric l) (λ p q u l n. transitive l n)
     (λ i c. subst (λ (p : ℕ). Generated n one′ two′ m p (two i)) (a i c) (subst (Generated n one′ two′ m (one′ i)) (b i c) (pair i (omega arith)))) l
 
 -- of the joined pair and of what was joined before, what is joined now
-merged-into : {n : ℕ} {f g : ℕ → ℕ} {p q : ℕ} → Merges n f g p q → (R : ℕ → ℕ → Type 0) → ((p q : ℕ) → R p q → R q p) → ((p q s : ℕ) → R p q → R q s → R p s) → ((u v : ℕ) → u < n → v < n → f u ≡ f v → R u v) → R p q → (u v : ℕ) → u < n → v < n → g u ≡ g v → R u v
+merged-into : {n : ℕ} {f g : ℕ → ℕ} {p q : ℕ} → Merges n f g p q → (R : ℕ → ℕ → Type 0) → ((p q : ℕ) → R p q → R q p)
+    → ((p q s : ℕ) → R p q → R q s → R p s) → ((u v : ℕ) → u < n → v < n → f u ≡ f v → R u v) → R p q → (u v : ℕ) → u < n → v < n → g u ≡ g v
+    → R u v
 merged-into {n} {f} {g} {p} {q} m R tn ch h e u v hu hv d = by-way (m .only u v hu hv d)
   where
     by-way : Joined (Ker f) p q u v → R u v

@@ -14,7 +14,8 @@ use Rattle.dsu.specs.declared.FindAnswer.{FindAnswer}
 use Rattle.dsu.specs.declared.SetsAnswer.{SetsAnswer}
 use Rattle.dsu.specs.Sets.{Seen, top, up, fault, seen, Way, broken, reached, point, onward, walk, way, findOf, After, under, join, joinSecond, joinFirst, unionIn, madeOf, unionOf, newOf}
 use Rattle.dsu.specs.Laws.{classOf}
-use Rattle.dsu.specs.Refusals.{foundNumber, outcomeNumber, OnWay, here, next, Fault, many, outside, small, no-size, large, Broken, TooLarge, BrokenUnion, first, second, joint, NewRefusals, FindRefusals, UnionRefusals}
+use Rattle.dsu.specs.Refusals.{foundNumber, outcomeNumber, OnWay, here, next, Fault, many, outside, small, no-size}
+use Rattle.dsu.specs.Refusals.{large, Broken, TooLarge, BrokenUnion, first, second, joint, NewRefusals, FindRefusals, UnionRefusals}
 use Rattle.dsu.proofs.WayLeads.{WayLeads, after, leads-start, leads-way, leads-class, way-leads, after-leads, after-back}
 use Rattle.dsu.proofs.Ways.{fault-top, fault-up, seen-many, seen-none, seen-over, at-top, at-up, way-fault, way-up}
 
@@ -99,7 +100,8 @@ module _ (d : DSU) where
       by-way broken q = refl
       by-way (reached a m) q = let v : _≡_ {A = ℕ} 0 1 = cc in absurd (omega arith)
 
-      by-seen : (n < k + getD z (getD l x 0) 0 → walk k l z n (getD l x 0) ≡ broken → Broken d (getD l x 0)) → (s : Seen) → seen l z n x ≡ s → onward x l s (walk k l z n (getD l x 0)) ≡ broken → Broken d x
+      by-seen : (n < k + getD z (getD l x 0) 0 → walk k l z n (getD l x 0) ≡ broken → Broken d (getD l x 0)) → (s : Seen) → seen l z n x ≡ s
+          → onward x l s (walk k l z n (getD l x 0)) ≡ broken → Broken d x
       by-seen ih top t q = let v : _≡_ {A = ℕ} 0 1 = cc in absurd (omega arith)
       by-seen ih up t q =
           let h = at-up l z n x t .1 in

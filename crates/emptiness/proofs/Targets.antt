@@ -1,6 +1,6 @@
 -- The table of first targets: the laws by which it is proved.
 use Prim.Native.Nat.{ℕ, _+_, _-_, _≤_, _<_}
-use mathlib.Core.List.{List, []}
+use mathlib.Core.List.{List}
 use mathlib.Core.Path.{_≡_, refl, sym, _∙_, ap, ap₂}
 use native.Mathlib.Omega.{arith}
 use borrow.Author.Needs.{needs}
@@ -55,4 +55,4 @@ pub targets-all : (A : Automaton) (old targets : List ℕ) → targets ≡ targe
 targets-all A old targets e l h =
     record { long = targets-long A old targets (A .size) e ∙ l; at = λ q k. unfold targetsBelow in (ap (λ x. getD x q 0) e ∙ table-at old (firstTarget A) (A .size) q (omega (arith, l)) k) }
 
-pub ruleset targetLaws = (target-is, target-none, targets-none, run-at, needs)
+pub ruleset targetLaws = (target-is, target-none, targets-none, targets-long, run-at, needs)

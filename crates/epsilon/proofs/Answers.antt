@@ -91,7 +91,8 @@ module _ (n : ℕ) (b : List ℕ) (r : labelled.Checked) (e : labelCheck.checked
 pub ruleset checkedLaws = (labels-accepted, labels-given, labels-stopped, needs)
 
 -- the room of the outputs, and the check of the sheet
-pub sheet-ready : (o l s : List ℕ) (w : Bool) → w ≡ (ltb (length o) 10500 || ltb (length l) 16642) → w ≡ false → (r : Checked) → checkedNumber r ≡ fault s → r ≡ sheetAnswer.Accepted → EliminationInputs s o l
+pub sheet-ready : (o l s : List ℕ) (w : Bool) → w ≡ (ltb (length o) 10500 || ltb (length l) 16642) → w ≡ false → (r : Checked)
+    → checkedNumber r ≡ fault s → r ≡ sheetAnswer.Accepted → EliminationInputs s o l
 sheet-ready o l s w e h r f g = record { accepted = check-accepted r s f g; words = room-words o l w e h; bytes = room-bytes o l w e h }
 
 module _ (o l s b : List ℕ) (w : Bool) (e : w ≡ (ltb (length o) 10500 || ltb (length l) 16642)) where
@@ -104,6 +105,7 @@ module _ (o l s b : List ℕ) (w : Bool) (e : w ≡ (ltb (length o) 10500 || ltb
     unfolding eliminateAnswer
     sheet-stopped i g = made-refused o l (Input i) _ (room-enough o l _ w e h ∙ sheet-refused s _ r f i g)
 
-    pub sheet-given : r ≡ sheetAnswer.Accepted → (x : Outcome output.Lengths Outputs) → x ≡ outputs o l (labelsFirst (stateCount s) b (eliminatedWith (read s) (readLabels b))) → x ≡ outputs o l (eliminateAnswer s b o l)
+    pub sheet-given : r ≡ sheetAnswer.Accepted → (x : Outcome output.Lengths Outputs)
+        → x ≡ outputs o l (labelsFirst (stateCount s) b (eliminatedWith (read s) (readLabels b))) → x ≡ outputs o l (eliminateAnswer s b o l)
     unfolding eliminateAnswer
     sheet-given g x p = p ∙ ap (outputs o l) (sym (room-enough o l _ w e h ∙ sheet-passed s _ r f g))

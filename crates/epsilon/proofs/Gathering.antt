@@ -59,7 +59,8 @@ moved-cons : (p : ℕ) (e : Transition) (es : List Transition) → movedTo p (e 
 unfolding movedTo rangesOf filter
 moved-cons p e es = go (eqb (e .kind) 1)
   where
-    go : (b : Bool) → map (leavingFrom p) (cond b (e ∷ filter (λ d. eqb (d .kind) 1) es) (filter (λ d. eqb (d .kind) 1) es)) ≡ map (leavingFrom p) (cond b (e ∷ []) []) ++ map (leavingFrom p) (filter (λ d. eqb (d .kind) 1) es)
+    go : (b : Bool)
+        → map (leavingFrom p) (cond b (e ∷ filter (λ d. eqb (d .kind) 1) es) (filter (λ d. eqb (d .kind) 1) es)) ≡ map (leavingFrom p) (cond b (e ∷ []) []) ++ map (leavingFrom p) (filter (λ d. eqb (d .kind) 1) es)
     go true = refl
     go false = refl
 
@@ -121,7 +122,8 @@ tables-closures s starts c t = record { accepted = t .accepted; long = t .long; 
 pub set-run : (s starts v : List ℕ) → Accepted s → Indexed s starts → Canon (stateCount s) (setAt v 0) → (q : ℕ) → q ≡ nextMember (setAt v 0) q → q < 256 → RunAt s starts q
 set-run s starts v a x n q h b = run-at s a starts q x (has-below (stateCount s) (setAt v 0) n q (visit-has (setAt v 0) (at-canon v 0) q h b))
 
-pub set-begins : (s v : List ℕ) (p : ℕ) (buf : List ℕ) → Memory buf → (q : ℕ) → q ≡ nextMember (setAt v 0) 0 → Rest buf 0 0 (rangesFrom (read s) p (membersFrom q (setAt v 0))) (rangesFrom (read s) p (setAt v 0))
+pub set-begins : (s v : List ℕ) (p : ℕ) (buf : List ℕ) → Memory buf → (q : ℕ) → q ≡ nextMember (setAt v 0) 0
+    → Rest buf 0 0 (rangesFrom (read s) p (membersFrom q (setAt v 0))) (rangesFrom (read s) p (setAt v 0))
 set-begins s v p buf h q e =
     subst (λ (S : Set). Rest buf 0 0 (rangesFrom (read s) p S) (rangesFrom (read s) p (setAt v 0))) (sym (visit-start (setAt v 0) (at-canon v 0) q e)) (rest-none buf h (rangesFrom (read s) p (setAt v 0)))
 

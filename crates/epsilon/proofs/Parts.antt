@@ -108,7 +108,8 @@ module _ (s starts c : List ℕ) (t : Tables s starts c) (p : ℕ) (l : p < stat
     pub part-row : setAt v 0 ≡ closure (read s) p
     part-row = row-closure s c (tables-closures s starts c t) p l old v e o
 
-    pub part-new : (m : List ℕ) (sorted end : ℕ) → Gathered m sorted end (rangesFrom (read s) 0 (setAt v 0)) → (n : List ℕ) (r : ℕ) → Settled m sorted end n r → Collected n r (rangesFrom (read s) 0 (closure (read s) p))
+    pub part-new : (m : List ℕ) (sorted end : ℕ) → Gathered m sorted end (rangesFrom (read s) 0 (setAt v 0)) → (n : List ℕ) (r : ℕ)
+        → Settled m sorted end n r → Collected n r (rangesFrom (read s) 0 (closure (read s) p))
     part-new m sorted end g n r k = subst (λ (S : Set). Collected n r (rangesFrom (read s) 0 S)) part-row (collect-all m sorted end _ g n r k)
 
 -- all states, one after the other

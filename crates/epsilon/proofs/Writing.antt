@@ -27,7 +27,8 @@ use Rattle.epsilon.proofs.Gathering.{row-inside, row-closure, row-canon
 pub ruleset gatherLaws = (collect-all, needs)
 
 -- the accept word of a closure
-pub kind-row : (s c : List ℕ) (t : ClosuresOf s c) (p : ℕ) → p < stateCount s → (old v : List ℕ) → v ≡ putAt old 0 c (4 * p) → 4 ≤ length old → (k : ℕ) → k ≡ kindOf (read s) (setAt v 0) → k ≡ kindOf (read s) (closure (read s) p)
+pub kind-row : (s c : List ℕ) (t : ClosuresOf s c) (p : ℕ) → p < stateCount s → (old v : List ℕ) → v ≡ putAt old 0 c (4 * p) → 4 ≤ length old
+    → (k : ℕ) → k ≡ kindOf (read s) (setAt v 0) → k ≡ kindOf (read s) (closure (read s) p)
 kind-row s c t p l old v e o k h = h ∙ ap (kindOf (read s)) (row-closure s c t p l old v e o)
 
 pub ruleset kindLaws = (row-inside, row-canon, kind-row, needs)

@@ -20,7 +20,8 @@ use Rattle.equality.specs.Verdict.{Decided}
 use Rattle.equality.specs.Equality.{Exact}
 use Rattle.equality.proofs.Forced.{total-of, forced-joins, forced-least}
 
-module _ (lower upper : ℕ) (A B : Automaton) (well-a : WellFormed A) (well-b : WellFormed B) (D E : Automaton) (is-d : determinize lower upper A ≡ given D) (is-e : determinize lower upper B ≡ given E) where
+module _ (lower upper : ℕ) (A B : Automaton) (well-a : WellFormed A) (well-b : WellFormed B) (D E : Automaton) (is-d : determinize lower upper A ≡ given D)
+    (is-e : determinize lower upper B ≡ given E) where
   abbrev two : Two
   two = record { one = D; two = E; lower = lower; upper = upper }
 

@@ -48,7 +48,8 @@ pub record RecordsCompared (a b : List ℕ) (lower upper : ℕ) (ra rb : List �
   pub before : RunsInvariant a b lower upper ra rb n1 i j k w l
   pub shared : (x : ℕ) → lower ≤ x → x ≤ upper → In ra j x → In rb k x → Joined a b w i x
 
-pub runs-begin : (a b : List ℕ) (lower upper : ℕ) (ra rb : List ℕ) (n1 i : ℕ) (w : Pairs) (l : List ℕ) → ComparableRecords a b lower upper ra rb n1 i w l → RunsInvariant a b lower upper ra rb n1 i 0 0 w l
+pub runs-begin : (a b : List ℕ) (lower upper : ℕ) (ra rb : List ℕ) (n1 i : ℕ) (w : Pairs) (l : List ℕ)
+    → ComparableRecords a b lower upper ra rb n1 i w l → RunsInvariant a b lower upper ra rb n1 i 0 0 w l
 runs-begin a b lower upper ra rb n1 i w l r = record { runs = r; done-a = λ g h. absurd (omega arith); done-b = λ g h. absurd (omega arith) }
 
 module _ (a b : List ℕ) (lower upper : ℕ) (ra rb : List ℕ) (n1 i : ℕ) (w : Pairs) (l : List ℕ) (runs : ComparableRecords a b lower upper ra rb n1 i w l) where

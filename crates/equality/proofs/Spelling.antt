@@ -103,7 +103,8 @@ chained v i-in = record {
 }
 
 -- the word leads both automata to the successors
-led : {t : Two} {w : Pairs} {l : List ℕ} {i x : ℕ} → WalkedPairs t w l → i < w .made → Symbol t x → {c : ℕ} {v : List ℕ} → Leads (trailOf l) i x c v → Word (t .lower) (t .upper) v × (stateAfter (t .one) (oneAt w c) v ≡ successor (t .one) (oneAt w i) x) × (stateAfter (t .two) (twoAt w c) v ≡ successor (t .two) (twoAt w i) x)
+led : {t : Two} {w : Pairs} {l : List ℕ} {i x : ℕ} → WalkedPairs t w l → i < w .made → Symbol t x → {c : ℕ} {v : List ℕ} → Leads (trailOf l) i x c v
+    → Word (t .lower) (t .upper) v × (stateAfter (t .one) (oneAt w c) v ≡ successor (t .one) (oneAt w i) x) × (stateAfter (t .two) (twoAt w c) v ≡ successor (t .two) (twoAt w i) x)
 unfolding stateAfter
 led p i-in s here = (more (s .0) (s .1) none, refl, refl)
 led {t} p i-in s (back {c = c} {v = v} z h l) =
@@ -112,7 +113,8 @@ led {t} p i-in s (back {c = c} {v = v} z h l) =
     (more (m .symbol .0) (m .symbol .1) (ih .0), ap (λ (p : ℕ). stateAfter (t .one) p v) (sym (m .next-one)) ∙ ih .1, ap (λ (p : ℕ). stateAfter (t .two) p v) (sym (m .next-two)) ∙ ih .2)
 
 -- a difference: the word written is accepted by exactly one, and short
-module _ (t : Two) (total : Total t) (w : Pairs) (l : List ℕ) (p : WalkedPairs t w l) (i x : ℕ) (i-in : i < w .made) (x-in : Symbol t x) (differ : acceptOf (t .one) (successor (t .one) (oneAt w i) x) ≡ acceptOf (t .two) (successor (t .two) (twoAt w i) x) → ⊥) where
+module _ (t : Two) (total : Total t) (w : Pairs) (l : List ℕ) (p : WalkedPairs t w l) (i x : ℕ) (i-in : i < w .made) (x-in : Symbol t x)
+    (differ : acceptOf (t .one) (successor (t .one) (oneAt w i) x) ≡ acceptOf (t .two) (successor (t .two) (twoAt w i) x) → ⊥) where
   pub differs : (n : ℕ) (o o′ : List ℕ) → Spelled (trailOf l) i x n o o′ → Apart t (take n o′)
   differs n o o′ s =
       let d = led p i-in x-in (s .leads) in

@@ -56,7 +56,8 @@ pub record WalkInvariant (a b starts-a starts-b : List ℕ) (lower upper n1 head
   pub closed : SuccessorsJoined (twoOf a b lower upper) w head
 
 -- the starts joined
-module _ (a b starts-a starts-b : List ℕ) (lower upper : ℕ) (o : List ℕ) (s : StartsAgree a b starts-a starts-b lower upper o) (f : SetsAnswer) (is-f : f ≡ newOf (getD a 2 0 + getD b 2 0)) (queue : List ℕ) (long : length queue ≡ 1024) where
+module _ (a b starts-a starts-b : List ℕ) (lower upper : ℕ) (o : List ℕ) (s : StartsAgree a b starts-a starts-b lower upper o) (f : SetsAnswer)
+    (is-f : f ≡ newOf (getD a 2 0 + getD b 2 0)) (queue : List ℕ) (long : length queue ≡ 1024) where
   abbrev fresh : Pairs
   fresh = record { sets = f .sets; queue = queue; made = 0 }
 
@@ -66,7 +67,8 @@ module _ (a b starts-a starts-b : List ℕ) (lower upper : ℕ) (o : List ℕ) (
   pub walk-fits : PairFits (getD a 2 0) (getD a 1 0) (getD b 1 0) fresh
   walk-fits = pair-fits (getD a 2 0) (getD a 1 0) (getD b 1 0) fresh (is-fresh .valid (getD a 2 0)) (omega (arith, is-fresh .is-n, s .input .sheets .first .start)) (omega (arith, is-fresh .is-n, s .input .sheets .second .start))
 
-  pub walk-begin : (w : Pairs) → PairJoined (getD a 2 0) (getD a 1 0) (getD b 1 0) fresh w → (l : List ℕ) → length l ≡ 1536 → getD l 2 0 ≡ 0 → WalkInvariant a b starts-a starts-b lower upper (getD a 2 0) 0 w l o
+  pub walk-begin : (w : Pairs) → PairJoined (getD a 2 0) (getD a 1 0) (getD b 1 0) fresh w → (l : List ℕ) → length l ≡ 1536 → getD l 2 0 ≡ 0
+      → WalkInvariant a b starts-a starts-b lower upper (getD a 2 0) 0 w l o
   walk-begin w j l h z = record {
     start = s;
     is-n1 = refl;
@@ -85,7 +87,8 @@ module _ (a b starts-a starts-b : List ℕ) (lower upper n1 head : ℕ) (w : Pai
   pub walk-run-b : head < w .made → RunAt b starts-b (twoAt w head)
   walk-run-b h = run-at b (g .start .input .sheets .second) starts-b (twoAt w head) (g .start .index-b) (g .walked .in-two head h)
 
-  pub walk-runs : head < w .made → (ra rb : List ℕ) → ra ≡ writeRecords (leaving (read a) (oneAt w head)) → rb ≡ writeRecords (leaving (read b) (twoAt w head)) → ComparableRecords a b lower upper ra rb n1 head w l
+  pub walk-runs : head < w .made → (ra rb : List ℕ) → ra ≡ writeRecords (leaving (read a) (oneAt w head))
+      → rb ≡ writeRecords (leaving (read b) (twoAt w head)) → ComparableRecords a b lower upper ra rb n1 head w l
   walk-runs h ra rb ea eb = record { sheets = g .start .input .sheets; is-n1 = g .is-n1; run-a = ea; run-b = eb; walked = g .walked; i-in = h; closed = g .closed }
 
   -- all pairs are compared

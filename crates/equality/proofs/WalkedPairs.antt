@@ -47,7 +47,9 @@ module _ (t : Two) (total : Total t) (w : Pairs) (l : List ℕ) (v : WalkedPairs
   pair-forced i b = pair-forced-below (suc i) i (omega arith) b
 
   -- what holds of all that the pairs generate holds of what is joined
-  joined-into : (R : ℕ → ℕ → Type 0) → ((p : ℕ) → p < totalSize t → R p p) → ((p q : ℕ) → R p q → R q p) → ((p q s : ℕ) → R p q → R q s → R p s) → ((i : ℕ) → i < w .made → R (left t (oneAt w i)) (right t (twoAt w i))) → (p q : ℕ) → p < totalSize t → q < totalSize t → classes w p ≡ classes w q → R p q
+  joined-into : (R : ℕ → ℕ → Type 0) → ((p : ℕ) → p < totalSize t → R p p) → ((p q : ℕ) → R p q → R q p) → ((p q s : ℕ) → R p q → R q s → R p s)
+      → ((i : ℕ) → i < w .made → R (left t (oneAt w i)) (right t (twoAt w i))) → (p q : ℕ) → p < totalSize t → q < totalSize t
+      → classes w p ≡ classes w q → R p q
   joined-into R s u c h p q hp hq e = generated-into R (λ p b. s p (omega (arith, v .is-n))) u c h (v .valid .spanned .only p q (omega (arith, v .is-n)) (omega (arith, v .is-n)) e)
 
   -- what is joined is forced, and agrees
@@ -80,7 +82,9 @@ module _ (t : Two) (total : Total t) (w : Pairs) (l : List ℕ) (v : WalkedPairs
     }
 
   -- two successors that differ: two classes at least are left, so the word to them is short
-  pub short : (i x : ℕ) → i < w .made → Symbol t x → (acceptOf (t .one) (successor (t .one) (oneAt w i) x) ≡ acceptOf (t .two) (successor (t .two) (twoAt w i) x) → ⊥) → trailOf l .depth i + 1 + 2 ≤ totalSize t
+  pub short : (i x : ℕ) → i < w .made → Symbol t x
+      → (acceptOf (t .one) (successor (t .one) (oneAt w i) x) ≡ acceptOf (t .two) (successor (t .two) (twoAt w i) x) → ⊥)
+      → trailOf l .depth i + 1 + 2 ≤ totalSize t
   short i x b s d = omega (arith, more-than (v .valid .spanned .number) refl, v .shallow i b, v .valid .spanned .counted, v .is-n)
     where
       p : ℕ
@@ -115,7 +119,8 @@ module _ (t : Two) (total : Total t) (w : Pairs) (l : List ℕ) (v : WalkedPairs
   some = pairs-some (t .one .size) (t .one .start) (t .two .start) w (v .valid) (total .first .start-in) (omega (arith, v .is-n, total .first .start-in)) (omega (arith, v .is-n, total .second .start-in)) (v .started)
 
 -- the starts joined
-module _ (t : Two) (total : Total t) (f : Pairs) (none : NoPairs (totalSize t) f) (w : Pairs) (j : PairJoined (t .one .size) (t .one .start) (t .two .start) f w) (l : List ℕ) (long : length l ≡ 1536) where
+module _ (t : Two) (total : Total t) (f : Pairs) (none : NoPairs (totalSize t) f) (w : Pairs) (j : PairJoined (t .one .size) (t .one .start) (t .two .start) f w)
+    (l : List ℕ) (long : length l ≡ 1536) where
   pub begun : trailOf l .depth 0 ≡ 0 → acceptOf (t .one) (t .one .start) ≡ acceptOf (t .two) (t .two .start) → WalkedPairs t w l
   begun z e = record {
     valid = j .valid;
@@ -142,7 +147,8 @@ module _ (t : Two) (total : Total t) (f : Pairs) (none : NoPairs (totalSize t) f
       only i h = j .new i (omega (arith, none .made)) h .0 ∙ none .made
 
 -- the successors of pair i under x joined
-module _ (t : Two) (total : Total t) (w r : Pairs) (l l′ : List ℕ) (i x : ℕ) (v : WalkedPairs t w l) (i-in : i < w .made) (x-in : Symbol t x) (j : PairJoined (t .one .size) (successor (t .one) (oneAt w i) x) (successor (t .two) (twoAt w i) x) w r) (s : StepPut l l′ (w .made) (r .made) i x) where
+module _ (t : Two) (total : Total t) (w r : Pairs) (l l′ : List ℕ) (i x : ℕ) (v : WalkedPairs t w l) (i-in : i < w .made) (x-in : Symbol t x)
+    (j : PairJoined (t .one .size) (successor (t .one) (oneAt w i) x) (successor (t .two) (twoAt w i) x) w r) (s : StepPut l l′ (w .made) (r .made) i x) where
   -- what holds of the pairs before, and of a new one
   each : (P : ℕ → Type 0) → ((k : ℕ) → k < w .made → P k) → (w .made < r .made → P (w .made)) → (k : ℕ) → k < r .made → P k
   each P old new k h =

@@ -109,7 +109,9 @@ module _ (A B : Automaton) where
       (e, record { one = n; lowest = λ x m s. omega (arith, g .lowest (shifted x) (map-in shifted m) (record { kind = s .kind; first = s .first; last = s .last })) }, q)
 
   -- a state of A and one of B that agree
-  agree : (f : ℕ → ℕ) (p q : ℕ) → p < A .size → Alike A B p q → ((d e : Transition) → FirstOfTrigger (leaving A p) d → FirstOfTrigger (leaving B q) e → SameTrigger d e → f (d .to) ≡ f (A .size + e .to)) → Bisimilar acceptIn outOf f p (A .size + q)
+  agree : (f : ℕ → ℕ) (p q : ℕ) → p < A .size → Alike A B p q
+      → ((d e : Transition) → FirstOfTrigger (leaving A p) d → FirstOfTrigger (leaving B q) e → SameTrigger d e → f (d .to) ≡ f (A .size + e .to))
+      → Bisimilar acceptIn outOf f p (A .size + q)
   agree f p q h a j = record {
     accepts = accept-left p h ∙ a .accept ∙ sym (accept-right q);
     there = subst (λ (l : List Transition). TriggersWithin l (outOf (A .size + q))) (sym (out-left p h)) (subst (TriggersWithin (leaving A p)) (sym (out-right q)) (to-shifted (a .there)));
@@ -128,7 +130,8 @@ module _ (A B : Automaton) where
     back = un-shifted-back (subst (TriggersWithin (map shifted (leaving B q))) (out-left p h) (subst (λ (l : List Transition). TriggersWithin l (outOf p)) (out-right q) (b .back)));
   }
 
-  agreed-joined : (f : ℕ → ℕ) (p q : ℕ) → p < A .size → Bisimilar acceptIn outOf f p (A .size + q) → (d e : Transition) → FirstOfTrigger (leaving A p) d → FirstOfTrigger (leaving B q) e → SameTrigger d e → f (d .to) ≡ f (A .size + e .to)
+  agreed-joined : (f : ℕ → ℕ) (p q : ℕ) → p < A .size → Bisimilar acceptIn outOf f p (A .size + q) → (d e : Transition)
+      → FirstOfTrigger (leaving A p) d → FirstOfTrigger (leaving B q) e → SameTrigger d e → f (d .to) ≡ f (A .size + e .to)
   agreed-joined f p q h b d e x y s =
       b .joined d (shifted e) (subst (λ (l : List Transition). FirstOfTrigger l d) (sym (out-left p h)) x) (subst (λ (l : List Transition). FirstOfTrigger l (shifted e)) (sym (out-right q)) (first-shifted y)) (record { kind = s .kind; first = s .first; last = s .last })
 

@@ -42,7 +42,9 @@ pub row-begin : (run : List ℕ) (at : ℕ) → 5 ≤ length run - at → InRow 
 row-begin run at h = record { onward = omega arith; inside = omega arith; whole = omega arith; left = refl }
 
 -- the test of two records as parts of runs
-pub test-parts : (s t : List ℕ) (i j : ℕ) (b : Bool) → b ≡ sameTrigger (recordAt (take (i + 5 - i) (drop i s)) 0) (recordAt (take (j + 5 - j) (drop j t)) 0) → b ≡ sameTrigger (recordAt s i) (recordAt t j)
+pub test-parts : (s t : List ℕ) (i j : ℕ) (b : Bool)
+    → b ≡ sameTrigger (recordAt (take (i + 5 - i) (drop i s)) 0) (recordAt (take (j + 5 - j) (drop j t)) 0)
+    → b ≡ sameTrigger (recordAt s i) (recordAt t j)
 test-parts s t i j b e = e ∙ ap (λ (d : Transition). sameTrigger d (recordAt (take (j + 5 - j) (drop j t)) 0)) (part-record s i) ∙ ap (sameTrigger (recordAt s i)) (part-record t j)
 
 module _ (run : List ℕ) (at i : ℕ) (r : InRow run at i) where

@@ -47,7 +47,8 @@ unfolding leadersBehind
 behind-led d y [] m = elim m [ ]
 behind-led d y (e ∷ es) m = go (sameTrigger d e) refl (behind-led d y es) (behind-led e y es)
   where
-    go : (b : Bool) → sameTrigger d e ≡ b → (y ∈ es → SameTrigger y d ⊎ Led y (leadersBehind d es)) → (y ∈ es → SameTrigger y e ⊎ Led y (leadersBehind e es)) → SameTrigger y d ⊎ Led y (cond b (leadersBehind d es) (e ∷ leadersBehind e es))
+    go : (b : Bool) → sameTrigger d e ≡ b → (y ∈ es → SameTrigger y d ⊎ Led y (leadersBehind d es))
+        → (y ∈ es → SameTrigger y e ⊎ Led y (leadersBehind e es)) → SameTrigger y d ⊎ Led y (cond b (leadersBehind d es) (e ∷ leadersBehind e es))
     go true t f g = ⊎-elim (λ (q : y ≡ e). inl (rw q (trigger-turn (trigger-test d e t)))) f (List·Memᴰ·cases-cons m)
     go false t f g =
         ⊎-elim (λ (q : y ≡ e). inr (e, List·Memᴰ·head refl, rw q (trigger-self e)))
@@ -153,7 +154,8 @@ module _ (p : ℕ) where
   behind-first d [] s x m = elim m [ ]
   behind-first d (e ∷ es) s x m = go (sameTrigger d e) refl m (behind-first d es (sorted-skip s) x) (behind-first e es (sorted-tail s) x)
     where
-      go : (b : Bool) → sameTrigger d e ≡ b → x ∈ cond b (leadersBehind d es) (e ∷ leadersBehind e es) → (x ∈ leadersBehind d es → FirstOfTrigger es x) → (x ∈ leadersBehind e es → FirstOfTrigger es x) → FirstOfTrigger (e ∷ es) x
+      go : (b : Bool) → sameTrigger d e ≡ b → x ∈ cond b (leadersBehind d es) (e ∷ leadersBehind e es)
+          → (x ∈ leadersBehind d es → FirstOfTrigger es x) → (x ∈ leadersBehind e es → FirstOfTrigger es x) → FirstOfTrigger (e ∷ es) x
       go true t m f g = first-more (λ u. lower-apart (behind-lower d es (sorted-skip s) x m) (trigger-chain (trigger-test d e t) u)) (f m)
       go false t m f g =
           ⊎-elim (λ (q : x ≡ e). rw q (head-first e es (sorted-tail s)))

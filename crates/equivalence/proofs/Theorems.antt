@@ -62,7 +62,8 @@ module _ (a b : List ℕ) (first : fault a ≡ 0) (second : fault b ≡ 0) where
   pub sheets-exact : (equivalentAnswer a b ≡ given true) ↔ ((p q : ℕ) → ReachedByTriggers (read a) (read b) p q → Alike (read a) (read b) p q)
   sheets-exact = let x = equivalent-exact (read a) (read b) (read-well a (accepted a first)) (read-well b (accepted b second)) in (λ e. x .0 (is-given true e), λ h. answered ∙ ap given (x .1 h))
 
-  pub sheets-words : EpsilonFree (read a) → EpsilonFree (read b) → OverlapFree (read a) → OverlapFree (read b) → equivalentAnswer a b ≡ given true → (w : List ℕ) → Accepts (read a) w ↔ Accepts (read b) w
+  pub sheets-words : EpsilonFree (read a) → EpsilonFree (read b) → OverlapFree (read a) → OverlapFree (read b) → equivalentAnswer a b ≡ given true
+      → (w : List ℕ) → Accepts (read a) w ↔ Accepts (read b) w
   sheets-words e f o r t = equivalent-words (read a) (read b) (read-well a (accepted a first)) (read-well b (accepted b second)) e f o r (is-given true t)
 
 -- a faulty sheet is answered with its fault, the first's before the second's, and there is no other refusal

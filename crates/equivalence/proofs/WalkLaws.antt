@@ -56,7 +56,8 @@ leaving-sorted : (A : Automaton) → WellFormed A → (p : ℕ) → Sorted p (le
 unfolding leaving
 leaving-sorted A v p = record { ascends = ascending-filter _ (v .ascends); from = λ e m. leaves A p e m .1 }
 
-pub walk-indexed : (a b old-a starts-a old-b starts-b : List ℕ) → Accepted a → Accepted b → starts-a ≡ sets old-a 0 (startsOf a) → starts-b ≡ sets old-b 0 (startsOf b) → length old-a ≡ 257 → length old-b ≡ 257 → IndexedSheets a b starts-a starts-b
+pub walk-indexed : (a b old-a starts-a old-b starts-b : List ℕ) → Accepted a → Accepted b → starts-a ≡ sets old-a 0 (startsOf a)
+    → starts-b ≡ sets old-b 0 (startsOf b) → length old-a ≡ 257 → length old-b ≡ 257 → IndexedSheets a b starts-a starts-b
 walk-indexed a b old-a starts-a old-b starts-b first second is-a is-b la lb = record {
   first = first;
   second = second;

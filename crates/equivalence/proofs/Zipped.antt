@@ -37,7 +37,8 @@ module _ {n1 : ℕ} {w : Pairs} {F G : List Transition} (f : Ascending Lower F) 
   right-sorted (next s j z) = ascending-rest (right-sorted z)
 
 -- more classes joined
-pub zipped-kept : {n1 : ℕ} {w r : Pairs} {F G ds es : List Transition} → PairsKept w r → ((d : Transition) → d ∈ F → d .to < w .sets .n) → ((e : Transition) → e ∈ G → n1 + e .to < w .sets .n) → Zipped n1 w F G ds es → Zipped n1 r F G ds es
+pub zipped-kept : {n1 : ℕ} {w r : Pairs} {F G ds es : List Transition} → PairsKept w r → ((d : Transition) → d ∈ F → d .to < w .sets .n)
+    → ((e : Transition) → e ∈ G → n1 + e .to < w .sets .n) → Zipped n1 w F G ds es → Zipped n1 r F G ds es
 zipped-kept k a b whole = whole
 zipped-kept {n1} k a b (next {d} {e} s j z) =
     next s (k .joins (d .to) (n1 + e .to) (a d (zipped-left z d (List·Memᴰ·head refl))) (b e (zipped-right z e (List·Memᴰ·head refl))) j) (zipped-kept k a b z)
@@ -57,7 +58,8 @@ within-less {d} {e} {ds} {es} s a w x m =
     let (y, n, t) = w x (List·Memᴰ·tail m) in
     ⊎-elim (λ (q : y ≡ e). absurd (lower-apart (ascending-first a x m) (trigger-chain s (trigger-turn (rw q at t))))) (λ k. (y, k, t)) (List·Memᴰ·cases-cons n)
 
-matched-more : {n1 : ℕ} {w : Pairs} {d e : Transition} {ds es : List Transition} → SameTrigger d e → classes w (d .to) ≡ classes w (n1 + e .to) → Ascending Lower (d ∷ ds) → Ascending Lower (e ∷ es) → Matched n1 w ds es → Matched n1 w (d ∷ ds) (e ∷ es)
+matched-more : {n1 : ℕ} {w : Pairs} {d e : Transition} {ds es : List Transition} → SameTrigger d e → classes w (d .to) ≡ classes w (n1 + e .to)
+    → Ascending Lower (d ∷ ds) → Ascending Lower (e ∷ es) → Matched n1 w ds es → Matched n1 w (d ∷ ds) (e ∷ es)
 matched-more {n1} {w} {d} {e} s j a b m = record {
   there = within-more s (m .there);
   back = within-more (trigger-turn s) (m .back);

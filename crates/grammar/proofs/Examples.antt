@@ -5,7 +5,8 @@ use mathlib.Core.Path.{_≡_, refl}
 use lib.ListN.{replicate}
 use Rattle.decimal.specs.Decimal.{isDigit, valueAfter}
 use Rattle.grammar.specs.Bytes.{isSpace, isLetter, isNameByte}
-use Rattle.grammar.specs.Grammar.{ReadResult, nothing, found, follow, run, space, neededSpace, begins, token, name, number, ends, range, target, transition, initial, nextName, many, transitions, nextNames, accepting, heading, ending, TextParts, wholeText}
+use Rattle.grammar.specs.Grammar.{ReadResult, nothing, found, follow, run, space, neededSpace, begins, token, name, number, ends}
+use Rattle.grammar.specs.Grammar.{range, target, transition, initial, nextName, many, transitions, nextNames, accepting, heading, ending, TextParts, wholeText}
 
 -- the parts of the text A of document 01, one behind the other
 -- `automaton A {`

@@ -10,7 +10,8 @@ use lib.ListN.{length, getD, take, drop, length-drop, List·getD-eq-default}
 use Rattle.decimal.specs.Decimal.{isDigit, value}
 use Rattle.lists.proofs.Tests.{and-parts}
 use Rattle.grammar.specs.Bytes.{isLetter, isNameByte}
-use Rattle.grammar.specs.Grammar.{ReadResult, nothing, found, follow, mark, run, space, neededSpace, begins, token, name, number, ends, range, target, transition, initial, nextName, transitions, nextNames, accepting, heading, ending, wholeText}
+use Rattle.grammar.specs.Grammar.{ReadResult, nothing, found, follow, mark, run, space, neededSpace, begins, token, name, number}
+use Rattle.grammar.specs.Grammar.{ends, range, target, transition, initial, nextName, transitions, nextNames, accepting, heading, ending, wholeText}
 use Rattle.grammar.specs.inner.Places.{Spelt, Drawn}
 use Rattle.grammar.specs.declared.tokens.TextSpan.{TextSpan}
 use Rattle.grammar.proofs.Letters.{letter-named}
@@ -29,7 +30,8 @@ holds-found {X = X} P {x = x} {at = at} (some {x = y} {at = b} h) e =
     subst (P x) q (subst (λ (z : X). P z b) p h)
 
 -- what follows a piece of which Q holds
-pub holds-follow : {X Y : Type 0} (Q : X → ℕ → Type 0) {P : Y → ℕ → Type 0} {r : ReadResult X} {f : X → ℕ → ReadResult Y} → Holds Q r → ((x : X) (at : ℕ) → Q x at → Holds P (f x at)) → Holds P (follow r f)
+pub holds-follow : {X Y : Type 0} (Q : X → ℕ → Type 0) {P : Y → ℕ → Type 0} {r : ReadResult X} {f : X → ℕ → ReadResult Y} → Holds Q r
+    → ((x : X) (at : ℕ) → Q x at → Holds P (f x at)) → Holds P (follow r f)
 unfolding follow
 holds-follow Q none g = none
 holds-follow Q (some {x} {at} h) g = g x at h

@@ -31,7 +31,8 @@ pub numbered-none : (m : List ℕ) (i : ℕ) → Written m i (writeEntries (numb
 unfolding numberedLabels tabulate
 numbered-none m i = list-none m i
 
-pub numbered-next : (m o s : List ℕ) (k i at r : ℕ) → Written m i (writeEntries (numberedLabels k)) o at → Written o at (entry (numberedLabel k)) s r → Written m i (writeEntries (numberedLabels (k + 1))) s r
+pub numbered-next : (m o s : List ℕ) (k i at r : ℕ) → Written m i (writeEntries (numberedLabels k)) o at
+    → Written o at (entry (numberedLabel k)) s r → Written m i (writeEntries (numberedLabels (k + 1))) s r
 unfolding numberedLabels
 numbered-next m o s k i at r w v = rw (add-one, tabulate-end k numberedLabel) (list-next m o s (numberedLabel k) (numberedLabels k) i at r w v)
 

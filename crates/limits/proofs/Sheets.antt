@@ -79,7 +79,8 @@ module _ (k n m : ℕ) (room : n + 1 + 5 * m ≤ k) where
 
 -- the answer of the check of that sheet
 module _ (n m e : ℕ) (a b : List ℕ) (x : Checked) (few : n ≤ 257) (short : m ≤ 2049) where
-  module _ (f : a ≡ sets (replicate 10506 0) 0 (1 ∷ 0 ∷ n ∷ [])) (g : b ≡ sets a (n + 3) (m ∷ loops 0 m)) (h : e ≡ n + 3 + 1 + 5 * m) (checked : checkedNumber x ≡ fault (take (e - 0) (drop 0 b))) where
+  module _ (f : a ≡ sets (replicate 10506 0) 0 (1 ∷ 0 ∷ n ∷ [])) (g : b ≡ sets a (n + 3) (m ∷ loops 0 m)) (h : e ≡ n + 3 + 1 + 5 * m)
+      (checked : checkedNumber x ≡ fault (take (e - 0) (drop 0 b))) where
     its-fault : checkedNumber x ≡ fault (loopSheet n m)
     its-fault =
         let z : e - 0 ≡ e = omega arith in

@@ -114,7 +114,8 @@ carried q x (e ∷ ts) =
     (test (eqb (e .from) q))
 
 module _ (lower upper : ℕ) (A : Automaton) (v : WellFormed A) (within : (e : Transition) → e ∈ A .transitions → e .kind ≡ 1 → (lower ≤ e .first) × (e .last ≤ upper)) where
-  each : (q : ℕ) → ((overlapping (rangesOf (leaving A q)) ≡ false) × (missing lower upper (rangesOf (leaving A q)) ≡ [])) ↔ ((x : ℕ) → lower ≤ x → x ≤ upper → (d : Transition) × (filter (holds x) (rangesOf (leaving A q)) ≡ d ∷ []))
+  each : (q : ℕ)
+      → ((overlapping (rangesOf (leaving A q)) ≡ false) × (missing lower upper (rangesOf (leaving A q)) ≡ [])) ↔ ((x : ℕ) → lower ≤ x → x ≤ upper → (d : Transition) × (filter (holds x) (rangesOf (leaving A q)) ≡ d ∷ []))
   each q = one-each lower upper (rangesOf (leaving A q)) (leaving-sorted A q v) (λ e m. let (i, c, k) = range-leaves A q e m in within e i k)
 
   held-are : (q x : ℕ) → filter (carries q x) (A .transitions) ≡ filter (holds x) (rangesOf (leaving A q))

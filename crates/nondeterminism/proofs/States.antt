@@ -107,7 +107,8 @@ holes-bound lower upper s starts holes r =
 pub count-start : (lower upper : ℕ) (A : Automaton) → 0 + length (holesIn lower upper A (drop 0 (states (A .size)))) ≡ length (holesIn lower upper A (states (A .size)))
 count-start lower upper A = omega arith
 
-module _ (lower upper : ℕ) (s : List ℕ) (count q : ℕ) (e : count + length (holesIn lower upper (read s) (drop q (states (stateCount s)))) ≡ length (holesIn lower upper (read s) (states (stateCount s)))) where
+module _ (lower upper : ℕ) (s : List ℕ) (count q : ℕ)
+    (e : count + length (holesIn lower upper (read s) (drop q (states (stateCount s)))) ≡ length (holesIn lower upper (read s) (states (stateCount s)))) where
   pub count-ended : stateCount s ≤ q → count ≡ length (holesIn lower upper (read s) (states (stateCount s)))
   unfolding holesIn flatMap
   count-ended h = let z : length (holesIn lower upper (read s) (drop q (states (stateCount s)))) ≡ 0 = rw (states-end (stateCount s) q h) in omega arith

@@ -25,7 +25,8 @@ use Rattle.output.specs.Made.{outputOf}
 use Rattle.output.specs.Output.{Pattern, outputs, roomFirst, labelsFirst}
 
 -- a sheet and its labels written at the fronts of the outputs
-pub made-given : (o l o′ l′ : List ℕ) (w b : ℕ) (P : Pattern) → Written o 0 (write (P .automaton)) o′ w → Written l 0 (writeLabels (P .labels)) l′ b → outputOf (Lengths w b) o′ l′ ≡ outputs o l (given P)
+pub made-given : (o l o′ l′ : List ℕ) (w b : ℕ) (P : Pattern) → Written o 0 (write (P .automaton)) o′ w → Written l 0 (writeLabels (P .labels)) l′ b
+    → outputOf (Lengths w b) o′ l′ ≡ outputs o l (given P)
 unfolding outputs
 made-given o l o′ l′ w b P p q =
     let m : w ≡ length (write (P .automaton)) = omega (arith, p .behind) in

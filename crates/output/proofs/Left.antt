@@ -140,7 +140,8 @@ module _ (o l o′ l′ : List ℕ) (r : Made) (a : Answer Pattern) (call : outp
   data Case : Type 0 where
     without-room : (Room o l → ⊥) → madeNumber r ≡ 20 → Unchanged o l o′ l′ → Case
     with-refusal : Room o l → (n : ℕ) → a ≡ refused n → madeNumber r ≡ n → (n ≡ 0 → ⊥) → Unchanged o l o′ l′ → Case
-    with-pattern : Room o l → (P : Pattern) → a ≡ given P → r ≡ Lengths (length (write (P .automaton))) (length (writeLabels (P .labels))) → o′ ≡ sets o 0 (write (P .automaton)) → l′ ≡ sets l 0 (writeLabels (P .labels)) → Case
+    with-pattern : Room o l → (P : Pattern) → a ≡ given P → r ≡ Lengths (length (write (P .automaton))) (length (writeLabels (P .labels)))
+        → o′ ≡ sets o 0 (write (P .automaton)) → l′ ≡ sets l 0 (writeLabels (P .labels)) → Case
 
   refusal : (r : Made) (n : ℕ) → outputOf r o′ l′ ≡ outputs o l (refused n) → (madeNumber r ≡ n) × (n ≡ 0 → ⊥) × Unchanged o l o′ l′
   unfolding outputs
@@ -150,7 +151,8 @@ module _ (o l o′ l′ : List ℕ) (r : Made) (a : Answer Pattern) (call : outp
       let i : numberOf x ≡ n = cc in
       (i, λ z. number-some x (i ∙ z), record { words = ap (λ z. z .memory .sheet) e; bytes = ap (λ z. z .memory .labels) e })
 
-  pattern : (r : Made) (P : Pattern) → outputOf r o′ l′ ≡ outputs o l (given P) → (r ≡ Lengths (length (write (P .automaton))) (length (writeLabels (P .labels)))) × (o′ ≡ sets o 0 (write (P .automaton))) × (l′ ≡ sets l 0 (writeLabels (P .labels)))
+  pattern : (r : Made) (P : Pattern) → outputOf r o′ l′ ≡ outputs o l (given P)
+      → (r ≡ Lengths (length (write (P .automaton))) (length (writeLabels (P .labels)))) × (o′ ≡ sets o 0 (write (P .automaton))) × (l′ ≡ sets l 0 (writeLabels (P .labels)))
   unfolding outputs
   pattern (Lengths w b) P e =
       let q = ap (λ z. z .answer) e in

@@ -7,7 +7,8 @@ use Rattle.automata.specs.Records.{writeRecords}
 use Rattle.decimal.specs.Decimal.{isDigit, valueAfter}
 use Rattle.grammar.proofs.Examples.{begin, init-p, arrow, accepting-q, end, loose, end-space, accepting-long}
 use Rattle.grammar.specs.Bytes.{isSpace, isLetter, isNameByte}
-use Rattle.grammar.specs.Grammar.{follow, run, space, neededSpace, begins, token, name, number, ends, range, target, transition, initial, nextName, many, transitions, nextNames, accepting, heading, ending, wholeText}
+use Rattle.grammar.specs.Grammar.{follow, run, space, neededSpace, begins, token, name, number, ends, range}
+use Rattle.grammar.specs.Grammar.{target, transition, initial, nextName, many, transitions, nextNames, accepting, heading, ending, wholeText}
 use Rattle.labels.specs.Labels.{sameLabel}
 use Rattle.lists.specs.Lists.{any}
 use Rattle.refusal.specs.Answer.{Answer, refused, given}

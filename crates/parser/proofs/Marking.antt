@@ -89,7 +89,8 @@ module _ (t : List ℕ) (ls : List (List ℕ)) (d : Distinct ls) where
   marks-length ws [] = refl
   marks-length ws (x ∷ xs) = marks-length (markOne t ls ws x) xs ∙ mark-length ws x
 
-  all-marks : (ws : List ℕ) (xs : List TextSpan) (j : ℕ) → length ls ≤ length ws → j < length ls → getD (markAll t ls ws xs) j 0 ≡ cond (any (sameLabel (getD ls j [])) (map (spelled t) xs)) 1 (getD ws j 0)
+  all-marks : (ws : List ℕ) (xs : List TextSpan) (j : ℕ) → length ls ≤ length ws → j < length ls
+      → getD (markAll t ls ws xs) j 0 ≡ cond (any (sameLabel (getD ls j [])) (map (spelled t) xs)) 1 (getD ws j 0)
   unfolding markAll any
   all-marks ws [] j g h = refl
   all-marks ws (x ∷ xs) j g h =

@@ -166,7 +166,8 @@ module _ (text : List ℕ) (start : ℕ) (ls : List (List ℕ)) (t buf : List �
             (subst (λ (T : List (List ℕ)). spelled text (e .to) ∈ T) (sym (noted .names)) (meet-in sameLabel same-decides (bothNames (spellMove text e)) (namesIn text t n) _ (List·Memᴰ·tail (List·Memᴰ·head refl))))
             ∙ ap (λ (T : List (List ℕ)). transitionOfMove T (spellMove text e)) next-names
 
-        parts : f .end < length buf → Rest buf (f .sorted) (f .end) ((e′ ∷ []) ++ numberedTransitions text (next .at) (allNames text start ls)) (numberedTransitions text start (allNames text start ls))
+        parts : f .end < length buf
+            → Rest buf (f .sorted) (f .end) ((e′ ∷ []) ++ numberedTransitions text (next .at) (allNames text start ls)) (numberedTransitions text start (allNames text start ls))
         unfolding numberedTransitions
         parts l =
             subst (λ (i : Items Arrow). Rest buf (f .sorted) (f .end) (map (transitionOfMove (allNames text start ls)) (map (spellMove text) (i .items))) (numberedTransitions text start (allNames text start ls))) moved

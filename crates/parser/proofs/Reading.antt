@@ -61,7 +61,8 @@ use Rattle.parser.proofs.Marking.{marks-words}
 use Rattle.parser.proofs.Tables.{added-table, added-names, added-full}
 
 -- the parts of a sheet, one behind the other
-pub sheet-written : (l m n o q ws rs : List ℕ) (i j k r x : ℕ) → Written l 0 (1 ∷ 0 ∷ length ws ∷ []) m i → Written m i ws n j → Written n j (x ∷ []) o k → Written o k rs q r → Written l 0 (1 ∷ 0 ∷ length ws ∷ (ws ++ x ∷ rs)) q r
+pub sheet-written : (l m n o q ws rs : List ℕ) (i j k r x : ℕ) → Written l 0 (1 ∷ 0 ∷ length ws ∷ []) m i → Written m i ws n j
+    → Written n j (x ∷ []) o k → Written o k rs q r → Written l 0 (1 ∷ 0 ∷ length ws ∷ (ws ++ x ∷ rs)) q r
 sheet-written l m n o q ws rs i j k r x a b c d =
     written-append l m q (1 ∷ 0 ∷ length ws ∷ []) (ws ++ x ∷ rs) 0 i r a (written-append m n q ws (x ∷ rs) i j r b (written-append n o q (x ∷ []) rs j k r c d))
 
@@ -75,11 +76,13 @@ parsed-given o l o′ l′ n w k P p q =
 
 module _ (t : List ℕ) (l : Layout) (b : List ℕ) (i : ℕ) (k : SpeltTable t b i) where
   -- the accept words
-  words-marked : (vs ws : List ℕ) → Zeros 256 vs → ws ≡ markAll t (namesIn t b i) vs (l .first ∷ nextNames t (l .more .at) .items) → take i ws ≡ map (acceptWord (map (spelled t) (l .first ∷ nextNames t (l .more .at) .items))) (namesIn t b i)
+  words-marked : (vs ws : List ℕ) → Zeros 256 vs → ws ≡ markAll t (namesIn t b i) vs (l .first ∷ nextNames t (l .more .at) .items)
+      → take i ws ≡ map (acceptWord (map (spelled t) (l .first ∷ nextNames t (l .more .at) .items))) (namesIn t b i)
   words-marked vs ws z h =
       ap₂ take (sym (names-count t b i)) h ∙ marks-words t (namesIn t b i) (k .distinct) vs _ z (omega (arith, names-count t b i, k .few))
 
-  pub pattern-written : (us ws rs o o′ n n′ : List ℕ) (c w j : ℕ) → Zeros 256 us → ws ≡ markAll t (namesIn t b i) us (l .first ∷ nextNames t (l .more .at) .items) → Recorded rs (transitionsAt t l (namesIn t b i)) →
+  pub pattern-written : (us ws rs o o′ n n′ : List ℕ) (c w j : ℕ) → Zeros 256 us
+      → ws ≡ markAll t (namesIn t b i) us (l .first ∷ nextNames t (l .more .at) .items) → Recorded rs (transitionsAt t l (namesIn t b i)) →
       Written o 0 (1 ∷ 0 ∷ length (take i ws) ∷ (take i ws ++ length rs / 5 ∷ rs)) o′ w → Written n 0 (writeLabels (namesIn t b i)) n′ j →
       parsedOf (Read c w j) o′ n′ ≡ parsed o n (given (record { pattern = patternAt t l (namesIn t b i); read = c }))
   unfolding automatonOf spell
@@ -118,7 +121,8 @@ module _ (t : List ℕ) (l : Layout) (ls : List (List ℕ)) (old : List ℕ) (f 
           let x = inOrder-length (recordsIn old 0 (f .end)) in
           omega (arith, a .over h, z, ap length (g .same r), records-count old (f .sorted) (f .end) (g .held .room r))
 
-  pub over-22 : Fitting old f → length buf ≡ length old → length buf / 9 * 8 < end → (o n : List ℕ) (c : ℕ) → parsedOf (Refused (State Transitions)) o n ≡ parsed o n (fewTransitions (patternAt t l ls) c)
+  pub over-22 : Fitting old f → length buf ≡ length old → length buf / 9 * 8 < end → (o n : List ℕ) (c : ℕ)
+      → parsedOf (Refused (State Transitions)) o n ≡ parsed o n (fewTransitions (patternAt t l ls) c)
   unfolding parsed fewTransitions transitionsFirst automatonOf spell
   over-22 u z h o n c = sym (rw (lt-ltb 2048 (length (transitionsAt t l ls)) (many u z h)))
 

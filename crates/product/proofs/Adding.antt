@@ -39,7 +39,8 @@ module _ (buf : List ℕ) (sorted end : ℕ) (k : Open buf sorted end) (T : List
   pub joint-other-right : (getD e 1 0 ≡ 1 → ⊥) → Gathered buf sorted end (recordsIn buf 0 end ++ links T i (recordAt d 0 ∷ []) (recordAt e 0 ∷ []))
   joint-other-right h = none-added (joints-other-right (recordAt d 0) (recordAt e 0) h)
 
-  module _ (x : Common) (told : spanOf x ≡ intersectRanges (record { first = getD d 2 0; last = getD d 3 0 }) (record { first = getD e 2 0; last = getD e 3 0 })) (hd : getD d 1 0 ≡ 1) (he : getD e 1 0 ≡ 1) where
+  module _ (x : Common) (told : spanOf x ≡ intersectRanges (record { first = getD d 2 0; last = getD d 3 0 }) (record { first = getD e 2 0; last = getD e 3 0 }))
+      (hd : getD d 1 0 ≡ 1) (he : getD e 1 0 ≡ 1) where
     pub joint-apart : x ≡ Nothing → Gathered buf sorted end (recordsIn buf 0 end ++ links T i (recordAt d 0 ∷ []) (recordAt e 0 ∷ []))
     unfolding jointOf
     joint-apart h =

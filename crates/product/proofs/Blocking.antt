@@ -83,7 +83,8 @@ module _ (first second : List ℕ) where
       unfolding blocked isNone hasEpsilon any
       blocked-right h = rw (read-front first f, read-front second g, eq-eqb (getD second 1 0) 0 h) (sym (or-true (any (λ e. eqb (e .kind) 0) (recordAt first 0 ∷ readRecords (drop 5 first)))))
 
-      pub blocked-free : EpsilonFirst (readRecords first) → EpsilonFirst (readRecords second) → (getD first 1 0 ≡ 0 → ⊥) → (getD second 1 0 ≡ 0 → ⊥) → false ≡ blocked (readRecords first) (readRecords second)
+      pub blocked-free : EpsilonFirst (readRecords first) → EpsilonFirst (readRecords second) → (getD first 1 0 ≡ 0 → ⊥) → (getD second 1 0 ≡ 0 → ⊥)
+          → false ≡ blocked (readRecords first) (readRecords second)
       unfolding blocked isNone
       blocked-free p q h k = let x = no-epsilon first f p h in let y = no-epsilon second g q k in rw (x, y, read-front first f, read-front second g)
 

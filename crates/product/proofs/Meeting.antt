@@ -30,7 +30,8 @@ module _ (queue t : List ℕ) (n : ℕ) (k : Queued queue t n) (d e : List ℕ) 
   pub record-other-right : (getD e 1 0 ≡ 1 → ⊥) → PairsMet (tableOf queue n) (jointTargets (recordAt d 0 ∷ []) (recordAt e 0 ∷ [])) queue t n
   record-other-right h = none-met (joints-other-right (recordAt d 0) (recordAt e 0) h)
 
-  module _ (x : Common) (told : spanOf x ≡ intersectRanges (record { first = getD d 2 0; last = getD d 3 0 }) (record { first = getD e 2 0; last = getD e 3 0 })) (hd : getD d 1 0 ≡ 1) (he : getD e 1 0 ≡ 1) where
+  module _ (x : Common) (told : spanOf x ≡ intersectRanges (record { first = getD d 2 0; last = getD d 3 0 }) (record { first = getD e 2 0; last = getD e 3 0 }))
+      (hd : getD d 1 0 ≡ 1) (he : getD e 1 0 ≡ 1) where
     pub record-apart : x ≡ Nothing → PairsMet (tableOf queue n) (jointTargets (recordAt d 0 ∷ []) (recordAt e 0 ∷ [])) queue t n
     unfolding jointOf
     record-apart h =

@@ -94,7 +94,8 @@ pub labels-begin : (words m : List ℕ) (at : ℕ) → Written m at (writeEntrie
 unfolding tableOf
 labels-begin words m at = list-none m at
 
-module _ (words : List ℕ) (n i : ℕ) (names m o : List ℕ) (first at : ℕ) (l : n ≤ length words) (c : Written names 0 (countBytes n) m first) (w : Written m first (writeEntries (map pairLabelOf (tableOf words i))) o at) where
+module _ (words : List ℕ) (n i : ℕ) (names m o : List ℕ) (first at : ℕ) (l : n ≤ length words) (c : Written names 0 (countBytes n) m first)
+    (w : Written m first (writeEntries (map pairLabelOf (tableOf words i))) o at) where
   count : i ≤ n → length (map pairLabelOf (tableOf words i)) ≡ i
   count h = length-map (tableOf words i) pairLabelOf ∙ length-table words i (omega arith)
 

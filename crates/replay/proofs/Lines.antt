@@ -68,7 +68,8 @@ module _ (s : List ℕ) (i v : ℕ) (b : Bool) where
       unfolding lineFrom
       from-blank p = ap (lineFrom b v) (drop-at s i h) ∙ rw (ne-eqb (getD s i 0) 10 other, eq-eqb (getD s i 0) 32 p)
 
-      from-digit : (getD s i 0 ≡ 32 → ⊥) → isDigit (getD s i 0) ≡ true → withDigit v (getD s i 0) ≤ 4294967295 → lineFrom b v (drop i s) ≡ behind false 0 (lineFrom true (withDigit v (getD s i 0)) (drop (i + 1) s))
+      from-digit : (getD s i 0 ≡ 32 → ⊥) → isDigit (getD s i 0) ≡ true → withDigit v (getD s i 0) ≤ 4294967295
+          → lineFrom b v (drop i s) ≡ behind false 0 (lineFrom true (withDigit v (getD s i 0)) (drop (i + 1) s))
       unfolding lineFrom
       from-digit p q m = ap (lineFrom b v) (drop-at s i h) ∙ rw (ne-eqb (getD s i 0) 10 other, ne-eqb (getD s i 0) 32 p, q, le-leb _ 4294967295 m)
 

@@ -15,7 +15,8 @@ use Rattle.equality.specs.Verdict.{Equal, Apart}
 use Rattle.equality.proofs.Theorems.{classes-number}
 use Rattle.labels.specs.Labels.{sameLabel}
 use Rattle.grammar.specs.Bytes.{isSpace, isLetter, isNameByte}
-use Rattle.grammar.specs.Grammar.{follow, run, space, neededSpace, begins, token, name, number, ends, range, target, transition, initial, nextName, many, transitions, nextNames, accepting, heading, ending, wholeText}
+use Rattle.grammar.specs.Grammar.{follow, run, space, neededSpace, begins, token, name, number, ends, range}
+use Rattle.grammar.specs.Grammar.{target, transition, initial, nextName, many, transitions, nextNames, accepting, heading, ending, wholeText}
 use Rattle.parser.specs.Pattern.{namesOf, statesOf, acceptWord, automatonOf, patternOf, fewTransitions, meant, readingAnswer}
 use Rattle.syntax.specs.Examples.{text-a, text-b, text-c}
 use Rattle.syntax.specs.Spelled.{spell}

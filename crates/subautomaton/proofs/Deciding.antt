@@ -63,7 +63,8 @@ module _ (a al b bl starts ca cb : List ℕ) (t : Tabled a al b bl starts ca cb)
         rw (same-label (d .from) (e .from) (wa .froms d md) (wb .froms e me), same-label (d .to) (e .to) (wa .tos d md) (wb .tos e me))
 
   -- a state q of the second sheet that has a transition for d, and a transition that covers d
-  from-state : (d : Transition) (q : ℕ) → d ∈ read a .transitions → fitsFrom (read b) cb (getD ca (d .from) 0) (getD ca (d .to) 0) d q ≡ true → any (covers (readPattern a al) (readPattern b bl) d) (read b .transitions) ≡ true
+  from-state : (d : Transition) (q : ℕ) → d ∈ read a .transitions → fitsFrom (read b) cb (getD ca (d .from) 0) (getD ca (d .to) 0) d q ≡ true
+      → any (covers (readPattern a al) (readPattern b bl) d) (read b .transitions) ≡ true
   unfolding fitsFrom leaving
   from-state d q md h =
       let two = and-parts (eqb (getD cb q 0) (getD ca (d .from) 0)) _ h in
@@ -114,7 +115,9 @@ module _ (a al b bl starts ca cb : List ℕ) (t : Tabled a al b bl starts ca cb)
       pub decide-start : (getD ca (getD a 1 0) 0 ≡ getD cb (getD b 1 0) 0 → ⊥) → false ≡ isSubautomaton (readPattern a al) (readPattern b bl)
       decide-start n = let z : r ≡ true = not-false r h in sym (by-parts ∙ rw (← e, z, ne-eqb _ _ (λ (y : getD cb (getD b 1 0) 0 ≡ getD ca (getD a 1 0) 0). n (sym y))))
 
-      pub decide-covered : getD ca (getD a 1 0) 0 ≡ getD cb (getD b 1 0) 0 → (x : Bool) → x ≡ all (fitsIn (read b) ca cb) (readRecords (take (length a - (stateCount a + 4)) (drop (stateCount a + 4) a))) → x ≡ isSubautomaton (readPattern a al) (readPattern b bl)
+      pub decide-covered : getD ca (getD a 1 0) 0 ≡ getD cb (getD b 1 0) 0 → (x : Bool)
+          → x ≡ all (fitsIn (read b) ca cb) (readRecords (take (length a - (stateCount a + 4)) (drop (stateCount a + 4) a)))
+          → x ≡ isSubautomaton (readPattern a al) (readPattern b bl)
       decide-covered n x g =
           let z : r ≡ true = not-false r h in
           g ∙ ap (λ (w : List ℕ). all (fitsIn (read b) ca cb) (readRecords w)) (part-all (stateCount a + 4) a) ∙ sym (by-parts ∙ rw (← e, z, eq-eqb _ _ (sym n)))

@@ -18,7 +18,8 @@ use Rattle.sheets.specs.Sheet.{stateCount, read}
 use Rattle.sheets.proofs.Named.{named-from, named-to, named-next, ready-run}
 use Rattle.subautomaton.specs.inner.Tables.{isHeld, isHeldIn, fits, fitsFrom, fitsIn}
 use Rattle.subautomaton.proofs.Reaching.{ordered-begin, ordered-next, ordered-to, covers-begin, covers-late, covers-next, ready-ordered}
-use Rattle.subautomaton.proofs.Loops.{some-begin, some-ended, some-found, some-next, each-begin, each-ended, each-failed, each-next, record-ended, record-found, records-ended, records-failed, records-next}
+use Rattle.subautomaton.proofs.Loops.{some-begin, some-ended, some-found, some-next, each-begin, each-ended}
+use Rattle.subautomaton.proofs.Loops.{each-failed, each-next, record-ended, record-found, records-ended, records-failed, records-next}
 
 -- the state q of the sheet b
 module _ (b cb : List ℕ) (k a q : ℕ) where
@@ -65,7 +66,9 @@ module _ (b cb : List ℕ) (from to : ℕ) (d : Transition) (q : ℕ) where
       g ∙ ap (any (fits cb to d)) z ∙ sym (rw (eq-eqb _ _ h))
 
 -- some state
-pub fits-in : (b ca cb d : List ℕ) (x : Bool) → x ≡ any (fitsFrom (read b) cb (getD ca (getD d 0 0) 0) (getD ca (getD d 4 0) 0) (recordAt d 0)) (states (stateCount b)) → x ≡ fitsIn (read b) ca cb (recordAt d 0)
+pub fits-in : (b ca cb d : List ℕ) (x : Bool)
+    → x ≡ any (fitsFrom (read b) cb (getD ca (getD d 0 0) 0) (getD ca (getD d 4 0) 0) (recordAt d 0)) (states (stateCount b))
+    → x ≡ fitsIn (read b) ca cb (recordAt d 0)
 unfolding fitsIn
 fits-in b ca cb d x e = e
 

@@ -11,7 +11,8 @@ use lib.ListN.{length, getD, drop, length-drop, length-append}
 use lib.Seq.{drop-drop, drop-append-seam, take-append-seam, getD-drop}
 use Rattle.decimal.specs.Decimal.{isDigit, value}
 use Rattle.grammar.specs.Bytes.{isSpace, isLetter, isNameByte}
-use Rattle.grammar.specs.Grammar.{ReadResult, nothing, found, follow, mark, run, space, neededSpace, begins, token, name, number, RangeEnds, ends, range, target, transition, initial, nextName, Items, transitions, nextNames, accepting, heading, ending, wholeText}
+use Rattle.grammar.specs.Grammar.{ReadResult, nothing, found, follow, mark, run, space, neededSpace, begins, token, name, number, RangeEnds}
+use Rattle.grammar.specs.Grammar.{ends, range, target, transition, initial, nextName, Items, transitions, nextNames, accepting, heading, ending, wholeText}
 use Rattle.grammar.specs.Places.{spelled}
 use Rattle.grammar.proofs.Letters.{letter-named}
 use Rattle.grammar.specs.declared.tokens.NamePiece.the-variants.{Read as NameRead, Nothing as NoName}

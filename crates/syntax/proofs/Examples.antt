@@ -6,7 +6,8 @@ use Rattle.decimal.specs.Decimal.{isDigit, valueAfter}
 use Rattle.grammar.specs.Bytes.{isSpace, isLetter, isNameByte}
 use Rattle.grammar.specs.Words.{acceptingWord}
 use Rattle.grammar.proofs.Examples.{loose}
-use Rattle.grammar.specs.Grammar.{follow, run, space, neededSpace, begins, token, name, number, ends, range, target, transition, initial, nextName, many, transitions, nextNames, accepting, heading, ending, wholeText}
+use Rattle.grammar.specs.Grammar.{follow, run, space, neededSpace, begins, token, name, number, ends, range}
+use Rattle.grammar.specs.Grammar.{target, transition, initial, nextName, many, transitions, nextNames, accepting, heading, ending, wholeText}
 use Rattle.syntax.specs.Syntax.{Text, Said}
 use Rattle.syntax.specs.Spelled.{spell}
 use Rattle.syntax.specs.Examples.{text-a, text-b, text-c}

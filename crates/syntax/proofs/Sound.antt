@@ -11,7 +11,8 @@ use lib.Seq.{drop-drop, getD-drop, length-take-le}
 use Rattle.decimal.specs.Decimal.{isDigit, value}
 use Rattle.lists.proofs.Tests.{and-parts}
 use Rattle.grammar.specs.Bytes.{isSpace, isLetter, isNameByte}
-use Rattle.grammar.specs.Grammar.{ReadResult, nothing, found, follow, run, space, neededSpace, begins, token, name, number, ends, range, target, transition, initial, nextName, oneMore, many, transitions, nextNames, accepting, heading, ending, wholeText}
+use Rattle.grammar.specs.Grammar.{ReadResult, nothing, found, follow, run, space, neededSpace, begins, token, name, number, ends}
+use Rattle.grammar.specs.Grammar.{range, target, transition, initial, nextName, oneMore, many, transitions, nextNames, accepting, heading, ending, wholeText}
 use Rattle.grammar.specs.Places.{spelled}
 use Rattle.grammar.proofs.Letters.{letter-named}
 use Rattle.grammar.proofs.Runs.{run-short}

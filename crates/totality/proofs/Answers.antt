@@ -42,7 +42,9 @@ module _ (s b o l : List ℕ) (r : inputs.Inputs) (e : inputsOf r ≡ inputsFirs
   inputs-accepted h = let p = passed-inputs s b o l passed r e h .0 in (p .sheet, p .label-list, p .words, p .bytes)
 
   module _ (lower upper : ℕ) where
-    pub totalize-made : r ≡ input.Good → (m : Made) (o′ l′ : List ℕ) → outputOf m o′ l′ ≡ outputs o l (limited (totalPatternFlippedIf false lower upper (read s) (readLabels b))) → outputOf m o′ l′ ≡ outputs o l (totalizeAnswer lower upper s b o l)
+    pub totalize-made : r ≡ input.Good → (m : Made) (o′ l′ : List ℕ)
+        → outputOf m o′ l′ ≡ outputs o l (limited (totalPatternFlippedIf false lower upper (read s) (readLabels b)))
+        → outputOf m o′ l′ ≡ outputs o l (totalizeAnswer lower upper s b o l)
     unfolding totalizeAnswer inputsFirst totalPattern totalPatternFlippedIf
     totalize-made h m o′ l′ f = f ∙ ap (outputs o l) (sym (passed-inputs s b o l (limited (totalPattern lower upper (read s) (readLabels b))) r e h .1))
 
@@ -50,7 +52,9 @@ module _ (s b o l : List ℕ) (r : inputs.Inputs) (e : inputsOf r ≡ inputsFirs
     unfolding totalizeAnswer inputsFirst outputs
     totalize-refused x h = ap (outputs o l) (sym (refused-inputs s b o l (limited (totalPattern lower upper (read s) (readLabels b))) r e x h))
 
-    pub complement-made : r ≡ input.Good → (m : Made) (o′ l′ : List ℕ) → outputOf m o′ l′ ≡ outputs o l (limited (complementPattern lower upper (read s) (readLabels b))) → outputOf m o′ l′ ≡ outputs o l (complementAnswer lower upper s b o l)
+    pub complement-made : r ≡ input.Good → (m : Made) (o′ l′ : List ℕ)
+        → outputOf m o′ l′ ≡ outputs o l (limited (complementPattern lower upper (read s) (readLabels b)))
+        → outputOf m o′ l′ ≡ outputs o l (complementAnswer lower upper s b o l)
     unfolding complementAnswer inputsFirst
     complement-made h m o′ l′ f = f ∙ ap (outputs o l) (sym (passed-inputs s b o l (limited (complementPattern lower upper (read s) (readLabels b))) r e h .1))
 

@@ -73,10 +73,12 @@ module _ (lower upper sink q : ℕ) (run h h′ : List ℕ) (f : Fillable lower 
   unfolding merged filled
   half-merged = rw half-spans
 
-  pub half-room-out : (o : List ℕ) (at : ℕ) → at + length (writeRecords (filled lower upper sink q (readRecords run))) ≤ length o → at + length (writeRecords (merged sink q run (take (2 * k) h′))) ≤ length o
+  pub half-room-out : (o : List ℕ) (at : ℕ) → at + length (writeRecords (filled lower upper sink q (readRecords run))) ≤ length o
+      → at + length (writeRecords (merged sink q run (take (2 * k) h′))) ≤ length o
   half-room-out o at r = rw half-merged r
 
-  pub half-written : (o o′ : List ℕ) (at end : ℕ) → Written o at (writeRecords (merged sink q run (take (2 * k) h′))) o′ end → Written o at (writeRecords (filled lower upper sink q (readRecords run))) o′ end
+  pub half-written : (o o′ : List ℕ) (at end : ℕ) → Written o at (writeRecords (merged sink q run (take (2 * k) h′))) o′ end
+      → Written o at (writeRecords (filled lower upper sink q (readRecords run))) o′ end
   half-written o o′ at end v = rw half-merged at v
 
 pub ruleset filledLaws = (half-within, half-fits, half-length, half-mergeable, half-room-out, half-written, needs)

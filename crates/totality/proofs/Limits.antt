@@ -18,7 +18,8 @@ use Rattle.output.specs.Made.{outputOf}
 use Rattle.output.specs.Output.{Pattern, outputs, roomFirst, labelsFirst, transitionsFirst}
 use Rattle.output.specs.declared.Made.{Made}
 use Rattle.output.specs.declared.Made.the-variants.{Lengths}
-use Rattle.output.proofs.Exact.{states-given, states-number, states-21, transitions-given, transitions-number, transitions-22, inputs-given, checked-given, checked-20, checked-fault, checked-10, checked-number}
+use Rattle.output.proofs.Exact.{states-given, states-number, states-21, transitions-given, transitions-number, transitions-22}
+use Rattle.output.proofs.Exact.{inputs-given, checked-given, checked-20, checked-fault, checked-10, checked-number}
 use Rattle.output.proofs.Left.{Writable, call-leaves}
 use Rattle.refusal.specs.Answer.{refused, given}
 use Rattle.sheets.specs.Checked.{sheetFirst}

@@ -88,7 +88,8 @@ module _ (b : Bool) (lower upper : ℕ) (s : List ℕ) (ls : List (List ℕ)) (o
     unfolding outputs
     total-transitions g = ap (outputs o l) (sym (limited-transitions (totalPatternFlippedIf b lower upper (read s) ls) (rw size-is (omega arith)) (rw transitions-are g)))
 
-    pub total-given : recordCount s + k + 1 ≤ 2048 → (o′ l′ : List ℕ) (w y : ℕ) → Written o 0 (write (flippedIf b (totalized lower upper (read s)))) o′ w → Written l 0 (writeLabels (ls ++ sinkLabel ∷ [])) l′ y
+    pub total-given : recordCount s + k + 1 ≤ 2048 → (o′ l′ : List ℕ) (w y : ℕ)
+        → Written o 0 (write (flippedIf b (totalized lower upper (read s)))) o′ w → Written l 0 (writeLabels (ls ++ sinkLabel ∷ [])) l′ y
         → outputOf (Lengths w y) o′ l′ ≡ outputs o l (limited (totalPatternFlippedIf b lower upper (read s) ls))
     unfolding totalPatternFlippedIf
     total-given g o′ l′ w y p q =
@@ -128,11 +129,13 @@ pub ruleset flippedLaws = (rest-room, flipped-given, labels-few, label-list, nee
 -- the results in the terms of the operations
 module _ (m : Made) (o l o′ l′ : List ℕ) (lower upper : ℕ) (s : List ℕ) (ls : List (List ℕ)) where
   module _ (b : Bool) (f : b ≡ isNfa lower upper (read s)) where
-    pub complement-totalized : b ≡ true → outputOf m o′ l′ ≡ outputs o l (limited (totalPatternFlippedIf true lower upper (read s) ls)) → outputOf m o′ l′ ≡ outputs o l (limited (complementPattern lower upper (read s) ls))
+    pub complement-totalized : b ≡ true → outputOf m o′ l′ ≡ outputs o l (limited (totalPatternFlippedIf true lower upper (read s) ls))
+        → outputOf m o′ l′ ≡ outputs o l (limited (complementPattern lower upper (read s) ls))
     unfolding totalPatternFlippedIf complementPattern complemented
     complement-totalized h e = rw (← f, h) e
 
-    pub complement-flipped : b ≡ false → Accepted s → outputOf m o′ l′ ≡ outputs o l (given (flippedPattern (read s) ls)) → outputOf m o′ l′ ≡ outputs o l (limited (complementPattern lower upper (read s) ls))
+    pub complement-flipped : b ≡ false → Accepted s → outputOf m o′ l′ ≡ outputs o l (given (flippedPattern (read s) ls))
+        → outputOf m o′ l′ ≡ outputs o l (limited (complementPattern lower upper (read s) ls))
     unfolding flippedPattern complementPattern complemented flipped
     complement-flipped h a e =
         let r = read-fits s a in

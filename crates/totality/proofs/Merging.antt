@@ -172,7 +172,9 @@ module _ (sink q : ℕ) (run holes : List ℕ) (i j : ℕ) (w : WholeRecords (dr
         rw (spans-at holes j h, merge-hole sink q es s hs r, write-append (take n es) (holeTo sink q s ∷ inOrder (drop n es ++ map (holeTo sink q) hs)), rest-records, d)
         (ap (λ l. l ++ writeRecords (holeTo sink q s ∷ inOrder (drop n es ++ map (holeTo sink q) hs))) (sym (front-words n (drop i run) (omega (arith, length-drop i run)))))
 
-module _ (o₀ : List ℕ) (at : ℕ) (all o : List ℕ) (end : ℕ) (sink q : ℕ) (run holes : List ℕ) (i j : ℕ) (l : Left o₀ at all o end (writeRecords (merged sink q (drop i run) (drop j holes)))) (w : WholeRecords (drop i run)) (m : Mergeable sink q (readRecords (drop i run)) (readSpans (drop j holes))) where
+module _ (o₀ : List ℕ) (at : ℕ) (all o : List ℕ) (end : ℕ) (sink q : ℕ) (run holes : List ℕ) (i j : ℕ)
+    (l : Left o₀ at all o end (writeRecords (merged sink q (drop i run) (drop j holes)))) (w : WholeRecords (drop i run))
+    (m : Mergeable sink q (readRecords (drop i run)) (readSpans (drop j holes))) where
   module _ (h : length holes - j < 2) where
     pub rest-room : at + length all ≤ length o₀ → end + length (take (length run - i) (drop i run)) ≤ length o
     rest-room r = left-room o₀ at all o end _ l (take (length run - i) (drop i run)) [] (merged-end sink q run holes i j w m h) r
@@ -196,7 +198,8 @@ module _ (o₀ : List ℕ) (at : ℕ) (all o : List ℕ) (end : ℕ) (sink q : �
       unfolding hole
       hole-room r = left-room o₀ at all o₁ end₁ _ with-hole hole _ refl r
 
-      pub hole-next : (o₂ : List ℕ) (end₂ : ℕ) → Written o₁ end₁ (q ∷ 1 ∷ getD holes j 0 ∷ getD holes (j + 1) 0 ∷ sink ∷ []) o₂ end₂ → Left o₀ at all o₂ end₂ (writeRecords (merged sink q (drop k run) (drop (j + 2) holes)))
+      pub hole-next : (o₂ : List ℕ) (end₂ : ℕ) → Written o₁ end₁ (q ∷ 1 ∷ getD holes j 0 ∷ getD holes (j + 1) 0 ∷ sink ∷ []) o₂ end₂
+          → Left o₀ at all o₂ end₂ (writeRecords (merged sink q (drop k run) (drop (j + 2) holes)))
       unfolding hole
       hole-next o₂ end₂ u = left-next o₀ at all o₁ end₁ _ with-hole hole _ refl o₂ end₂ u
 

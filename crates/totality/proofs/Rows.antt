@@ -159,7 +159,8 @@ module _ (s starts holes : List ℕ) (r : HolesInputs s starts holes) (q : ℕ) 
       }
 
 -- the states from q on are left to write
-module _ (o₀ : List ℕ) (at : ℕ) (all o : List ℕ) (end lower upper : ℕ) (s : List ℕ) (q : ℕ) (l : Left o₀ at all o end (writeRecords (filledIn lower upper (read s) (drop q (states (stateCount s)))))) where
+module _ (o₀ : List ℕ) (at : ℕ) (all o : List ℕ) (end lower upper : ℕ) (s : List ℕ) (q : ℕ)
+    (l : Left o₀ at all o end (writeRecords (filledIn lower upper (read s) (drop q (states (stateCount s)))))) where
   pub rows-done : stateCount s ≤ q → Written o₀ at all o end
   unfolding filledIn flatMap writeRecords
   rows-done h = left-done o₀ at all o end _ l (rw (states-end (stateCount s) q h))

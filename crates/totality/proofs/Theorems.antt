@@ -44,7 +44,8 @@ use Rattle.sheets.proofs.Accepted.{accepted}
 use Rattle.sheets.proofs.Meaning.{read-well}
 use Rattle.totality.specs.Answers.{totalPattern, complementPattern, totalizeAnswer, complementAnswer}
 use Rattle.totality.specs.Totality.{totalized, transitionCount, complemented}
-use Rattle.totality.proofs.Limits.{made-lengths, made-20, made-fault, made-10, made-limit, made-accepted, made-leaves, total-21, total-22, complemented-21, complemented-22, total-writable, complement-writable}
+use Rattle.totality.proofs.Limits.{made-lengths, made-20, made-fault, made-10, made-limit, made-accepted}
+use Rattle.totality.proofs.Limits.{made-leaves, total-21, total-22, complemented-21, complemented-22, total-writable, complement-writable}
 use Rattle.totality.proofs.Words.{words-kept, total-complete, other-words}
 
 module _ (lower upper : ℕ) (A : Automaton) (v : WellFormed A) where

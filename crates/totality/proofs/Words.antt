@@ -51,7 +51,8 @@ module _ (lower upper : ℕ) (A : Automaton) (v : WellFormed A) where
   sink-stays (skip e m c k r) h = sink-stays r (sink-to e (origin lower upper A v e m) (c ∙ h))
   sink-stays (read e m c k l u r) h = sink-stays r (sink-to e (origin lower upper A v e m) (c ∙ h))
 
-  back-skip : {p q : ℕ} {w : List ℕ} (e : Transition) → TotalizedTransition lower upper A e → e .from ≡ p → e .kind ≡ 0 → (e .to < A .size → Run A (e .to) w q ⊎ (q ≡ A .size)) → Run A p w q ⊎ (q ≡ A .size)
+  back-skip : {p q : ℕ} {w : List ℕ} (e : Transition) → TotalizedTransition lower upper A e → e .from ≡ p → e .kind ≡ 0
+      → (e .to < A .size → Run A (e .to) w q ⊎ (q ≡ A .size)) → Run A p w q ⊎ (q ≡ A .size)
   back-skip e (kept m) c k ih = ⊎-elim (λ s. inl (skip e m c k s)) inr (ih (v .states .tos e m))
   back-skip e (hole q h l m d) c k ih = absurd (omega (arith, sym k ∙ ap (λ (t : Transition). t .kind) d))
   back-skip e (loop d) c k ih = absurd (omega (arith, sym k ∙ ap (λ (t : Transition). t .kind) d))
@@ -120,7 +121,8 @@ flipped-words lower upper B v c f w i = (
 
 module _ (lower upper : ℕ) (A : Automaton) (v : WellFormed A) where
   -- a symbol of a hole is held by no range of the state
-  free-symbol : (q : ℕ) (h : Span) → h ∈ holesOf lower upper (leaving A q) → (x : ℕ) → h .first ≤ x → x ≤ h .last → (e : Transition) → e ∈ A .transitions → e .from ≡ q → e .kind ≡ 1 → holds x e ≡ false
+  free-symbol : (q : ℕ) (h : Span) → h ∈ holesOf lower upper (leaving A q) → (x : ℕ) → h .first ≤ x → x ≤ h .last → (e : Transition)
+      → e ∈ A .transitions → e .from ≡ q → e .kind ≡ 1 → holds x e ≡ false
   free-symbol q h m x l u e n c k = state-holes A v q lower upper .exact x .0 (h, m, record { above = l; below = u }) .2 e (leaving-range A q e (leaving-in A q e n c) k)
 
   pub total-complete : CompleteAutomaton lower upper (totalized lower upper A)
@@ -141,12 +143,15 @@ module _ (lower upper : ℕ) (A : Automaton) (v : WellFormed A) where
         one e (hole q h l m c) = rw c
         one e (loop c) = rw c
 
-        mixed : (d e : Transition) (x : ℕ) → d ∈ A .transitions → TotalizedTransition lower upper A e → ((q : ℕ) (h : Span) → h ∈ holesOf lower upper (leaving A q) → e ≡ holeTo (A .size) q h → d .from ≡ e .from → holds x d ≡ true → holds x e ≡ true → ⊥) → d .from ≡ e .from → holds x d ≡ true → holds x e ≡ true → d .to ≡ e .to
+        mixed : (d e : Transition) (x : ℕ) → d ∈ A .transitions → TotalizedTransition lower upper A e
+            → ((q : ℕ) (h : Span) → h ∈ holesOf lower upper (leaving A q) → e ≡ holeTo (A .size) q h → d .from ≡ e .from → holds x d ≡ true → holds x e ≡ true → ⊥)
+            → d .from ≡ e .from → holds x d ≡ true → holds x e ≡ true → d .to ≡ e .to
         mixed d e x m (kept n) f c h k = overlap-functional A v ranges apart .single d e x m n c h k
         mixed d e x m (hole q g l n b) f c h k = absurd (f q g n b c h k)
         mixed d e x m (loop b) f c h k = absurd (omega (arith, v .states .froms d m, c ∙ ap (λ (t : Transition). t .from) b))
 
-        clash : (d e : Transition) (x : ℕ) → d ∈ A .transitions → (q : ℕ) (h : Span) → h ∈ holesOf lower upper (leaving A q) → e ≡ holeTo (A .size) q h → d .from ≡ e .from → holds x d ≡ true → holds x e ≡ true → ⊥
+        clash : (d e : Transition) (x : ℕ) → d ∈ A .transitions → (q : ℕ) (h : Span) → h ∈ holesOf lower upper (leaving A q)
+            → e ≡ holeTo (A .size) q h → d .from ≡ e .from → holds x d ≡ true → holds x e ≡ true → ⊥
         clash d e x m q h n b c i k =
             let j = holds-ends x (holeTo (A .size) q h) (rw b at k) in
             false≢true (sym (free-symbol q h n x (j .0) (j .1) d m (c ∙ ap (λ (t : Transition). t .from) b) (ranges d m)) ∙ i)

@@ -8,7 +8,8 @@ use lib.Dec.{eqb}
 use lib.ListN.{length, take, drop, length-drop}
 use lib.Seq.{drop-nil, drop-drop}
 use Rattle.lists.proofs.Tests.{and-parts}
-use Rattle.utf8.specs.Utf8.{sequenceLength, isContinuation, continued, leadBits, valueOf, leastValue, isImproper, scalarOf, Front, end, fault, point, sequence, front, malformed, points, cons, decodeFrom, decode}
+use Rattle.utf8.specs.Utf8.{sequenceLength, isContinuation, continued, leadBits, valueOf, leastValue, isImproper, scalarOf, Front}
+use Rattle.utf8.specs.Utf8.{end, fault, point, sequence, front, malformed, points, cons, decodeFrom, decode}
 use Rattle.utf8.specs.inner.Steps.{placed, stepAt}
 use Rattle.utf8.specs.Encode.{Scalar}
 use Rattle.utf8.specs.declared.Step.{Step}

@@ -52,7 +52,8 @@ module _ (lower upper : ℕ) (o : List ℕ) where
     unfolding withSecondText
     second-refuses r e = judged-refused _ o r (ap (withSecondText lower upper (read a)) e)
 
-    pub second-judged : (b : List ℕ) → fault a ≡ 0 → IsSheet t b → 510 ≤ length o → (o′ : List ℕ) (v : Verdict) → Judged (equalityAnswer lower upper a b o) o o′ v → Judged (withSecondText lower upper (read a) (readingAnswer t)) o o′ v
+    pub second-judged : (b : List ℕ) → fault a ≡ 0 → IsSheet t b → 510 ≤ length o → (o′ : List ℕ) (v : Verdict)
+        → Judged (equalityAnswer lower upper a b o) o o′ v → Judged (withSecondText lower upper (read a) (readingAnswer t)) o o′ v
     unfolding withSecondText equalityAnswer sheetFirst
     second-judged b f s room o′ v j =
         let z : equalityAnswer lower upper a b o ≡ determinized lower upper (read a) (read b) = rw (le-ltb (length o) 510 room, f, s .accepted) refl in
@@ -85,7 +86,9 @@ module _ (lower upper : ℕ) (o : List ℕ) where
       pub input-outside : s ≡ Outside → Judged (verdictAnswer lower upper t) o o (Refused (Input Grammar))
       input-outside f = judged-refused _ o (Input Grammar) (is-compared ∙ ap (λ (x : Second). onTexts lower upper t (secondOf x)) f)
 
-      pub input-judged : (at : ℕ) → s ≡ At at → (o′ : List ℕ) (v : Verdict) → Judged (withFirstText lower upper (readingAnswer t) (readingAnswer (take (length t - at) (drop at t)))) o o′ v → Judged (verdictAnswer lower upper t) o o′ v
+      pub input-judged : (at : ℕ) → s ≡ At at → (o′ : List ℕ) (v : Verdict)
+          → Judged (withFirstText lower upper (readingAnswer t) (readingAnswer (take (length t - at) (drop at t)))) o o′ v
+          → Judged (verdictAnswer lower upper t) o o′ v
       input-judged at f o′ v j =
           let z : verdictAnswer lower upper t ≡ withFirstText lower upper (readingAnswer t) (readingAnswer (take (length t - at) (drop at t))) = is-compared ∙ ap (λ (x : Second). onTexts lower upper t (secondOf x)) f ∙ ap (λ (x : List ℕ). withFirstText lower upper (readingAnswer t) (readingAnswer x)) (sym (part-all at t)) in
           subst (λ (x : Answer Two). Judged x o o′ v) (sym z) j

@@ -85,11 +85,13 @@ module _ (l m w : List ℕ) (at i e : ℕ) (p : Written l at (symbols (take i w)
       subst (λ (s : List ℕ). Written l at s n r) (sym z) (written-append l m n (symbols (take i w)) _ at e r p q)
 
 -- the parts of `differ`, one behind the other
-pub differ-put : (l m n o w : List ℕ) (at i e r : ℕ) → Written l 0 (100 ∷ 105 ∷ 102 ∷ 102 ∷ 101 ∷ 114 ∷ []) m at → Written m at (symbols (take i w)) n e → length w ≤ i → Written n e (10 ∷ []) o r → Written l 0 (differLine w) o r
+pub differ-put : (l m n o w : List ℕ) (at i e r : ℕ) → Written l 0 (100 ∷ 105 ∷ 102 ∷ 102 ∷ 101 ∷ 114 ∷ []) m at
+    → Written m at (symbols (take i w)) n e → length w ≤ i → Written n e (10 ∷ []) o r → Written l 0 (differLine w) o r
 differ-put l m n o w at i e r a b h c =
     written-append l m o _ (symbols w ++ 10 ∷ []) 0 at r a (written-append m n o (symbols w) (10 ∷ []) at e r (rw (take-all i w h) at b) c)
 
-pub differ-end : (l m n o w : List ℕ) (at i e r : ℕ) → Written l 0 (100 ∷ 105 ∷ 102 ∷ 102 ∷ 101 ∷ 114 ∷ []) m at → e ≤ at + 11 * i → i ≤ length w → length w ≤ 510 → Written n e (10 ∷ []) o r → r ≤ 5617
+pub differ-end : (l m n o w : List ℕ) (at i e r : ℕ) → Written l 0 (100 ∷ 105 ∷ 102 ∷ 102 ∷ 101 ∷ 114 ∷ []) m at → e ≤ at + 11 * i → i ≤ length w
+    → length w ≤ 510 → Written n e (10 ∷ []) o r → r ≤ 5617
 differ-end l m n o w at i e r a b g h c = omega (arith, a .behind, c .behind)
 
 pub ruleset differLaws = (symbols-none, symbols-next, differ-put, differ-end, written-length, needs)

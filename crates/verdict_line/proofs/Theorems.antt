@@ -22,7 +22,8 @@ use Rattle.verdict_line.specs.Texts.{twoTexts, withFirstText, withSecond
 use Rattle.verdict_line.specs.Line.{VerdictLine, refuses, same, differs, sameLine, differLine}
 use Rattle.verdict_line.specs.Says.{Says}
 
-module _ (lower upper : ℕ) (A B : Automaton) (well-a : WellFormed A) (well-b : WellFormed B) (D E : Automaton) (is-d : determinize lower upper A ≡ given D) (is-e : determinize lower upper B ≡ given E) where
+module _ (lower upper : ℕ) (A B : Automaton) (well-a : WellFormed A) (well-b : WellFormed B) (D E : Automaton) (is-d : determinize lower upper A ≡ given D)
+    (is-e : determinize lower upper B ≡ given E) where
   abbrev two : Two
   two = record { one = D; two = E; lower = lower; upper = upper }
 

@@ -67,7 +67,8 @@ module _ (s old : List ℕ) (text cur : List ℕ) (at : ℕ) (w : wellformed (dr
       pub text-well : wellformed (drop to text) ≡ true
       text-well = sym (point-wellformed text at x told a to given) ∙ w
 
-      pub text-next : (u : List ℕ) → setAt u 0 ≡ step (read s) (setAt cur 0) a → simulate (read s) (setAt u 0) (pointsOf (decode (drop to text))) ≡ simulate (read s) (setAt old 0) (pointsOf (decode text))
+      pub text-next : (u : List ℕ) → setAt u 0 ≡ step (read s) (setAt cur 0) a
+          → simulate (read s) (setAt u 0) (pointsOf (decode (drop to text))) ≡ simulate (read s) (setAt old 0) (pointsOf (decode text))
       unfolding simulate pointsOf
       text-next u k =
           let p = wellformed-points (drop to text) .0 text-well in

@@ -54,7 +54,8 @@ read-canon s starts c cur u a t e = subst (Canon (stateCount s)) (sym e) (step-c
 pub ruleset readLaws = (advance-done, read-ended, read-nothing, read-next, read-canon, needs)
 
 -- the tables and the start
-pub begin-tables : (s old starts c : List ℕ) → Accepted s → starts ≡ sets old 0 (startsOf s) → stateCount s < length old → 4 * stateCount s ≤ length c → entries c (stateCount s) ≡ closures (read s) → Tables s starts c
+pub begin-tables : (s old starts c : List ℕ) → Accepted s → starts ≡ sets old 0 (startsOf s) → stateCount s < length old
+    → 4 * stateCount s ≤ length c → entries c (stateCount s) ≡ closures (read s) → Tables s starts c
 begin-tables s old starts c a e l m h =
     record { accepted = a; indexed = starts-indexed s old starts e l; long = m; closed = h }
 

@@ -127,7 +127,8 @@ module _ (s starts c : List ℕ) (t : Tables s starts c) (a : ℕ) where
       cut-begins q h = member-cut-begins (read s) (read-well s (t .accepted)) (setAt cur 0) (at-canon cur 0) a top q h
 
       module _ (q found : ℕ) (i : nextCut a found (outgoing (read s) (membersFrom q (setAt cur 0))) ≡ nextCut a top (outgoing (read s) (setAt cur 0))) where
-        pub cut-next : q ≡ nextMember (setAt cur 0) q → q < 256 → (x next : ℕ) (run : List ℕ) → x ≡ nextMember (setAt cur 0) (q + 1) → run ≡ writeRecords (leaving (read s) q) → next ≡ nextCut a found (rangesOf (readRecords run))
+        pub cut-next : q ≡ nextMember (setAt cur 0) q → q < 256 → (x next : ℕ) (run : List ℕ) → x ≡ nextMember (setAt cur 0) (q + 1)
+            → run ≡ writeRecords (leaving (read s) q) → next ≡ nextCut a found (rangesOf (readRecords run))
             → nextCut a next (outgoing (read s) (membersFrom x (setAt cur 0))) ≡ nextCut a top (outgoing (read s) (setAt cur 0))
         cut-next h l x next run k r e = member-cut-next (read s) (read-well s (t .accepted)) (setAt cur 0) (at-canon cur 0) a top q x found next run i h l k r e
 

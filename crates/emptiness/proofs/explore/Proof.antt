@@ -3,7 +3,8 @@ use Prim.Native.Nat.{_+_, _*_}
 use native.Mathlib.Omega.{arith}
 use Rattle.sheets.specs.Sheet.{read}
 use Rattle.emptiness.specs.inner.Marks.{unmet, Searched}
-use Rattle.emptiness.proofs.Search.{searchLaws, search-begin, state-bound, state-few, state-accepts, run-known, run-ordered, run-within, run-few, first-bound, first-asked, first-less, search-first, all-asked, search-end, back-place, back-less, search-back}
+use Rattle.emptiness.proofs.Search.{searchLaws, search-begin, state-bound, state-few, state-accepts, run-known, run-ordered, run-within, run-few}
+use Rattle.emptiness.proofs.Search.{first-bound, first-asked, first-less, search-first, all-asked, search-end, back-place, back-less, search-back}
 use Rattle.emptiness.proofs.explore.Statement.{statement}
 use Rattle.emptiness.proofs.explore.Tie as tie
 

@@ -147,4 +147,9 @@ returns-4 : tie.Need-returns-4 Inv-loop μ-loop
 returns-4 c = search upLaws
 
 pub pass-up-spec : {M : Type 1} → statement M
-pass-up-spec = tie.close (tie.spec Inv-loop μ-loop shared-slice-read-at cast-at add-at loop-holds sub-loop add-to mul-to shared-slice-read-to add-at-2 cast-if1 slice-read-if1 mul-from shared-slice-read-from cast-if2 slice-read-if2 same-length returns add-idle loop-less loop-again same-length-2 returns-2 accept-word-requires same-length-3 returns-3 cast-marks slice-write-marks loop-less-2 loop-again-2 loop-less-3 loop-again-3 same-length-4 returns-4)
+pass-up-spec =
+    tie.close
+    (tie.spec Inv-loop μ-loop shared-slice-read-at cast-at add-at loop-holds sub-loop add-to mul-to shared-slice-read-to add-at-2 cast-if1
+    slice-read-if1 mul-from shared-slice-read-from cast-if2 slice-read-if2 same-length returns add-idle loop-less loop-again same-length-2 returns-2
+    accept-word-requires same-length-3 returns-3 cast-marks slice-write-marks loop-less-2 loop-again-2 loop-less-3 loop-again-3 same-length-4
+    returns-4)

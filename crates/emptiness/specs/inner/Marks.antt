@@ -1,5 +1,5 @@
 -- For inner contracts. What the search keeps: a mark for each state that was met, and a stack of met states whose transitions are still to be followed.
-use Prim.Native.Nat.{ℕ, _+_, _-_, _≤_, _<_}
+use Prim.Native.Nat.{ℕ, _+_, _≤_, _<_}
 use mathlib.Core.List.{List, map}
 use mathlib.Core.Logic.{_⊎_}
 use mathlib.Core.Path.{_≡_}

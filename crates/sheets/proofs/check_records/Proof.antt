@@ -76,4 +76,8 @@ returns-2 : tie.Need-returns-2 Inv-loop μ-loop
 returns-2 c = search recordsLaws
 
 pub check-records-spec : {M : Type 1} → statement M
-check-records-spec = tie.close (tie.spec Inv-loop μ-loop loop-holds sub-loop mul-check-record sub-check-record part-check-record-start part-check-record-end add-check-record mul-check-record-2 sub-check-record-2 part-check-record-start-2 part-check-record-end-2 check-record-requires enum-told enum-told-2 returns pass-records-requires add-at loop-less loop-again returns-2)
+check-records-spec =
+    tie.close
+    (tie.spec Inv-loop μ-loop loop-holds sub-loop mul-check-record sub-check-record part-check-record-start part-check-record-end add-check-record
+    mul-check-record-2 sub-check-record-2 part-check-record-start-2 part-check-record-end-2 check-record-requires enum-told enum-told-2 returns
+    pass-records-requires add-at loop-less loop-again returns-2)

@@ -116,4 +116,9 @@ returns-2 : tie.Need-returns-2 Inv-loop μ-loop
 returns-2 c = search passLaws
 
 pub pass-each-spec : {M : Type 1} → statement M
-pass-each-spec = tie.close (tie.spec Inv-loop μ-loop mul-order-key shared-slice-read-order-key add-order-key mul-order-key-2 shared-slice-read-order-key-2 order-key-requires loop-holds sub-loop add-at add-passes mul-passes sub-passes part-passes-start part-passes-end add-passes-2 mul-passes-2 sub-passes-2 part-passes-start-2 part-passes-end-2 passes-requires returns mul-order-key-3 shared-slice-read-order-key-3 add-order-key-2 mul-order-key-4 shared-slice-read-order-key-4 order-key-requires-2 loop-less loop-again returns-2)
+pass-each-spec =
+    tie.close
+    (tie.spec Inv-loop μ-loop mul-order-key shared-slice-read-order-key add-order-key mul-order-key-2 shared-slice-read-order-key-2
+    order-key-requires loop-holds sub-loop add-at add-passes mul-passes sub-passes part-passes-start part-passes-end add-passes-2 mul-passes-2
+    sub-passes-2 part-passes-start-2 part-passes-end-2 passes-requires returns mul-order-key-3 shared-slice-read-order-key-3 add-order-key-2
+    mul-order-key-4 shared-slice-read-order-key-4 order-key-requires-2 loop-less loop-again returns-2)

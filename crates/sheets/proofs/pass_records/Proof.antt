@@ -4,4 +4,7 @@ use Rattle.sheets.proofs.pass_records.Statement.{statement}
 use Rattle.sheets.proofs.pass_records.Tie as tie
 
 pub pass-records-spec : {M : Type 1} → statement M
-pass-records-spec = tie.close (tie.spec (λ c κs. search belowLaws) (λ c. search belowLaws) (λ c. search belowLaws) (λ c κs. search belowLaws) (λ c. search belowLaws) (λ c κs. search belowLaws) (λ c. search belowLaws))
+pass-records-spec =
+    tie.close
+    (tie.spec (λ c κs. search belowLaws) (λ c. search belowLaws) (λ c. search belowLaws) (λ c κs. search belowLaws) (λ c. search belowLaws)
+    (λ c κs. search belowLaws) (λ c. search belowLaws))

@@ -43,4 +43,8 @@ returns-3 : tie.Need-returns-3
 returns-3 c = search passesLaws
 
 pub passes-spec : {M : Type 1} → statement M
-passes-spec = tie.close (tie.spec shared-slice-read-breaks-rule shared-slice-read-breaks-rule-2 shared-slice-read-breaks-rule-3 shared-slice-read-breaks-rule-4 shared-slice-read-breaks-rule-5 breaks-rule-requires returns shared-slice-read-order-key shared-slice-read-order-key-2 order-key-requires returns-2 is-less-requires returns-3)
+passes-spec =
+    tie.close
+    (tie.spec shared-slice-read-breaks-rule shared-slice-read-breaks-rule-2 shared-slice-read-breaks-rule-3 shared-slice-read-breaks-rule-4
+    shared-slice-read-breaks-rule-5 breaks-rule-requires returns shared-slice-read-order-key shared-slice-read-order-key-2 order-key-requires
+    returns-2 is-less-requires returns-3)

@@ -62,4 +62,7 @@ returns : tie.Need-returns Inv-loop μ-loop
 returns c = search endsLaws
 
 pub mark-ends-spec : {M : Type 1} → statement M
-mark-ends-spec = tie.close (tie.spec Inv-loop μ-loop loop-holds mul-loop sub-loop mul-p mul-p-2 shared-slice-read-p cast-p add-k cast-ends add-ends mul-ends slice-write-ends loop-less loop-again same-length returns)
+mark-ends-spec =
+    tie.close
+    (tie.spec Inv-loop μ-loop loop-holds mul-loop sub-loop mul-p mul-p-2 shared-slice-read-p cast-p add-k cast-ends add-ends mul-ends
+    slice-write-ends loop-less loop-again same-length returns)
