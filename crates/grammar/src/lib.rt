@@ -6,6 +6,8 @@ mod ranges;
 mod text;
 mod tokens;
 
+pub use bytes::is_letter;
+pub use bytes::is_name_byte;
 pub use pieces::AcceptingPiece;
 pub use pieces::Arrow;
 pub use pieces::ArrowPiece;

@@ -2,7 +2,7 @@
 ghost use mathlib.Core.Path.{_≡_};
 ghost use Prim.Native.Nat.{_+_, _*_, _≤_, _<_};
 ghost use lib.ListN.{length};
-ghost use Rattle.automata.specs.Automaton.{states, rangesOf, hasEpsilon};
+ghost use Rattle.automata.specs.Automaton.{states, rangesOf};
 ghost use Rattle.automata.specs.Records.{readRecords};
 ghost use Rattle.ranges.specs.Missing.{SortedRanges};
 ghost use Rattle.refusal.specs.Decision.{decisionOf};
@@ -13,26 +13,12 @@ ghost use Rattle.nondeterminism.specs.inner.Holes.{HolesInputs};
 ghost use Rattle.automata.specs.WellFormed.{lastSymbol};
 use refusal::Decision;
 
-// Whether an epsilon stands in the run.
-fn has_epsilon(run: &[u32]) -> bool
-    ensures { λ r. ⌜ r ≡ hasEpsilon (readRecords (now (run .entry))) ⌝ }
-{
-    let mut at: usize = 0;
-    while 5 <= run.len() - at {
-        if run[at + 1] == 0 {
-            return true;
-        }
-        at += 5;
-    }
-    false
-}
-
 // Whether the records of one state have an epsilon, an overlap or a hole from lower to upper.
 fn is_nfa_run(run: &[u32], lower: u32, upper: u32, holes: &mut [u32]) -> bool
     requires { ⌜ SortedRanges (rangesOf (readRecords (now run))) × (2 * length (now run) + 10 ≤ 5 * length (now holes)) ⌝ }
     ensures { λ r. ⌜ r ≡ isNfaAt lower upper (readRecords (now (run .entry))) ⌝ }
 {
-    if has_epsilon(run) {
+    if sheets::has_epsilon(run) {
         return true;
     }
     if ranges::has_overlapping_ranges(run) {

@@ -111,7 +111,7 @@ module _ {X : Type 0} (s b : List ℕ) (a : Answer X) where
       sheet-fault s (labelsFirst (stateCount s) b a) m (omega arith) (λ e. other (labels-number (stateCount s) b a m (λ z. omega arith) .0 e .1))
 
   -- 10 is the labels', where the answer doesn't have it and the sheet has no fault
-  inputs-10 : (a ≡ refused 10 → ⊥) → (sheetFirst s (labelsFirst (stateCount s) b a) ≡ refused 10) ↔ ((fault s ≡ 0) × (labelsFault (stateCount s) b ≡ 10))
+  pub inputs-10 : (a ≡ refused 10 → ⊥) → (sheetFirst s (labelsFirst (stateCount s) b a) ≡ refused 10) ↔ ((fault s ≡ 0) × (labelsFault (stateCount s) b ≡ 10))
   inputs-10 other =
       let p = sheet-number s (labelsFirst (stateCount s) b a) 10 (omega arith) in
       let q = labels-10 (stateCount s) b a other in

@@ -2,21 +2,29 @@
 -- labels at the front of the other, and all else unchanged; after a refusal everything is.
 use Prim.Native.Nat.{ℕ}
 use mathlib.Core.Bool.{cond}
-use mathlib.Core.List.{List}
+use mathlib.Core.List.{List, []}
 use lib.Dec.{eqb, ltb}
-use lib.ListN.{length}
+use lib.ListN.{length, getD}
 use lib.Seq.{sets}
 use Rattle.automata.specs.Automaton.{Automaton}
 use Rattle.automata.specs.WellFormed.{mostStates, mostTransitions}
-use Rattle.labels.specs.Labels.{writeLabels, labelsFault}
+use Rattle.labels.specs.Labels.{readLabels, writeLabels, labelsFault}
 use Rattle.refusal.specs.Answer.{Answer, refused}
 use Rattle.refusal.specs.Outcome.{Outcome, outcome, lengthFirst}
-use Rattle.sheets.specs.Sheet.{write}
+use Rattle.sheets.specs.Sheet.{read, write}
 
 -- an automaton and a label for each of its states
 pub record Pattern : Type 0 where
   pub automaton : Automaton
   pub labels : List (List ℕ)
+
+-- the label of the state q
+abbrev pub labelOf : Pattern → ℕ → List ℕ
+labelOf P q = getD (P .labels) q []
+
+-- a sheet with its label list
+abbrev pub readPattern : List ℕ → List ℕ → Pattern
+readPattern s l = record { automaton = read s; labels = readLabels l }
 
 -- how many words and how many bytes an output takes
 pub record Lengths : Type 0 where

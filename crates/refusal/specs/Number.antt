@@ -1,7 +1,7 @@
--- The number that document 01 gives each refusal.
+-- The number that documents 01 and 02 give each refusal.
 use Prim.Native.Nat.{ℕ}
 use Rattle.refusal.specs.declared.InputRefusal.{InputRefusal}
-use Rattle.refusal.specs.declared.InputRefusal.the-variants.{SheetLength, Start, Counts, AcceptWord, Record, RecordOrder, Epsilon, Grammar, Utf8, Labels}
+use Rattle.refusal.specs.declared.InputRefusal.the-variants.{SheetLength, Start, Counts, AcceptWord, Record, RecordOrder, Epsilon, Grammar, Utf8, Labels, EpsilonRecord, NoAcceptingState, Names}
 use Rattle.refusal.specs.declared.StateRefusal.{StateRefusal}
 use Rattle.refusal.specs.declared.StateRefusal.the-variants.{OutputLength, States, Transitions, Element, JoinSets}
 use Rattle.refusal.specs.declared.Refusal.{Refusal}
@@ -18,6 +18,9 @@ inputNumber Epsilon = 7
 inputNumber Grammar = 8
 inputNumber Utf8 = 9
 inputNumber Labels = 10
+inputNumber EpsilonRecord = 30
+inputNumber NoAcceptingState = 31
+inputNumber Names = 32
 
 abbrev pub stateNumber : StateRefusal → ℕ
 stateNumber OutputLength = 20

@@ -1,4 +1,4 @@
-// The refusals of document 01: those that come from the input (1 to 10), those that come from the state (20 to 24),
+// The refusals: those that come from the input (1 to 10 of document 01, 30 to 32 of document 02), those that come from the state (20 to 24),
 // and either.
 ghost use mathlib.Core.Path.{_≡_};
 ghost use Rattle.refusal.specs.Number.{inputNumber, stateNumber, numberOf};
@@ -24,6 +24,12 @@ pub enum InputRefusal {
     Utf8,
     // 10: a faulty label list.
     Labels,
+    // 30: a record that is an epsilon, in a pattern to be written as text.
+    EpsilonRecord,
+    // 31: no written state accepts.
+    NoAcceptingState,
+    // 32: two written labels are equal, one is no name, or the text is too long.
+    Names,
 }
 
 pub enum StateRefusal {
@@ -50,7 +56,7 @@ pub enum Decision {
     Refused(InputRefusal),
 }
 
-// Document 01's number of a refusal that comes from the input.
+// The number of a refusal that comes from the input.
 pub fn input_number(r: InputRefusal) -> u32
     ensures { λ n. ⌜ n ≡ inputNumber r ⌝ }
 {
@@ -65,10 +71,13 @@ pub fn input_number(r: InputRefusal) -> u32
         InputRefusal::Grammar => 8,
         InputRefusal::Utf8 => 9,
         InputRefusal::Labels => 10,
+        InputRefusal::EpsilonRecord => 30,
+        InputRefusal::NoAcceptingState => 31,
+        InputRefusal::Names => 32,
     }
 }
 
-// Document 01's number of a refusal that comes from the state.
+// The number of a refusal that comes from the state.
 pub fn state_number(r: StateRefusal) -> u32
     ensures { λ n. ⌜ n ≡ stateNumber r ⌝ }
 {
@@ -81,7 +90,7 @@ pub fn state_number(r: StateRefusal) -> u32
     }
 }
 
-// Document 01's number of a refusal.
+// The number of a refusal.
 pub fn number(r: Refusal) -> u32
     ensures { λ n. ⌜ n ≡ numberOf r ⌝ }
 {

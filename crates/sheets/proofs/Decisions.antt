@@ -1,5 +1,5 @@
 -- A question's answer as the code gives it, read from its contract `decisionOf r ≡ a`: the laws by which each question's theorems about its call are proved.
-use Prim.Native.Nat.{ℕ, _<_}
+use Prim.Native.Nat.{ℕ, _-_, _<_}
 use mathlib.Core.Bool.{Bool, true, false, cond}
 use mathlib.Core.List.{List, [], _∷_}
 use mathlib.Core.Logic.{_⊎_, inl, inr, ⊎-elim, _↔_}
@@ -14,14 +14,14 @@ use Rattle.refusal.specs.Number.{inputNumber}
 use Rattle.refusal.specs.declared.Decision.{Decision}
 use Rattle.refusal.specs.declared.Decision.the-variants.{Is, Refused}
 use Rattle.refusal.specs.declared.InputRefusal.{InputRefusal}
-use Rattle.refusal.specs.declared.InputRefusal.the-variants.{SheetLength, Start, Counts, AcceptWord, Record, RecordOrder, Epsilon, Grammar, Utf8, Labels}
+use Rattle.refusal.specs.declared.InputRefusal.the-variants.{SheetLength, Start, Counts, AcceptWord, Record, RecordOrder, Epsilon, Grammar, Utf8, Labels, EpsilonRecord, NoAcceptingState, Names}
 use Rattle.sheets.specs.Checked.{sheetFirst}
 use Rattle.sheets.specs.Fault.{fault}
 use Rattle.sheets.proofs.Checking.{refused-some}
 
 -- the refusal of a number
 abbrev byNumber : ℕ → InputRefusal
-byNumber n = getD (SheetLength ∷ SheetLength ∷ Start ∷ Counts ∷ AcceptWord ∷ Record ∷ RecordOrder ∷ Epsilon ∷ Grammar ∷ Utf8 ∷ Labels ∷ []) n SheetLength
+byNumber n = getD (SheetLength ∷ SheetLength ∷ Start ∷ Counts ∷ AcceptWord ∷ Record ∷ RecordOrder ∷ Epsilon ∷ Grammar ∷ Utf8 ∷ Labels ∷ []) n (getD (EpsilonRecord ∷ NoAcceptingState ∷ Names ∷ []) (n - 30) SheetLength)
 
 by-number : (i : InputRefusal) → byNumber (inputNumber i) ≡ i
 by-number SheetLength = refl
@@ -34,6 +34,9 @@ by-number Epsilon = refl
 by-number Grammar = refl
 by-number Utf8 = refl
 by-number Labels = refl
+by-number EpsilonRecord = refl
+by-number NoAcceptingState = refl
+by-number Names = refl
 
 -- two refusals of one number are the same
 number-same : (i j : InputRefusal) → inputNumber i ≡ inputNumber j → i ≡ j

@@ -8,5 +8,6 @@ pub mod Below
 pub mod Runs
 pub mod Named
 pub mod Words
+pub mod Epsilons
 pub mod Decisions
 pub mod Theorems

@@ -18,6 +18,7 @@ use refusal::InputRefusal;
 mod reading;
 
 pub use reading::accept_word;
+pub use reading::has_epsilon;
 pub use reading::run;
 pub use reading::run_starts;
 

@@ -1,4 +1,4 @@
-// Reads an accepted sheet: the accept word of a state, and the records that leave it, which are a run in the sheet's middle.
+// Reads an accepted sheet: the accept word of a state, the records that leave it, which are a run in the sheet's middle, and whether a record is an epsilon.
 // The table of runs is made once in one pass over the records and one over the states, and a run is then found without a search.
 ghost use mathlib.Core.Bool.{cond};
 ghost use mathlib.Core.Path.{_≡_};
@@ -6,7 +6,7 @@ ghost use Prim.Native.Nat.{_*_, _≤_, _<_};
 ghost use lib.Dec.{ltb};
 ghost use lib.ListN.{length, getD};
 ghost use lib.Seq.{sets};
-ghost use Rattle.automata.specs.Automaton.{leaving};
+ghost use Rattle.automata.specs.Automaton.{leaving, hasEpsilon};
 ghost use Rattle.automata.specs.Records.{readRecords, writeRecords};
 ghost use Rattle.sheets.specs.inner.Accepted.{Accepted};
 ghost use Rattle.sheets.specs.inner.Runs.{startsOf, Rising, Named, RunEnds, RunAt};
@@ -71,6 +71,20 @@ pub fn run<'a>(s: &'a [u32], starts: &[u32], q: u32) -> &'a [u32]
     let a = starts[p] as usize;
     let e = starts[p + 1] as usize;
     &s[a..e]
+}
+
+// Whether one of the records is an epsilon.
+pub fn has_epsilon(records: &[u32]) -> bool
+    ensures { λ r. ⌜ r ≡ hasEpsilon (readRecords (now (records .entry))) ⌝ }
+{
+    let mut at: usize = 0;
+    while 5 <= records.len() - at {
+        if records[at + 1] == 0 {
+            return true;
+        }
+        at += 5;
+    }
+    false
 }
 
 // The accept word of the state p.

@@ -8,6 +8,7 @@ use mir.Syntax.{w64}
 use mir.Val.{Fits}
 use borrow.Author.Needs.{needs}
 use lib.ListN.{length, getD}
+use Rattle.output.specs.Output.{readPattern}
 use Rattle.labels.specs.Labels.{labelsFault}
 use Rattle.labels.specs.Checked.{checkedNumber as labelsNumber}
 use Rattle.labels.specs.declared.Checked.{Checked as LabelsChecked}
@@ -26,7 +27,7 @@ use Rattle.sheets.proofs.Accepted.{check-accepted}
 use Rattle.sheets.proofs.Checking.{sheet-passed, sheet-refused}
 use Rattle.subautomaton.specs.Inclusion.{isSubautomaton}
 use Rattle.subautomaton.specs.inner.Tables.{LabelledSheets}
-use Rattle.subautomaton.specs.Answer.{readPattern, subautomatonAnswer}
+use Rattle.subautomaton.specs.Answer.{subautomatonAnswer}
 
 pub count-inside : (s : List ℕ) → Accepted s → 2 < length s
 count-inside s a = omega (arith, a .whole)

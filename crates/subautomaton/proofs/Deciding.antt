@@ -9,6 +9,7 @@ use borrow.Author.Tests.{eq-eqb, ne-eqb, eqb-true, not-true, not-false}
 use lib.Dec.{eqb}
 use lib.ListN.{length, getD, take, drop}
 use lib.Seq.{sets}
+use Rattle.output.specs.Output.{labelOf, readPattern}
 use Rattle.lists.specs.Lists.{_∈_, any, filter, all}
 use Rattle.lists.proofs.Lists.{any-out, any-in, any-ext, filter-in, filter-out}
 use Rattle.lists.proofs.Index.{same-decides}
@@ -26,9 +27,8 @@ use Rattle.sheets.specs.Sheet.{stateCount, read}
 use Rattle.sheets.proofs.Meaning.{read-well}
 use Rattle.sheets.proofs.Named.{sheet-named}
 use Rattle.sheets.proofs.Runs.{starts-indexed}
-use Rattle.subautomaton.specs.Inclusion.{labelOf, isSame, hasState, covers, isCovered, isSubautomaton}
+use Rattle.subautomaton.specs.Inclusion.{isSame, hasState, covers, isCovered, isSubautomaton}
 use Rattle.subautomaton.specs.inner.Tables.{distinctLabels, LabelTable, Numbered, isHeld, isHeldIn, fits, fitsFrom, fitsIn, LabelledSheets, Tabled}
-use Rattle.subautomaton.specs.Answer.{readPattern}
 use Rattle.lists.proofs.Every.{all-ext}
 use Rattle.automata.proofs.States.{states-in, states-out}
 use Rattle.subautomaton.proofs.Numbering.{same-number}

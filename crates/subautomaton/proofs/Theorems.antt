@@ -18,7 +18,7 @@ use Rattle.lists.proofs.Tests.{and-parts, and-both, or-cases}
 use Rattle.automata.specs.Automaton.{Transition, states, acceptOf}
 use Rattle.labels.specs.Labels.{sameLabel, labelsFault, labelsOk}
 use Rattle.lists.proofs.Index.{same-equal, equal-same}
-use Rattle.output.specs.Output.{Pattern, labelsFirst}
+use Rattle.output.specs.Output.{Pattern, labelsFirst, labelOf, readPattern}
 use Rattle.output.proofs.Left.{labels-first, labels-given, labels-number}
 use Rattle.refusal.specs.Answer.{Answer, refused, given}
 use Rattle.refusal.specs.Decision.{decisionOf}
@@ -32,8 +32,8 @@ use Rattle.sheets.specs.Fault.{fault}
 use Rattle.sheets.specs.Sheet.{stateCount}
 use Rattle.sheets.proofs.Decisions.{number-some, call-is, call-refused, sheet-either, given-not}
 use Rattle.sheets.proofs.Numbers.{sheet-given, sheet-number, sheet-fault}
-use Rattle.subautomaton.specs.Answer.{readPattern, subautomatonAnswer}
-use Rattle.subautomaton.specs.Inclusion.{labelOf, isSame, hasState, covers, isCovered, isSubautomaton, Covers, Sub}
+use Rattle.subautomaton.specs.Answer.{subautomatonAnswer}
+use Rattle.subautomaton.specs.Inclusion.{isSame, hasState, covers, isCovered, isSubautomaton, Covers, Sub}
 use Rattle.lists.proofs.Every.{all-out, all-in}
 use Rattle.automata.proofs.States.{states-in, states-out}
 

@@ -2,16 +2,11 @@
 use Prim.Native.Nat.{ℕ}
 use mathlib.Core.Bool.{Bool}
 use mathlib.Core.List.{List}
-use Rattle.labels.specs.Labels.{readLabels}
-use Rattle.output.specs.Output.{Pattern, labelsFirst}
+use Rattle.output.specs.Output.{labelsFirst, readPattern}
 use Rattle.refusal.specs.Answer.{Answer, given}
 use Rattle.sheets.specs.Checked.{sheetFirst}
-use Rattle.sheets.specs.Sheet.{stateCount, read}
+use Rattle.sheets.specs.Sheet.{stateCount}
 use Rattle.subautomaton.specs.Inclusion.{isSubautomaton}
-
--- a sheet with its label list
-abbrev pub readPattern : List ℕ → List ℕ → Pattern
-readPattern s l = record { automaton = read s; labels = readLabels l }
 
 unfoldable pub subautomatonAnswer : List ℕ → List ℕ → List ℕ → List ℕ → Answer Bool
 subautomatonAnswer a al b bl =

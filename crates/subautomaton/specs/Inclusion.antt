@@ -2,17 +2,12 @@
 -- transitions is covered by one of the other between equal labels. States of equal label count as one.
 use Prim.Native.Nat.{ℕ, _≤_, _<_}
 use mathlib.Core.Bool.{Bool, _&&_, _||_}
-use mathlib.Core.List.{List, []}
 use mathlib.Core.Path.{_≡_}
 use lib.Dec.{eqb, leb, ltb}
-use lib.ListN.{getD}
 use Rattle.lists.specs.Lists.{_∈_, any, all}
 use Rattle.automata.specs.Automaton.{Transition, acceptOf, states}
 use Rattle.labels.specs.Labels.{sameLabel}
-use Rattle.output.specs.Output.{Pattern}
-
-abbrev pub labelOf : Pattern → ℕ → List ℕ
-labelOf P q = getD (P .labels) q []
+use Rattle.output.specs.Output.{Pattern, labelOf}
 
 -- q has the label of p, and accepts if p does
 unfoldable pub isSame : Pattern → Pattern → ℕ → ℕ → Bool

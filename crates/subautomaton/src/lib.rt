@@ -3,6 +3,7 @@
 ghost use mathlib.Core.Path.{_≡_};
 ghost use Prim.Native.Nat.{_≤_, _<_};
 ghost use lib.ListN.{length, drop};
+ghost use Rattle.output.specs.Output.{readPattern};
 ghost use Rattle.lists.specs.Lists.{any, all};
 ghost use Rattle.automata.specs.Automaton.{states};
 ghost use Rattle.automata.specs.Records.{readRecords};
@@ -15,7 +16,7 @@ ghost use Rattle.sheets.specs.Sheet.{stateCount, read};
 ghost use Rattle.subautomaton.specs.Inclusion.{isSubautomaton};
 ghost use Rattle.sheets.specs.inner.Runs.{Named, IndexedSheet};
 ghost use Rattle.subautomaton.specs.inner.Tables.{LabelTable, Numbered, isHeld, isHeldIn, fits, reaching, Ordered, fitsFrom, fitsIn, LabelledSheets, Tabled};
-ghost use Rattle.subautomaton.specs.Answer.{readPattern, subautomatonAnswer};
+ghost use Rattle.subautomaton.specs.Answer.{subautomatonAnswer};
 use refusal::Decision;
 
 // The different labels among the m labels of b into the table t; how many there are.

@@ -4,15 +4,15 @@ use mathlib.Core.Path.{_≡_}
 use lib.ListN.{length, drop}
 use Rattle.automata.specs.Records.{readRecords}
 use Rattle.automata.specs.Automaton.{hasEpsilon}
-use Rattle.nondeterminism.proofs.Runs.{epsilonLaws}
-use Rattle.nondeterminism.proofs.has_epsilon.Statement.{statement}
-use Rattle.nondeterminism.proofs.has_epsilon.Tie as tie
+use Rattle.sheets.proofs.Epsilons.{epsilonLaws}
+use Rattle.sheets.proofs.reading.has_epsilon.Statement.{statement}
+use Rattle.sheets.proofs.reading.has_epsilon.Tie as tie
 
 abbrev Inv-loop : tie.InvT-loop
-Inv-loop run at₀ at = (at ≤ length run) × (hasEpsilon (readRecords run) ≡ hasEpsilon (readRecords (drop at run)))
+Inv-loop records at₀ at = (at ≤ length records) × (hasEpsilon (readRecords records) ≡ hasEpsilon (readRecords (drop at records)))
 
 abbrev μ-loop : tie.MeasureT-loop
-μ-loop run at₀ at = length run - at
+μ-loop records at₀ at = length records - at
 
 pub has-epsilon-spec : {M : Type 1} → statement M
 has-epsilon-spec =
