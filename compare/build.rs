@@ -11,7 +11,7 @@ const FILES: [&str; 5] = ["mod.rs", "dsu.rs", "operations.rs", "parser.rs", "uti
 const NO_PARSER: &str = "// Left out: nom was not found.\n";
 
 /// The calls that the port exports sooner or later, without the prefix `ringmatch_`.
-const CALLS: [&str; 13] = [
+const CALLS: [&str; 14] = [
     "accepts_words",
     "accepts_text",
     "determinize",
@@ -24,6 +24,7 @@ const CALLS: [&str; 13] = [
     "is_equivalent",
     "is_subautomaton",
     "parse_automaton",
+    "write_automaton",
     "equality",
 ];
 

@@ -12,7 +12,7 @@
  * the outputs, the answers and the inputs must not overlap. No function allocates memory, keeps a pointer or has state; calls from several
  * threads are independent. A thread with 256 KiB of stack is enough for every call (docs/BENCHMARKS.md).
  *
- * An output sheet or label list stands at the front of its buffer, and what is behind it is unchanged. */
+ * An output sheet, label list or text stands at the front of its buffer, and what is behind it is unchanged. */
 #ifndef RINGMATCH_H
 #define RINGMATCH_H
 
@@ -23,13 +23,14 @@
 extern "C" {
 #endif
 
-/* Limits of a sheet, and the least sizes of outputs: sheets in words, labels in bytes, a difference word in words. */
+/* Limits of a sheet, and the least sizes of outputs: sheets in words, labels in bytes, a difference word in words, a text in bytes. */
 #define RINGMATCH_MAX_STATES 256
 #define RINGMATCH_MAX_TRANSITIONS 2048
 #define RINGMATCH_MAX_LABEL 64
 #define RINGMATCH_SHEET_WORDS 10500
 #define RINGMATCH_LABEL_BYTES 16642
 #define RINGMATCH_DIFFERENCE_WORDS 510
+#define RINGMATCH_TEXT_BYTES 65536
 
 /* Kinds of records. */
 #define RINGMATCH_EPSILON 0
@@ -46,6 +47,11 @@ extern "C" {
 #define RINGMATCH_GRAMMAR 8        /* text outside the grammar, or a name over 64 bytes */
 #define RINGMATCH_UTF8 9           /* malformed UTF-8 */
 #define RINGMATCH_LABELS 10        /* a faulty label list */
+
+/* Refusals that come from the input of ringmatch_write_automaton. */
+#define RINGMATCH_EPSILON_RECORD 30     /* a record is an epsilon */
+#define RINGMATCH_NO_ACCEPTING_STATE 31 /* no state that the text names accepts */
+#define RINGMATCH_NAMES 32              /* two labels in the text are equal, one is no name, or the text is over 65,536 bytes */
 
 /* Refusals that come from the state. */
 #define RINGMATCH_OUTPUT_LENGTH 20 /* an output shorter than its least size */
@@ -110,6 +116,14 @@ uint32_t ringmatch_is_subautomaton(const uint32_t *a, size_t a_words, const uint
 uint32_t ringmatch_parse_automaton(const uint8_t *text, size_t text_bytes, uint32_t *out, size_t out_room,
                                    uint8_t *labels_out, size_t labels_room, uint64_t *read, uint64_t *words,
                                    uint64_t *bytes);
+
+/* The text of a sheet and its labels, named P, such as
+ *   automaton P { init p; p -> q [0, 9]; accepting q; };
+ * It names the start and the states of the records, and no others; ringmatch_parse_automaton reads from it a pattern of just these states under
+ * their labels, which accepts the same words. *bytes is the length of the text, which no zero byte ends.
+ * Refusals: 20; 1 to 6; 10; 30, 31, 32. */
+uint32_t ringmatch_write_automaton(const uint32_t *sheet, size_t sheet_words, const uint8_t *labels, size_t label_bytes,
+                                   uint8_t *text_out, size_t text_room, uint64_t *bytes);
 
 /* Exact equality: *same is 1 where every word is accepted by both sheets or by neither, and *number is then the number of joins made; else
  * *same is 0, word_out has at its front a word that exactly one accepts, and *number is its length.

@@ -15,6 +15,7 @@ pub mod operation;
 pub mod parse_automaton;
 pub mod question;
 pub mod totalize;
+pub mod write_automaton;
 
 use std::collections::BTreeMap;
 use std::fmt::{self, Display};
@@ -214,7 +215,8 @@ pub fn run(plan: &Plan, only: Option<&str>) -> u64 {
     }
     run! {
         accepts_words accepts_text determinize intersection totalize complement epsilon_eliminate
-        is_nfa has_reachable_accepting_state is_equivalent is_subautomaton parse_automaton equality
+        is_nfa has_reachable_accepting_state is_equivalent is_subautomaton parse_automaton write_automaton
+        equality
     }
     disagreements
 }

@@ -7,7 +7,7 @@ use crate::oracle::{self, Automaton};
 use crate::sheet::{
     MAX_RECORDS, MAX_STATES, OUT_BYTES, OUT_WORDS, Sheet, read_labels, write_labels,
 };
-use crate::{equality, paper};
+use crate::{equality, paper, writer};
 
 /// What a call answers, or the number of its refusal.
 pub type Outcome<T> = Result<T, u32>;
@@ -182,6 +182,13 @@ pub fn parse_by_grammar(text: &[u8]) -> Outcome<Parsed> {
     let (pattern, read) = crate::grammar::read(text).ok_or(8u32)?;
     let (sheet, labels) = crate::grammar::automaton(&pattern);
     built(&oracle::labelled(&sheet, &labels)).map(|built| Parsed { read: read as u64, built })
+}
+
+/// The text of a sheet and its labels.
+pub fn write_automaton(sheet: &[u32], labels: &[u8]) -> Outcome<Vec<u8>> {
+    let sheet = accepted(sheet)?;
+    let labels = accepted_labels(&sheet, labels)?;
+    writer::text(&sheet, &labels)
 }
 
 /// The determinization that exact equality walks, or its 21 or 22.

@@ -8,6 +8,7 @@ pub mod sheets;
 pub mod texts;
 pub mod tiny;
 pub mod words;
+pub mod written;
 
 /// A generator of numbers (splitmix64): the same seed gives the same numbers.
 #[derive(Clone, Debug)]

@@ -14,6 +14,7 @@ pub mod oracle;
 pub mod paper;
 pub mod port;
 pub mod sheet;
+pub mod writer;
 
 /// The original, compiled from its own files and with its own style.
 #[allow(clippy::all)]

@@ -55,6 +55,8 @@ pub type IsEquivalent = fn(&[u32], &[u32], &mut u32) -> u32;
 pub type IsSubautomaton = fn(&[u32], &[u8], &[u32], &[u8], &mut u32) -> u32;
 /// A text to a sheet.
 pub type ParseAutomaton = fn(&[u8], &mut [u32], &mut [u8], &mut u64, &mut u64, &mut u64) -> u32;
+/// A sheet and its labels to a text.
+pub type WriteAutomaton = fn(&[u32], &[u8], &mut [u8], &mut u64) -> u32;
 /// Two sheets to a verdict.
 pub type Equality = fn(&[u32], &[u32], &mut [u32], &mut u32, &mut u64) -> u32;
 
@@ -95,6 +97,9 @@ exported! {
 
     parse_automaton: ParseAutomaton = ringmatch_parse_automaton if has_parse_automaton
     [text: u8] [out: u32, labels_out: u8] [read: u64, words: u64, bytes: u64]
+
+    write_automaton: WriteAutomaton = ringmatch_write_automaton if has_write_automaton
+    [sheet: u32, labels: u8] [text_out: u8] [bytes: u64]
 
     equality: Equality = ringmatch_equality if has_equality
     [a: u32, b: u32] [word_out: u32] [same: u32, number: u64]

@@ -12,6 +12,8 @@ pub const OUT_WORDS: usize = 10_500;
 pub const OUT_BYTES: usize = 16_642;
 /// The words that a difference word must be lent.
 pub const DIFFERENCE_WORDS: usize = 510;
+/// The bytes that a text must be lent, and the longest text.
+pub const TEXT_BYTES: usize = 65_536;
 
 /// Kind of a record that reads no symbol.
 pub const EPSILON: u32 = 0;

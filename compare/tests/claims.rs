@@ -6,7 +6,7 @@ use compare::bounded::{self, Product};
 use compare::expect::{self, Verdict};
 use compare::generate::{Rng, pairs, sheets, tiny, words};
 use compare::oracle::{self, Automaton};
-use compare::sheet::{EPSILON, Record, Sheet};
+use compare::sheet::{EPSILON, Record, Sheet, plain_labels, write_labels};
 
 const ROUNDS: usize = 5000;
 
@@ -181,6 +181,27 @@ fn crossed_products_are_empty_where_the_words_are_equal() {
             }
         }
     }
+}
+
+/// A sheet without epsilons, written and read back by the original, accepts the same words.
+#[test]
+fn a_text_keeps_words() {
+    let mut rng = Rng::new(9);
+    let mut texts = 0;
+    for _ in 0..ROUNDS {
+        let sheet = some(&mut rng);
+        let labels = write_labels(&plain_labels(sheet.states()));
+        let Ok(text) = expect::write_automaton(&sheet.words(), &labels) else {
+            continue;
+        };
+        let read = expect::parse_automaton(&text).expect("it is in the grammar");
+        let back = oracle::automaton(&Sheet::read(&read.built.sheet));
+        each_word(&mut rng, &sheet, |word, accepted| {
+            assert_eq!(oracle::accepts_word(&back, word), accepted, "{sheet:?} {word:?}");
+        });
+        texts += 1;
+    }
+    assert!(texts > ROUNDS / 4, "{texts} of {ROUNDS}");
 }
 
 #[test]

@@ -4,8 +4,8 @@
 
 use compare::calls::{self, Plan, Tally};
 use compare::expect::{self, Built, Outcome, Verdict};
-use compare::port;
-use compare::sheet::{DIFFERENCE_WORDS, plain_labels, write_labels};
+use compare::sheet::{DIFFERENCE_WORDS, Sheet, TEXT_BYTES, plain_labels, write_labels};
+use compare::{grammar, port, writer};
 
 const PLAN: Plan = Plan { seed: 1, rounds: 500 };
 
@@ -116,6 +116,68 @@ output_call!(totalizes_always(s: u32, l: u8), |s, l| {
     Ok(flipped)
 });
 
+/// A call that writes a text, which `$outcome` gives of the sheet and its labels, and says that it has `$more` bytes more.
+macro_rules! write_call {
+    ($name:ident, $outcome:expr, $more:expr) => {
+        fn $name(sheet: &[u32], labels: &[u8], text_out: &mut [u8], bytes: &mut u64) -> u32 {
+            if text_out.len() < TEXT_BYTES {
+                return 20;
+            }
+            match $outcome(sheet, labels) {
+                Ok(text) => {
+                    text_out[..text.len()].copy_from_slice(&text);
+                    *bytes = text.len() as u64 + $more;
+                    0
+                }
+                Err(number) => number,
+            }
+        }
+    };
+}
+
+/// The expected text with the first of one piece replaced.
+fn replaced(sheet: &[u32], labels: &[u8], old: &str, new: &str) -> Outcome<Vec<u8>> {
+    let text = String::from_utf8(expect::write_automaton(sheet, labels)?).expect("it is ASCII");
+    Ok(text.replacen(old, new, 1).into_bytes())
+}
+
+write_call!(write_automaton, expect::write_automaton, 0);
+write_call!(one_byte_more, expect::write_automaton, 1);
+write_call!(no_blank, |sheet, labels| replaced(sheet, labels, ", ", ","), 0);
+write_call!(named_otherwise, |sheet, labels| replaced(sheet, labels, " P ", " A "), 0);
+write_call!(
+    no_accepting_first,
+    |sheet, labels| match expect::write_automaton(sheet, labels) {
+        Err(30) if !Sheet::read(sheet).accept.contains(&1) => Err(31),
+        outcome => outcome,
+    },
+    0
+);
+write_call!(
+    every_state_written,
+    |sheet, labels| {
+        let text = expect::write_automaton(sheet, labels)?;
+        let read = Sheet::read(sheet);
+        let touched = writer::written(&read);
+        let all = (0..read.states()).all(|q| read.accept[q] == 0 || touched.contains(&q));
+        if all { Ok(text) } else { Err(32) }
+    },
+    0
+);
+write_call!(
+    accepting_by_appearance,
+    |sheet, labels| {
+        let text = expect::write_automaton(sheet, labels)?;
+        let (pattern, _) = grammar::read(&text).expect("it is in the grammar");
+        let (read, names) = grammar::automaton(&pattern);
+        let accepting = (0..names.len()).filter(|&q| read.accept[q] == 1);
+        let accepting: Vec<&[u8]> = accepting.map(|q| &names[q][..]).collect();
+        let end = text.len() - pattern.accepting.join(&b", "[..]).len() - "; };".len();
+        Ok([&text[..end], &accepting.join(&b", "[..]), b"; };"].concat())
+    },
+    0
+);
+
 /// Exact equality by `$verdict`, which is given the expected verdict.
 macro_rules! equality_call {
     ($name:ident, $verdict:expr) => {
@@ -183,6 +245,7 @@ fn expected_answers_agree() {
     assert_eq!(disagreements(|p, t| is_equivalent::compare(crate::is_equivalent, p, t)), 0);
     assert_eq!(disagreements(|p, t| is_subautomaton::compare(crate::is_subautomaton, p, t)), 0);
     assert_eq!(disagreements(|p, t| parse_automaton::compare(crate::parse_automaton, p, t)), 0);
+    assert_eq!(disagreements(|p, t| write_automaton::compare(crate::write_automaton, p, t)), 0);
     assert_eq!(disagreements(|p, t| determinize::compare(crate::determinize, p, t)), 0);
     assert_eq!(disagreements(|p, t| intersection::compare(crate::intersection, p, t)), 0);
     assert_eq!(disagreements(|p, t| totalize::compare(crate::totalize, p, t)), 0);
@@ -200,6 +263,16 @@ fn sham_answers_are_found() {
     assert!(disagreements(|p, t| intersection::compare(late_epsilon, p, t)) > 0);
     assert!(disagreements(|p, t| complement::compare(totalizes_always, p, t)) > 0);
     assert!(disagreements(|p, t| complement::compare(crate::totalize, p, t)) > 0);
+    for call in [
+        one_byte_more,
+        no_blank,
+        named_otherwise,
+        no_accepting_first,
+        every_state_written,
+        accepting_by_appearance,
+    ] {
+        assert!(disagreements(|p, t| write_automaton::compare(call, p, t)) > 0);
+    }
     assert!(disagreements(|p, t| equality::compare(always_same, p, t)) > 0);
     assert!(disagreements(|p, t| equality::compare(always_different, p, t)) > 0);
     assert!(disagreements(|p, t| equality::compare(one_join_more, p, t)) > 0);

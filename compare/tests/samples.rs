@@ -22,6 +22,18 @@ fn text_a_has_its_sheet() {
 }
 
 #[test]
+fn texts_are_written_back() {
+    for text in [A, B, C] {
+        let read = expect::parse_automaton(text.as_bytes()).expect("it is in the grammar").built;
+        let written =
+            expect::write_automaton(&read.sheet, &read.labels).expect("it can be written");
+        let (name, rest) = text.split_once(" {").expect("a name stands before the brace");
+        assert_eq!(name.len(), "automaton P".len());
+        assert_eq!(String::from_utf8(written), Ok(format!("automaton P {{{rest}")));
+    }
+}
+
+#[test]
 fn holes() {
     assert_eq!(missing_ranges(&[], 0, u32::MAX), [(0, u32::MAX)]);
     assert_eq!(missing_ranges(&[(5, u32::MAX)], 0, u32::MAX), [(0, 4)]);

@@ -1,4 +1,4 @@
-/* Reads two patterns, tests a series against the first, and says whether the two accept the same series. */
+/* Reads two patterns, writes one back as text, tests a series against it, and says whether the two accept the same series. */
 #include "ringmatch.h"
 
 #include <inttypes.h>
@@ -12,7 +12,9 @@ static const char *const texts[2] = {
 
 static uint32_t sheets[2][RINGMATCH_SHEET_WORDS];
 static uint64_t lengths[2];
-static uint8_t labels[RINGMATCH_LABEL_BYTES];
+static uint8_t labels[2][RINGMATCH_LABEL_BYTES];
+static uint64_t label_bytes[2];
+static uint8_t text[RINGMATCH_TEXT_BYTES];
 
 static int refused(const char *call, uint32_t number) {
     printf("%s: refused %" PRIu32 "\n", call, number);
@@ -21,17 +23,26 @@ static int refused(const char *call, uint32_t number) {
 
 int main(void) {
     for (int i = 0; i < 2; i++) {
-        uint64_t read, bytes;
+        uint64_t read;
         uint32_t code =
             ringmatch_parse_automaton((const uint8_t *)texts[i], strlen(texts[i]), sheets[i], RINGMATCH_SHEET_WORDS,
-                                      labels, RINGMATCH_LABEL_BYTES, &read, &lengths[i], &bytes);
+                                      labels[i], RINGMATCH_LABEL_BYTES, &read, &lengths[i], &label_bytes[i]);
         if (code != 0)
             return refused("parse_automaton", code);
         printf("pattern %d: %" PRIu64 " bytes read, a sheet of %" PRIu64 " words\n", i + 1, read, lengths[i]);
     }
 
+    uint64_t bytes;
+    uint32_t code = ringmatch_write_automaton(sheets[0], lengths[0], labels[0], label_bytes[0], text,
+                                              RINGMATCH_TEXT_BYTES, &bytes);
+    if (code != 0)
+        return refused("write_automaton", code);
+    printf("pattern 1 as text: ");
+    fwrite(text, 1, bytes, stdout);
+    printf("\n");
+
     uint32_t series[1] = {9}, answer;
-    uint32_t code = ringmatch_accepts_words(sheets[0], lengths[0], series, 1, &answer);
+    code = ringmatch_accepts_words(sheets[0], lengths[0], series, 1, &answer);
     if (code != 0)
         return refused("accepts_words", code);
     printf("the series 9 is %saccepted by pattern 1\n", answer ? "" : "not ");

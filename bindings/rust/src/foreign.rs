@@ -44,5 +44,6 @@ declared! {
     ringmatch_is_equivalent [a: u32, b: u32] [] [answer: u32]
     ringmatch_is_subautomaton [a: u32, a_labels: u8, b: u32, b_labels: u8] [] [answer: u32]
     ringmatch_parse_automaton [text: u8] [out: u32, labels_out: u8] [read: u64, words: u64, bytes: u64]
+    ringmatch_write_automaton [sheet: u32, labels: u8] [text_out: u8] [bytes: u64]
     ringmatch_equality [a: u32, b: u32] [word_out: u32] [same: u32, number: u64]
 }

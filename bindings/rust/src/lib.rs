@@ -9,14 +9,17 @@
 //! assert!(a.accepts_words(&[9])?);
 //! assert!(!c.accepts_words(&[9])?);
 //! assert_eq!(equality(&a, &c)?, Verdict::Different { word: vec![9] });
+//! assert_eq!(a.to_string(), "automaton P { init p; p -> q [0, 9]; accepting q; };");
 //! # Ok::<(), ringmatch::Refusal>(())
 //! ```
 //!
 //! The names are those of the original's module; what takes an automaton by value there borrows one here. An operation that the original
-//! can't refuse is refused here where its result is over 256 states or 2,048 transitions.
+//! can't refuse is refused here where its result is over 256 states or 2,048 transitions. [`equality`] and [`write_automaton`] are added.
 
 mod foreign;
 mod refusal;
+
+use std::fmt;
 
 pub use refusal::Refusal;
 
@@ -28,6 +31,7 @@ pub const MAX_LABEL: usize = 64;
 const SHEET_WORDS: usize = 10_500;
 const LABEL_BYTES: usize = 16_642;
 const DIFFERENCE_WORDS: usize = 510;
+const TEXT_BYTES: usize = 65_536;
 
 /// An automaton: its sheet, and the labels of its states as a label list (document 01). Whether the two are well-formed is checked by each
 /// call, so that any words and bytes may stand in them.
@@ -160,6 +164,25 @@ pub fn parse_automaton_bytes(input: &[u8]) -> Result<(&[u8], Automaton), Refusal
         foreign::ringmatch_parse_automaton(input, out, labels_out, &mut read, words, bytes)
     })?;
     Ok((&input[read as usize..], automaton))
+}
+
+/// The text of an automaton, such as `automaton P { init p; p -> q [0, 9]; accepting q; };`, always with the name P. It names
+/// the start and the states of the transitions, and no others; [`parse_automaton`] reads it to its end as an automaton of just these states under
+/// their labels, which accepts the same words.
+pub fn write_automaton(a: &Automaton) -> Result<String, Refusal> {
+    let (mut text, mut bytes) = (vec![0; TEXT_BYTES], 0);
+    let code = foreign::ringmatch_write_automaton(&a.sheet, &a.labels, &mut text, &mut bytes);
+    checked(code, ())?;
+    text.truncate(bytes as usize);
+    Ok(String::from_utf8(text).expect("a text of the grammar is ASCII"))
+}
+
+/// The text of [`write_automaton`]. Where that is refused, formatting fails with [`fmt::Error`], and `to_string` panics; the refusal itself is
+/// the answer of [`write_automaton`].
+impl fmt::Display for Automaton {
+    fn fmt(&self, f: &mut fmt::Formatter) -> fmt::Result {
+        f.write_str(&write_automaton(self).map_err(|_| fmt::Error)?)
+    }
 }
 
 /// Exact equality: whether every word is accepted by both or by neither, and a word that tells them apart otherwise.

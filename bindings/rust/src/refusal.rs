@@ -1,4 +1,4 @@
-//! Why a call was refused, with document 01's numbers.
+//! Why a call was refused, with the numbers of the specification.
 
 use std::fmt;
 
@@ -19,9 +19,12 @@ pub enum Refusal {
     OutputLength,
     States,
     Transitions,
+    EpsilonRecord,
+    NoAcceptingState,
+    Names,
 }
 
-const ALL: [(Refusal, u32, &str); 13] = [
+const ALL: [(Refusal, u32, &str); 16] = [
     (
         Refusal::SheetLength,
         1,
@@ -47,10 +50,17 @@ const ALL: [(Refusal, u32, &str); 13] = [
     (Refusal::OutputLength, 20, "an output shorter than its least size"),
     (Refusal::States, 21, "the result needs over 256 states"),
     (Refusal::Transitions, 22, "the result needs over 2,048 transitions"),
+    (Refusal::EpsilonRecord, 30, "a record is an epsilon, which the grammar has no text for"),
+    (Refusal::NoAcceptingState, 31, "no state that the text names accepts"),
+    (
+        Refusal::Names,
+        32,
+        "two labels in the text are equal, one is no name in the grammar, or the text is over 65,536 bytes",
+    ),
 ];
 
 impl Refusal {
-    /// Document 01's number.
+    /// Its number in the specification.
     pub fn number(self) -> u32 {
         self.row().1
     }

@@ -86,6 +86,7 @@ fn faulty_sheets_are_refused() {
         assert_eq!(a.epsilon_eliminate(), Err(refusal));
         assert_eq!(totalize(&a), Err(refusal));
         assert_eq!(complement(&a), Err(refusal));
+        assert_eq!(write_automaton(&a), Err(refusal));
         assert_eq!(has_reachable_accepting_state(&a), Err(refusal));
         for (x, y) in [(&a, &good), (&good, &a)] {
             assert_eq!(intersection(x, y), Err(refusal));
@@ -103,6 +104,7 @@ fn faulty_labels_are_refused() {
     assert_eq!(totalize(&bad), Err(Refusal::Labels));
     assert_eq!(complement(&bad), Err(Refusal::Labels));
     assert_eq!(bad.epsilon_eliminate(), Err(Refusal::Labels));
+    assert_eq!(write_automaton(&bad), Err(Refusal::Labels));
     assert_eq!(is_subautomaton(&bad, &good), Err(Refusal::Labels));
     assert_eq!(is_subautomaton(&good, &bad), Err(Refusal::Labels));
 }
@@ -176,8 +178,53 @@ fn a_long_difference() {
 }
 
 #[test]
+fn texts_are_written_and_read_back() {
+    let a = read(A);
+    assert_eq!(write_automaton(&a), Ok(A.replace("automaton A", "automaton P")));
+    for text in [A, B, C] {
+        let a = read(text);
+        let written = write_automaton(&a).expect("names, no epsilon, an accepting state");
+        assert_eq!(parse_automaton(&written), Ok(("", a)));
+    }
+    // Only the start is named where there is no record.
+    let lone = Automaton { sheet: vec![1, 1, 3, 1, 1, 1, 0], labels: labels(&["p", "q", "p"]) };
+    assert_eq!(write_automaton(&lone).as_deref(), Ok("automaton P { init q; accepting q; };"));
+    let chain = chain(256);
+    assert_eq!(parse_automaton(&chain.to_string()), Ok(("", chain)));
+}
+
+#[test]
+fn texts_are_refused() {
+    let epsilon = with_sheet(&[1, 0, 1, 0, 1, 0, 0, 0, 0, 0]);
+    assert_eq!(write_automaton(&epsilon), Err(Refusal::EpsilonRecord));
+    let none = with_sheet(&[1, 0, 1, 0, 0]);
+    assert_eq!(write_automaton(&none), Err(Refusal::NoAcceptingState));
+    let a = read(A);
+    for names in [["p", "p"], ["p", "2"], ["p", "q r"], ["é", "q"]] {
+        let named = Automaton { labels: labels(&names), ..a.clone() };
+        assert_eq!(write_automaton(&named), Err(Refusal::Names), "{names:?}");
+    }
+    // 2,048 loops of 33 bytes each.
+    let mut sheet = vec![1, 0, 1, 1, 2048];
+    sheet.extend((0..2048).flat_map(|i| [0, 1, 1_000_000_000 + i, 1_000_000_000 + i, 0]));
+    assert_eq!(write_automaton(&with_sheet(&sheet)), Err(Refusal::Names));
+}
+
+#[test]
+fn display_is_the_text_or_an_error() {
+    use std::fmt::Write;
+    let mut out = String::new();
+    assert_eq!(write!(out, "{}", read(C)), Ok(()));
+    assert_eq!(out, "automaton P { init p; p -> q [0, 8]; accepting q; };");
+    assert_eq!(write!(out, "{}", with_sheet(&[1, 0, 1, 0, 0])), Err(std::fmt::Error));
+}
+
+#[test]
 fn refusals_have_their_numbers() {
     assert_eq!(Refusal::SheetLength.number(), 1);
     assert_eq!(Refusal::Transitions.number(), 22);
+    assert_eq!(Refusal::EpsilonRecord.number(), 30);
+    assert_eq!(Refusal::NoAcceptingState.number(), 31);
+    assert_eq!(Refusal::Names.number(), 32);
     assert_eq!(Refusal::States.to_string(), "refusal 21: the result needs over 256 states");
 }

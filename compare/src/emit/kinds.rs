@@ -2,7 +2,7 @@
 
 use super::Case;
 use crate::expect::{self, Verdict};
-use crate::generate::{Rng, labels, pairs, patterns, sheets, tiny, words};
+use crate::generate::{Rng, labels, pairs, patterns, sheets, tiny, words, written};
 use crate::oracle;
 use crate::paper;
 use crate::sheet::{Sheet, write_labels};
@@ -11,7 +11,7 @@ use crate::sheet::{Sheet, write_labels};
 type Draw = fn(&mut Rng) -> Case;
 
 /// The kinds by name; `compare/README.md` has their formats.
-pub const KINDS: [(&str, Draw); 19] = [
+pub const KINDS: [(&str, Draw); 20] = [
     ("sheets", sheets),
     ("labels", labels),
     ("accepts", accepts),
@@ -29,6 +29,7 @@ pub const KINDS: [(&str, Draw); 19] = [
     ("is_equivalent", is_equivalent),
     ("is_subautomaton", is_subautomaton),
     ("parse", parse),
+    ("write", write),
     ("equality", equality),
     ("utf8", utf8),
 ];
@@ -184,15 +185,17 @@ fn product(rng: &mut Rng) -> Case {
     Case::default().list(&a).list(&b).outcome(expect::intersection(&a, &b))
 }
 
+/// Names of one letter, which leave room for more records; some may be equal.
+fn letters(rng: &mut Rng, states: usize) -> Vec<Vec<u8>> {
+    (0..states).map(|_| vec![b'a' + rng.below(26) as u8]).collect()
+}
+
 fn operation(rng: &mut Rng, expect: fn(&[u32], &[u8]) -> expect::Outcome<expect::Built>) -> Case {
     let sheet = few(rng);
     let labels = if rng.one_in(15) {
         labels::list(rng, sheet.states())
     } else {
-        // Short names leave room for more records.
-        let names: Vec<Vec<u8>> =
-            (0..sheet.states()).map(|_| vec![b'a' + rng.below(26) as u8]).collect();
-        write_labels(&names)
+        write_labels(&letters(rng, sheet.states()))
     };
     let sheet = if rng.one_in(15) { few_words(rng) } else { sheet.words() };
     Case::default().list(&sheet).list(&labels).outcome(expect(&sheet, &labels))
@@ -237,6 +240,30 @@ fn parse(rng: &mut Rng) -> Case {
             let case = case.number(0u32).number(parsed.read);
             case.list(&parsed.built.sheet).list(&parsed.built.labels)
         }
+        Err(number) => case.number(number),
+    }
+}
+
+fn write(rng: &mut Rng) -> Case {
+    let mut sheet = if rng.one_in(3) {
+        few(rng)
+    } else {
+        let (states, records) = (rng.within(1, 3), rng.below(4));
+        sheets::random(rng, states, records, 0)
+    };
+    if rng.one_in(2) {
+        let state = rng.below(sheet.states());
+        sheet.accept[state] = 1;
+    }
+    let labels = match rng.below(15) {
+        0 => labels::list(rng, sheet.states()),
+        1..7 => written::list(rng, sheet.states()),
+        _ => write_labels(&letters(rng, sheet.states())),
+    };
+    let sheet = if rng.one_in(15) { sheets::faulty(rng) } else { sheet.words() };
+    let case = Case::default().list(&sheet).list(&labels);
+    match expect::write_automaton(&sheet, &labels) {
+        Ok(text) => case.number(0u32).list(&text),
         Err(number) => case.number(number),
     }
 }

@@ -4,7 +4,7 @@ use super::{Rng, damaged, hostile};
 use crate::sheet::{MAX_NAME, write_labels};
 
 /// A label: a name that operations give or expect, one of the longest, or any bytes.
-fn label(rng: &mut Rng) -> Vec<u8> {
+pub fn label(rng: &mut Rng) -> Vec<u8> {
     let length = match rng.below(4) {
         0 => {
             return rng.pick(&[&b"sink"[..], b"D0", b"D1", b"(0, 1)", b"p", b"q"]).to_vec();

@@ -4,7 +4,7 @@ use super::{Rng, damaged, sheets::EDGES};
 use crate::sheet::MAX_NAME;
 
 /// Names that are keywords or look like them, and plain ones.
-const NAMES: [&str; 14] = [
+pub const NAMES: [&str; 14] = [
     "p",
     "q",
     "r",

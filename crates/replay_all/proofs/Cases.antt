@@ -21,6 +21,7 @@ use Rattle.replay_all.specs.Decided.{sheetCase, labelsCase, wordCase, te
 use Rattle.replay_all.specs.Rows.{closuresCase}
 use Rattle.replay_all.specs.Outcomes.{determinizeCase, productCase, operationCase, parseCase}
 use Rattle.replay_all.specs.Spans.{rangesCase}
+use Rattle.replay_all.specs.Spelling.{writeCase}
 use Rattle.replay_all.specs.Verdicts.{EqualityCase}
 use Rattle.replay_all.specs.Agreement.{Agrees, numbersAt, Turned, Counted, none, more}
 
@@ -93,11 +94,15 @@ module _ (k : ListKind) (s : List ℕ) (b : Bool) where
   unfolding Agrees
   parse-agree e p = by-kind e p
 
+  pub write-agree : k ≡ kind.Write → b ≡ writeCase s → Agrees k s b
+  unfolding Agrees
+  write-agree e p = by-kind e p
+
   pub equality-agree : k ≡ kind.Equality → EqualityCase s b → Agrees k s b
   unfolding Agrees
   equality-agree e p = by-kind e p
 
-pub ruleset agreeLaws = (sheets-agree, labels-agree, accepts-agree, text-agree, ranges-agree, closures-agree, determinize-agree, product-agree, totalize-agree, complement-agree, epsilon-eliminate-agree, is-nfa-agree, nonempty-agree, is-equivalent-agree, is-subautomaton-agree, parse-agree, equality-agree, needs)
+pub ruleset agreeLaws = (sheets-agree, labels-agree, accepts-agree, text-agree, ranges-agree, closures-agree, determinize-agree, product-agree, totalize-agree, complement-agree, epsilon-eliminate-agree, is-nfa-agree, nonempty-agree, is-equivalent-agree, is-subautomaton-agree, parse-agree, write-agree, equality-agree, needs)
 
 -- the numbers of a case that was read into memory for so many
 part-at : (out s : List ℕ) (at room : ℕ) → length out ≡ room → take (caseAt room s at .count) (sets out 0 (lineAt s at .numbers)) ≡ take (caseAt room s at .count) (lineAt s at .numbers)

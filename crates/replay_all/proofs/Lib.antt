@@ -4,6 +4,7 @@ mod Decisions
 mod Bytes
 mod Outcomes
 mod Calls
+mod Spelling
 mod Judging
 mod Spans
 mod Rows

@@ -14,6 +14,7 @@ use Rattle.replay_all.specs.Decided.{sheetCase, labelsCase, wordCase, te
 use Rattle.replay_all.specs.Rows.{closuresCase}
 use Rattle.replay_all.specs.Outcomes.{determinizeCase, productCase, operationCase, parseCase}
 use Rattle.replay_all.specs.Spans.{rangesCase}
+use Rattle.replay_all.specs.Spelling.{writeCase}
 use Rattle.replay_all.specs.Verdicts.{EqualityCase}
 
 -- r says whether a case of the kind agrees
@@ -34,6 +35,7 @@ Agrees kind.Nonempty s r = r ≡ nonemptyCase s
 Agrees kind.IsEquivalent s r = r ≡ equivalentCase s
 Agrees kind.IsSubautomaton s r = r ≡ subautomatonCase s
 Agrees kind.Parse s r = r ≡ parseCase s
+Agrees kind.Write s r = r ≡ writeCase s
 Agrees kind.Equality s r = EqualityCase s r
 
 -- the numbers of the case at a place: at most 4,096, and none where it could not be read

@@ -4,5 +4,6 @@ pub mod Decided
 pub mod Rows
 pub mod Outcomes
 pub mod Spans
+pub mod Spelling
 pub mod Verdicts
 pub mod Agreement

@@ -1,4 +1,5 @@
-// Replays lists of inputs with the answers of the original Rust, and prints for each list how many cases agreed.
+// Replays lists of inputs with the answers of the original Rust, or of `compare` for writing, which the original has not, and prints for each list
+// how many cases agreed.
 //
 // The lists stand in data/ under the names of their kinds, and were made by
 // compare --emit sheets --seed 1 --count 200
@@ -17,6 +18,7 @@
 // compare --emit is_equivalent --seed 1 --count 200
 // compare --emit is_subautomaton --seed 1 --count 200
 // compare --emit parse --seed 1 --count 200
+// compare --emit write --seed 1 --count 200
 // compare --emit equality --seed 1 --count 200
 ghost use mathlib.Core.Path.{_≡_};
 ghost use Prim.Native.Nat.{_<_};
@@ -31,6 +33,7 @@ mod inputs;
 mod operations;
 mod questions;
 mod symbols;
+mod texts;
 mod verdicts;
 
 enum ListKind {
@@ -50,6 +53,7 @@ enum ListKind {
     IsEquivalent,
     IsSubautomaton,
     Parse,
+    Write,
     Equality,
 }
 
@@ -74,6 +78,7 @@ fn agrees(kind: ListKind, case: &[u32]) -> bool
         ListKind::IsEquivalent => questions::equivalent(case),
         ListKind::IsSubautomaton => questions::subautomaton(case),
         ListKind::Parse => operations::parsed(case),
+        ListKind::Write => texts::written(case),
         ListKind::Equality => verdicts::compared(case),
     }
 }
@@ -143,5 +148,6 @@ fn main() {
     replay_file(ListKind::IsEquivalent, b"is_equivalent");
     replay_file(ListKind::IsSubautomaton, b"is_subautomaton");
     replay_file(ListKind::Parse, b"parse");
+    replay_file(ListKind::Write, b"write");
     replay_file(ListKind::Equality, b"equality");
 }

@@ -1,2 +1,4 @@
 -- The laws of replies.
 pub mod Replies
+pub mod Codes
+pub mod Theorems

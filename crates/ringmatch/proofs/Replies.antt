@@ -29,8 +29,11 @@ use Rattle.refusal.specs.Reply.{reply}
 use Rattle.words.specs.Acceptance.{acceptanceOf}
 use Rattle.words.specs.declared.Acceptance.{Acceptance}
 use Rattle.words.specs.declared.Acceptance.the-variants
+use Rattle.writer.specs.declared.Wrote.{Wrote}
+use Rattle.writer.specs.declared.Wrote.the-variants as wrote
+use Rattle.writer.specs.Wrote.{wroteOf}
 use Rattle.ringmatch.specs.Calls.{EqualityReply}
-use Rattle.ringmatch.specs.Reply.{numberReply, replyToNumber, replyToBool, outputsReply, readCells, readingReply, verdictReply, replyToVerdict}
+use Rattle.ringmatch.specs.Reply.{numberReply, replyToNumber, replyToBool, outputsReply, readCells, readingReply, textReply, verdictReply, replyToVerdict}
 
 pub reply-given : (old k : ℕ) (r : Acceptance) → r ≡ the-variants.Kind k → numberReply 0 k ≡ replyToNumber old (acceptanceOf r)
 reply-given old k r e = ap (λ x. replyToNumber old (acceptanceOf x)) (sym e)
@@ -84,6 +87,18 @@ pub parsed-passed : (code x y z n w b : ℕ) (r : Parsed) (o l : List ℕ) (a : 
 parsed-passed code x y z n w b r o l a e h = e o l ∙ ap (reply (readCells x y z)) h
 
 pub ruleset parses = (parsed-lengths, parsed-refused, parsed-passed, needs)
+
+-- the reply with a text's length
+pub wrote-length : (x n : ℕ) (r : Wrote) → r ≡ wrote.Text n → (o : List ℕ) → textReply 0 n o ≡ reply x (wroteOf r o)
+wrote-length x n r e o = ap (λ w. reply x (wroteOf w o)) (sym e)
+
+pub wrote-refused : (x n : ℕ) (r : Wrote) (i : Refusal) → n ≡ numberOf i → r ≡ wrote.Refused i → (o : List ℕ) → textReply n x o ≡ reply x (wroteOf r o)
+wrote-refused x n r i h e o = ap (λ k. textReply k x o) h ∙ ap (λ w. reply x (wroteOf w o)) (sym e)
+
+pub wrote-passed : (code x n : ℕ) (r : Wrote) (o : List ℕ) (a : Outcome ℕ (List ℕ)) → ((o : List ℕ) → textReply code n o ≡ reply x (wroteOf r o)) → wroteOf r o ≡ a → textReply code n o ≡ reply x a
+wrote-passed code x n r o a e h = e o ∙ ap (reply x) h
+
+pub ruleset writes = (wrote-length, wrote-refused, wrote-passed, needs)
 
 -- the reply of exact equality
 pub verdict-same : (s n joins : ℕ) (r : Verdict) → r ≡ verdict.Same joins → (o : List ℕ) → verdictReply 0 1 joins o ≡ replyToVerdict s n r o

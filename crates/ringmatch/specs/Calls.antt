@@ -18,7 +18,8 @@ use Rattle.subautomaton.specs.Answer.{subautomatonAnswer}
 use Rattle.nondeterminism.specs.Nondeterminism.{isNfaAnswer}
 use Rattle.totality.specs.Answers.{totalizeAnswer, complementAnswer}
 use Rattle.words.specs.Acceptance.{acceptsWordsAnswer, acceptsTextAnswer}
-use Rattle.ringmatch.specs.Reply.{replyToNumber, replyToBool, replyToPattern, replyToReading, VerdictCells, replyToVerdict}
+use Rattle.writer.specs.Text.{writeAnswer}
+use Rattle.ringmatch.specs.Reply.{replyToNumber, replyToBool, replyToPattern, replyToReading, replyToText, VerdictCells, replyToVerdict}
 
 -- questions: old is what the cell for the answer held
 abbrev pub acceptsWordsReply : List ℕ → List ℕ → ℕ → Reply ℕ (Unit {0})
@@ -58,6 +59,10 @@ intersectionReply s t o l w n = replyToPattern o l w n (intersectionAnswer s t o
 -- the pattern reader: r is what the cell for the number of bytes read held
 abbrev pub parseReply : List ℕ → List ℕ → List ℕ → ℕ → ℕ → ℕ → Reply ReadLengths Outputs
 parseReply t o l r w n = replyToReading o l r w n (parseAnswer t o l)
+
+-- the text of the sheet s with the labels b into o: n is what the cell for its length held
+abbrev pub writeReply : List ℕ → List ℕ → List ℕ → ℕ → Reply ℕ (List ℕ)
+writeReply s b o n = replyToText o n (writeAnswer s b o)
 
 -- r is a reply of exact equality of the sheets a and b, where word was lent for the difference word and the cells held same and number: it tells a
 -- verdict of which all holds that exact equality promises

@@ -12,6 +12,7 @@ use Rattle.refusal.specs.Answer.{Answer, refused, given}
 use Rattle.refusal.specs.Number.{numberOf}
 use Rattle.refusal.specs.Outcome.{Outcome, outcome}
 use Rattle.refusal.specs.Reply.{Reply, reply}
+use Rattle.writer.specs.Text.{writeOutcome}
 
 -- of a function that answers one number: its cell, and no memory
 abbrev pub numberReply : ℕ → ℕ → Reply ℕ (Unit {0})
@@ -49,6 +50,14 @@ readingReply code n words bytes o l = record { code = code; cells = readCells n 
 
 abbrev pub replyToReading : List ℕ → List ℕ → ℕ → ℕ → ℕ → Answer Reading → Reply ReadLengths Outputs
 replyToReading o l n words bytes a = reply (readCells n words bytes) (parsed o l a)
+
+-- of the function that writes a text: a cell for its length
+abbrev pub textReply : ℕ → ℕ → List ℕ → Reply ℕ (List ℕ)
+textReply code bytes text = record { code = code; cells = bytes; memory = text }
+
+-- for what was lent for the text and for its length
+abbrev pub replyToText : List ℕ → ℕ → Answer (List ℕ) → Reply ℕ (List ℕ)
+replyToText o bytes a = reply bytes (writeOutcome o a)
 
 -- of exact equality: 1 and the joins, or 0 and the length of the difference word
 pub record VerdictCells : Type 0 where

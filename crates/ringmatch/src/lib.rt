@@ -8,14 +8,16 @@ ghost use Rattle.parser.specs.Parsed.{parsedOf};
 ghost use Rattle.refusal.specs.Decision.{decisionOf};
 ghost use Rattle.refusal.specs.Reply.{reply};
 ghost use Rattle.ringmatch.specs.Calls.{acceptsWordsReply, acceptsTextReply, isNfaReply, reachableReply, equivalentReply, subautomatonReply};
-ghost use Rattle.ringmatch.specs.Calls.{determinizeReply, totalizeReply, complementReply, eliminateReply, intersectionReply, parseReply, EqualityReply};
-ghost use Rattle.ringmatch.specs.Reply.{numberReply, replyToNumber, replyToBool, outputsReply, readCells, readingReply, verdictReply, replyToVerdict};
+ghost use Rattle.ringmatch.specs.Calls.{determinizeReply, totalizeReply, complementReply, eliminateReply, intersectionReply, parseReply, writeReply, EqualityReply};
+ghost use Rattle.ringmatch.specs.Reply.{numberReply, replyToNumber, replyToBool, outputsReply, readCells, readingReply, textReply, verdictReply, replyToVerdict};
 ghost use Rattle.words.specs.Acceptance.{acceptanceOf};
+ghost use Rattle.writer.specs.Wrote.{wroteOf};
 use equality::Verdict;
 use output::Made;
 use parser::Parsed;
 use refusal::Decision;
 use words::Acceptance;
+use writer::Wrote;
 
 // The number of an acceptance's refusal, or 0 with the answer stored.
 fn reply_acceptance(r: Acceptance, answer: &mut u32) -> u32
@@ -73,6 +75,19 @@ fn reply_parsed(r: Parsed, bytes_read: &mut u64, words: &mut u64, bytes: &mut u6
             0
         }
         Parsed::Refused(i) => refusal::number(i),
+    }
+}
+
+// The number of the refusal of writing, or 0 with the length of the text stored.
+fn reply_wrote(r: Wrote, bytes: &mut u64) -> u32
+    ensures { λ code. ⌜ ((o : List ℕ) → textReply code (now (bytes .exit)) o ≡ reply (now (bytes .entry)) (wroteOf r o)) ⌝ }
+{
+    match r {
+        Wrote::Text(n) => {
+            *bytes = n as u64;
+            0
+        }
+        Wrote::Refused(i) => refusal::number(i),
     }
 }
 
@@ -259,6 +274,20 @@ pub extern "C" fn ringmatch_parse_automaton(
         words,
         bytes,
     )
+}
+
+// The text of a sheet and its labels in the grammar of patterns, at the front of text_out, of at least 65,536 bytes: bytes is its length.
+// Refusals: 20, 1 to 6, 10, 30, 31, 32.
+#[no_mangle]
+pub extern "C" fn ringmatch_write_automaton(
+    sheet: &[u32],
+    labels: &[u8],
+    text_out: &mut [u8],
+    bytes: &mut u64,
+) -> u32
+    ensures { λ code. ⌜ textReply code (now (bytes .exit)) (now («text_out» .exit)) ≡ writeReply (now (sheet .entry)) (now (labels .entry)) (now («text_out» .entry)) (now (bytes .entry)) ⌝ }
+{
+    reply_wrote(writer::write_automaton(sheet, labels, text_out), bytes)
 }
 
 // Whether two sheets accept the same words: same is 1 and number the joins made, or same is 0 and number the length of a word that

@@ -5,6 +5,8 @@ use std::hint::black_box;
 use compare::oracle::{self, Automaton};
 use compare::port;
 use compare::sheet::{DIFFERENCE_WORDS, OUT_BYTES, OUT_WORDS, Sheet, plain_labels, write_labels};
+#[cfg(parser)]
+use compare::{sheet::TEXT_BYTES, writer};
 
 use crate::row;
 
@@ -141,6 +143,26 @@ pub fn parse_automaton(case: &str, text: &str) {
 #[cfg(not(parser))]
 pub fn parse_automaton(case: &str, _text: &str) {
     println!("| `parse_automaton` | {case} | nom was not found |");
+}
+
+/// The original has no writer; its part is to read the same text.
+#[cfg(parser)]
+pub fn write_automaton(case: &str, sheet: &Sheet, labels: &[Vec<u8>]) {
+    let text = writer::text(sheet, labels).expect("it can be written");
+    let text = String::from_utf8(text).expect("it is ASCII");
+    let (sheet, labels) = (sheet.words(), write_labels(labels));
+    let (mut out, mut bytes) = (vec![0; TEXT_BYTES], 0);
+    row(
+        "write_automaton",
+        case,
+        || oracle::parse_automaton(black_box(&text)),
+        port::write_automaton().map(|call| move || call(&sheet, &labels, &mut out, &mut bytes)),
+    );
+}
+
+#[cfg(not(parser))]
+pub fn write_automaton(case: &str, _sheet: &Sheet, _labels: &[Vec<u8>]) {
+    println!("| `write_automaton` | {case} | nom was not found |");
 }
 
 pub fn is_nfa(case: &str, sheet: &Sheet) {

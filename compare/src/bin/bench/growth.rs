@@ -1,6 +1,7 @@
 //! Inputs that grow: states, records or symbols by doubling, all else kept.
 
 use compare::generate::{Rng, sheets, texts};
+use compare::sheet::plain_labels;
 
 use crate::calls;
 
@@ -13,6 +14,7 @@ pub fn all() {
     acceptance();
     operations();
     parsing();
+    writing();
     questions();
 }
 
@@ -79,6 +81,17 @@ fn parsing() {
     for n in doubling(256, 2048) {
         let case = format!("{n} transitions in reverse order");
         calls::parse_automaton(&case, &texts::points(n, true));
+    }
+}
+
+fn writing() {
+    for n in doubling(32, 255) {
+        let sheet = sheets::chain(n, false);
+        calls::write_automaton(&format!("chain of {n} names"), &sheet, &plain_labels(n));
+    }
+    for n in doubling(256, 2048) {
+        let sheet = sheets::comb(0, n);
+        calls::write_automaton(&format!("{n} transitions"), &sheet, &plain_labels(1));
     }
 }
 

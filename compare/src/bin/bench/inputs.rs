@@ -1,7 +1,7 @@
 //! Each call on a few inputs, among them the patterns of request M-109.
 
 use compare::generate::{Rng, sheets, texts};
-use compare::sheet::{RANGE, Sheet};
+use compare::sheet::{RANGE, Sheet, plain_labels};
 
 use crate::calls;
 
@@ -16,6 +16,7 @@ pub fn all() {
     calls::parse_automaton("chain of 255 names", &texts::chain(255));
     calls::parse_automaton("2,000 transitions in order", &texts::points(2000, false));
     calls::parse_automaton("2,000 transitions in reverse order", &texts::points(2000, true));
+    writing();
     questions();
     equality();
 }
@@ -64,6 +65,15 @@ fn labelled() {
         call("epsilons from 8 to 250 points", &sheets::fan(8, 250));
     }
     calls::epsilon_eliminate("1,000 ranges in reverse order", &sheets::descent(10, 100));
+}
+
+fn writing() {
+    for (case, sheet) in [
+        ("chain of 255 names", sheets::chain(255, false)),
+        ("2,000 transitions", sheets::comb(0, 2000)),
+    ] {
+        calls::write_automaton(case, &sheet, &plain_labels(sheet.states()));
+    }
 }
 
 fn questions() {

@@ -1,7 +1,7 @@
 //! Small patterns, and the slowest inputs known for each call at sizes that double.
 
-use compare::generate::{Rng, hostile, sheets};
-use compare::sheet::{RANGE, Sheet, plain_labels};
+use compare::generate::{Rng, hostile, sheets, written};
+use compare::sheet::{RANGE, Sheet, TEXT_BYTES, plain_labels};
 
 use crate::calls;
 
@@ -24,6 +24,7 @@ pub fn small() {
     calls::epsilon_eliminate(one, &a);
     let text = "automaton B { init s; s -> t [0, 4]; s -> u [5, 9]; accepting t, u; };";
     calls::parse_automaton("sample B", text);
+    calls::write_automaton("sample B", &b, &[b"s".to_vec(), b"t".to_vec(), b"u".to_vec()]);
     calls::is_nfa(one, &a);
     calls::has_reachable_accepting_state(one, &a);
     calls::equivalence(both, &a, &b);
@@ -38,6 +39,7 @@ pub fn all() {
     others();
     acceptance();
     parsing();
+    writing();
 }
 
 fn determinizing() {
@@ -162,4 +164,21 @@ fn parsing() {
             calls::parse_automaton(&case, &hostile::text(&names, n));
         }
     }
+}
+
+fn writing() {
+    let names = [
+        ("in their last bytes", hostile::long_names as fn(usize) -> Vec<String>),
+        ("in the middle", hostile::alike_at_both_ends),
+    ];
+    for (case, names) in names {
+        for n in doubling(256) {
+            let labels: Vec<Vec<u8>> = names(n).into_iter().map(String::into_bytes).collect();
+            let case = format!("ring of {n} names of 64 bytes that differ {case}");
+            calls::write_automaton(&case, &sheets::chain(n, true), &labels);
+        }
+    }
+    let mut rng = Rng::new(10);
+    let (sheet, labels) = written::sized(&mut rng, TEXT_BYTES);
+    calls::write_automaton("65,536 bytes", &sheet, &labels);
 }

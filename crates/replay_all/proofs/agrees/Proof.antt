@@ -12,7 +12,7 @@ agrees-spec =
     (λ c. search needs) (λ c κs. search needs) (λ c. search needs) (λ c κs. search needs) (λ c. search needs) (λ c κs. search needs)
     (λ c. search needs) (λ c κs. search needs) (λ c. search needs) (λ c κs. search needs) (λ c. search needs) (λ c κs. search needs)
     (λ c. search needs) (λ c κs. search needs) (λ c. search needs) (λ c κs. search needs) (λ c. search needs) (λ c κs. search needs)
-    (λ c. search needs) (λ c κs. search needs) (λ c. search needs) (λ c κs. search needs) (λ c. search agreeLaws) (λ c. search agreeLaws)
+    (λ c. search needs) (λ c κs. search needs) (λ c. search needs) (λ c κs. search needs) (λ c. search needs) (λ c κs. search needs) (λ c. search agreeLaws) (λ c. search agreeLaws) (λ c. search agreeLaws)
     (λ c. search agreeLaws) (λ c. search agreeLaws) (λ c. search agreeLaws) (λ c. search agreeLaws) (λ c. search agreeLaws) (λ c. search agreeLaws)
     (λ c. search agreeLaws) (λ c. search agreeLaws) (λ c. search agreeLaws) (λ c. search agreeLaws) (λ c. search agreeLaws) (λ c. search agreeLaws)
     (λ c. search agreeLaws) (λ c. search agreeLaws) (λ c. search agreeLaws))

@@ -1,0 +1,6 @@
+-- Writing patterns as texts.
+pub mod Text
+pub mod ReadBack
+pub mod Refusals
+pub mod Wrote
+pub mod inner
