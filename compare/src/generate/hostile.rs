@@ -199,6 +199,11 @@ pub fn alike_at_both_ends(count: usize) -> Vec<String> {
     (0..count).map(|i| format!("{}{i:05}{}", "s".repeat(30), "t".repeat(29))).collect()
 }
 
+/// Names as labels.
+pub fn as_labels(names: Vec<String>) -> Vec<Vec<u8>> {
+    names.into_iter().map(String::into_bytes).collect()
+}
+
 /// A text with `transitions` transitions over the names, 1,700 different ones between the first two.
 pub fn text(names: &[String], transitions: usize) -> String {
     let own = names.iter().enumerate().map(|(i, name)| format!(" {name} -> {name} [{i}, {i}];"));

@@ -18,15 +18,14 @@ pub fn label(rng: &mut Rng) -> Vec<u8> {
 
 /// Labels for `states` states, some of them perhaps equal.
 pub fn some(rng: &mut Rng, states: usize) -> Vec<Vec<u8>> {
-    let bytes = |names: Vec<String>| names.into_iter().map(String::into_bytes).collect();
     match rng.below(4) {
         0 => (0..states).map(|i| format!("s{i}").into_bytes()).collect(),
         // Few names: states of equal label are frequent.
         1 => (0..states).map(|_| vec![b'a' + rng.below(4) as u8]).collect(),
         2 if states > 30 => match rng.below(3) {
             0 => vec![vec![b'x'; MAX_NAME]; states],
-            1 => bytes(hostile::long_names(states)),
-            _ => bytes(hostile::alike_at_both_ends(states)),
+            1 => hostile::as_labels(hostile::long_names(states)),
+            _ => hostile::as_labels(hostile::alike_at_both_ends(states)),
         },
         _ => (0..states).map(|_| label(rng)).collect(),
     }

@@ -39,11 +39,10 @@ fn no_name(rng: &mut Rng) -> Vec<u8> {
 
 /// Different names for `states` states.
 fn names(rng: &mut Rng, states: usize) -> Vec<Vec<u8>> {
-    let bytes = |names: Vec<String>| names.into_iter().map(String::into_bytes).collect();
     match rng.below(5) {
         0 => plain_labels(states),
-        1 if states > 30 => bytes(hostile::long_names(states)),
-        2 if states > 30 => bytes(hostile::alike_at_both_ends(states)),
+        1 if states > 30 => hostile::as_labels(hostile::long_names(states)),
+        2 if states > 30 => hostile::as_labels(hostile::alike_at_both_ends(states)),
         _ => {
             let mut known = BTreeSet::new();
             std::iter::repeat_with(|| name(rng))

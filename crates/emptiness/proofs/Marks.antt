@@ -149,7 +149,7 @@ module _ (marks stack run : List ℕ) (from top : ℕ) where
   push-ended at m s e p h = subst (λ (ds : List Transition). Pushed marks stack top (readRecords (drop from run)) ds m s e) (records-end run at h) p
 
   module _ (at : ℕ) (m s : List ℕ) (e : ℕ) (p : Pushed marks stack top (readRecords (drop from run)) (readRecords (drop at run)) m s e)
-      (n : Named (readRecords (drop at run))) (h : 5 ≤ length run - at) where
+      (n : Named 256 (readRecords (drop at run))) (h : 5 ≤ length run - at) where
     here : Pushed marks stack top (readRecords (drop from run)) (recordAt run at ∷ readRecords (drop (at + 5) run)) m s e
     here = subst (λ (ds : List Transition). Pushed marks stack top (readRecords (drop from run)) ds m s e) (records-at run at h) p
 
@@ -163,7 +163,7 @@ module _ (marks stack run : List ℕ) (from top : ℕ) where
     push-last l m′ s′ e′ a = push-ended (at + 5) m′ s′ e′ (push-next m′ s′ e′ a) (omega arith)
 
 -- two records of the run
-module _ (run : List ℕ) (at : ℕ) (n : Named (readRecords (drop at run))) (h : 10 ≤ length run - at) where
+module _ (run : List ℕ) (at : ℕ) (n : Named 256 (readRecords (drop at run))) (h : 10 ≤ length run - at) where
   nine : at + 5 + 4 ≡ at + 9
   nine = omega arith
 
@@ -173,13 +173,13 @@ module _ (run : List ℕ) (at : ℕ) (n : Named (readRecords (drop at run))) (h 
   pub named-first-target : getD run (at + 4) 0 < 256
   named-first-target = named-target run at n (omega arith)
 
-  named-second : Named (readRecords (drop (at + 5) run))
+  named-second : Named 256 (readRecords (drop (at + 5) run))
   named-second = named-next run at n (omega arith)
 
   pub named-second-target : getD run (at + 9) 0 < 256
   named-second-target = rw nine at (named-target run (at + 5) named-second (omega arith))
 
-  pub named-two : Named (readRecords (drop (at + 10) run))
+  pub named-two : Named 256 (readRecords (drop (at + 10) run))
   named-two = rw ten at (named-next run (at + 5) named-second (omega arith))
 
   module _ (marks stack : List ℕ) (from top : ℕ) (m s : List ℕ) (e : ℕ) (p : Pushed marks stack top (readRecords (drop from run)) (readRecords (drop at run)) m s e) where

@@ -161,7 +161,7 @@ module _ (s starts targets old line : List ℕ) (r : UnmarkedSearch s starts tar
       ap (λ (n : ℕ). drop (getD starts q 0) (take n s)) z ∙ ap (drop (getD starts q 0)) (take-add (getD starts q 0) (getD starts (q + 1) 0 - getD starts q 0) s)
       ∙ drop-at (take (getD starts q 0) s) (take (getD starts (q + 1) 0 - getD starts q 0) (drop (getD starts q 0) s)) (getD starts q 0) (length-take-le (getD starts q 0) s (omega (arith, runs .ordered, runs .within))) ∙ runs .words
 
-  run-named-all : Named (readRecords (drop (getD starts q 0) (upTo s starts q)))
+  run-named-all : Named 256 (readRecords (drop (getD starts q 0) (upTo s starts q)))
   run-named-all = run-named s (r .accepted) q _ run-records
 
   run-in : (d : Transition) → d ∈ read s .transitions → d .from ≡ q → d ∈ readRecords (drop (getD starts q 0) (upTo s starts q))
@@ -175,7 +175,7 @@ module _ (s starts targets old line : List ℕ) (r : UnmarkedSearch s starts tar
       path-more way d (o .0) (eqb-true _ _ (o .1))
 
   -- all its targets that were not met are put on the stack
-  pub all-asked : (getD starts q 0 ≤ length (upTo s starts q)) × Named (readRecords (drop (getD starts q 0) (upTo s starts q))) × StackRoom marks stack top
+  pub all-asked : (getD starts q 0 ≤ length (upTo s starts q)) × Named 256 (readRecords (drop (getD starts q 0) (upTo s starts q))) × StackRoom marks stack top
   all-asked = (
     simp length-take (omega (arith, runs .ordered, runs .within)),
     run-named-all,
@@ -233,7 +233,7 @@ module _ (s starts targets old line : List ℕ) (r : UnmarkedSearch s starts tar
     first-fewer : suc (unmet (set marks (getD targets q 0) 1)) ≡ unmet marks
     first-fewer = unmet-less marks (getD targets q 0) first-inside z
 
-    pub first-asked : (getD starts q 0 + 5 ≤ length (upTo s starts q)) × Named (readRecords (drop (getD starts q 0 + 5) (upTo s starts q))) × StackRoom (set marks (getD targets q 0) 1) stack top
+    pub first-asked : (getD starts q 0 + 5 ≤ length (upTo s starts q)) × Named 256 (readRecords (drop (getD starts q 0 + 5) (upTo s starts q))) × StackRoom (set marks (getD targets q 0) 1) stack top
     first-asked = (
       omega (arith, first-record .0),
       named-next (upTo s starts q) (getD starts q 0) run-named-all (first-record .0),

@@ -126,7 +126,7 @@ fn push_state(t: u32, marks: &mut [u8], stack: &mut [u32], top: usize) -> usize
 // The targets of the records from the place `from` on that were not met are marked and put on the stack. The answer is the stack's end. Two records are asked
 // at a time, since most targets were met.
 fn push_unmet(t: &[u32], from: usize, marks: &mut [u8], stack: &mut [u32], top: usize) -> usize
-    requires { ⌜ (from ≤ length (now t)) × Named (readRecords (drop from (now t))) × StackRoom (now marks) (now stack) top ⌝ }
+    requires { ⌜ (from ≤ length (now t)) × Named 256 (readRecords (drop from (now t))) × StackRoom (now marks) (now stack) top ⌝ }
     ensures { λ e. ⌜ Pushed (now (marks .entry)) (now (stack .entry)) top (readRecords (drop from (now (t .entry)))) [] (now (marks .exit)) (now (stack .exit)) e ⌝ }
 {
     let mut e = top;

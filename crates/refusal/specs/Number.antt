@@ -1,7 +1,8 @@
 -- The number that documents 01 and 02 give each refusal.
 use Prim.Native.Nat.{ℕ}
 use Rattle.refusal.specs.declared.InputRefusal.{InputRefusal}
-use Rattle.refusal.specs.declared.InputRefusal.the-variants.{SheetLength, Start, Counts, AcceptWord, Record, RecordOrder, Epsilon, Grammar, Utf8, Labels, EpsilonRecord, NoAcceptingState, Names}
+use Rattle.refusal.specs.declared.InputRefusal.the-variants.{SheetLength, Start, Counts, AcceptWord, Record, RecordOrder, Epsilon, Grammar, Utf8, Labels}
+use Rattle.refusal.specs.declared.InputRefusal.the-variants.{EpsilonRecord, NoAcceptingState, Names}
 use Rattle.refusal.specs.declared.StateRefusal.{StateRefusal}
 use Rattle.refusal.specs.declared.StateRefusal.the-variants.{OutputLength, States, Transitions, Element, JoinSets}
 use Rattle.refusal.specs.declared.Refusal.{Refusal}

@@ -102,7 +102,27 @@ module _ (k : ListKind) (s : List ℕ) (b : Bool) where
   unfolding Agrees
   equality-agree e p = by-kind e p
 
-pub ruleset agreeLaws = (sheets-agree, labels-agree, accepts-agree, text-agree, ranges-agree, closures-agree, determinize-agree, product-agree, totalize-agree, complement-agree, epsilon-eliminate-agree, is-nfa-agree, nonempty-agree, is-equivalent-agree, is-subautomaton-agree, parse-agree, write-agree, equality-agree, needs)
+pub ruleset agreeLaws = (
+  sheets-agree,
+  labels-agree,
+  accepts-agree,
+  text-agree,
+  ranges-agree,
+  closures-agree,
+  determinize-agree,
+  product-agree,
+  totalize-agree,
+  complement-agree,
+  epsilon-eliminate-agree,
+  is-nfa-agree,
+  nonempty-agree,
+  is-equivalent-agree,
+  is-subautomaton-agree,
+  parse-agree,
+  write-agree,
+  equality-agree,
+  needs,
+)
 
 -- the numbers of a case that was read into memory for so many
 part-at : (out s : List ℕ) (at room : ℕ) → length out ≡ room → take (caseAt room s at .count) (sets out 0 (lineAt s at .numbers)) ≡ take (caseAt room s at .count) (lineAt s at .numbers)

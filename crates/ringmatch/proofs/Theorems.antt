@@ -80,7 +80,8 @@ module _ (s b o : List ℕ) (old : ℕ) (r : Reply ℕ (List ℕ)) (call : r ≡
       (λ h. q .0 (p .0 h), λ h. p .1 (q .1 h))
 
   pub write-code-0 : (r .code ≡ 0)
-      ↔ ((textSize ≤ length o) × (fault s ≡ 0) × (labelsFault (stateCount s) b ≡ 0) × (SomeEpsilon (readPattern s b) → ⊥) × SomeAccepting (readPattern s b) × (Unfit (readPattern s b) → ⊥))
+      ↔ ((textSize ≤ length o) × (fault s ≡ 0) × (labelsFault (stateCount s) b ≡ 0)
+      × (SomeEpsilon (readPattern s b) → ⊥) × SomeAccepting (readPattern s b) × (Unfit (readPattern s b) → ⊥))
   write-code-0 = Iff·trans (reply-zero old told r call told-some) (Iff·trans (write-gives s b o told refl) (write-text s b o))
 
   pub write-code-20 : (r .code ≡ 20) ↔ (length o < textSize)

@@ -73,7 +73,7 @@ module _ (t : List ℕ) (k : ℕ) where
       let z : length (readRecords t) - k ≡ 0 = sym (length-drop k (readRecords t)) ∙ ap length (sym (read-drop k t) ∙ records-end t (5 * k) h) in
       omega arith
 
-  pub ends-bound : Named (readRecords t) → 5 ≤ length t - 5 * k → getD t (5 * k) 0 < 256
+  pub ends-bound : Named 256 (readRecords t) → 5 ≤ length t - 5 * k → getD t (5 * k) 0 < 256
   ends-bound n h = n .froms (recordAt t (5 * k)) (drop-mem k (readRecords t) _ _ (record-k h))
 
   module _ (ends : List ℕ) (e : RunEnds t ends k) where
@@ -81,7 +81,7 @@ module _ (t : List ℕ) (k : ℕ) where
     ends-ended h = record { long = e .long; most = e .most; least = λ j l. e .least j (omega (arith, records-few h)) }
 
     -- the number behind record k
-    pub ends-next : Rising (readRecords t) → Named (readRecords t) → 5 ≤ length t - 5 * k → RunEnds t (set ends (getD t (5 * k) 0 + 1) (k + 1)) (k + 1)
+    pub ends-next : Rising (readRecords t) → Named 256 (readRecords t) → 5 ≤ length t - 5 * k → RunEnds t (set ends (getD t (5 * k) 0 + 1) (k + 1)) (k + 1)
     ends-next up n h =
         record {
           long = length-set ends _ (k + 1) ∙ e .long;

@@ -21,7 +21,8 @@ use Rattle.sheets.proofs.Checking.{refused-some}
 
 -- the refusal of a number
 abbrev byNumber : ℕ → InputRefusal
-byNumber n = getD (SheetLength ∷ SheetLength ∷ Start ∷ Counts ∷ AcceptWord ∷ Record ∷ RecordOrder ∷ Epsilon ∷ Grammar ∷ Utf8 ∷ Labels ∷ []) n (getD (EpsilonRecord ∷ NoAcceptingState ∷ Names ∷ []) (n - 30) SheetLength)
+byNumber n = getD (SheetLength ∷ SheetLength ∷ Start ∷ Counts ∷ AcceptWord ∷ Record ∷ RecordOrder ∷ Epsilon ∷ Grammar ∷ Utf8 ∷ Labels ∷ []) n
+    (getD (EpsilonRecord ∷ NoAcceptingState ∷ Names ∷ []) (n - 30) SheetLength)
 
 by-number : (i : InputRefusal) → byNumber (inputNumber i) ≡ i
 by-number SheetLength = refl

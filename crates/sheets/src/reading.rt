@@ -14,7 +14,7 @@ ghost use Rattle.sheets.specs.Sheet.{stateCount, read};
 
 // For each state that the records of t leave, the number behind its last record, in the entry behind the state's.
 fn mark_ends(t: &[u32], ends: &mut [u32])
-    requires { ⌜ Rising (readRecords (now t)) × Named (readRecords (now t)) × (length (now t) ≤ 10240) × RunEnds (now t) (now ends) 0 ⌝ }
+    requires { ⌜ Rising (readRecords (now t)) × Named 256 (readRecords (now t)) × (length (now t) ≤ 10240) × RunEnds (now t) (now ends) 0 ⌝ }
     ensures { λ r. ⌜ RunEnds (now (t .entry)) (now (ends .exit)) (length (readRecords (now (t .entry)))) ⌝ }
 {
     let mut k: usize = 0;

@@ -123,7 +123,7 @@ module _ (a al b bl starts ca cb : List ℕ) (t : Tabled a al b bl starts ca cb)
           g ∙ ap (λ (w : List ℕ). all (fitsIn (read b) ca cb) (readRecords w)) (part-all (stateCount a + 4) a) ∙ sym (by-parts ∙ rw (← e, z, eq-eqb _ _ (sym n)))
 
   -- what the calls ask
-  pub decide-named : Named (readRecords (take (length a - (stateCount a + 4)) (drop (stateCount a + 4) a)))
+  pub decide-named : Named 256 (readRecords (take (length a - (stateCount a + 4)) (drop (stateCount a + 4) a)))
   decide-named = sheet-named a (t .inputs .first)
 
   pub decide-ready : IndexedSheet b starts

@@ -190,7 +190,7 @@ fn is_covered(d: &[u32], b: &[u32], starts: &[u32], ca: &[u32], cb: &[u32]) -> b
 
 // Whether each of the records is covered.
 fn are_covered(records: &[u32], b: &[u32], starts: &[u32], ca: &[u32], cb: &[u32]) -> bool
-    requires { ⌜ Named (readRecords (now records)) × IndexedSheet (now b) (now starts) × (length (now ca) ≡ 256) × (length (now cb) ≡ 256) ⌝ }
+    requires { ⌜ Named 256 (readRecords (now records)) × IndexedSheet (now b) (now starts) × (length (now ca) ≡ 256) × (length (now cb) ≡ 256) ⌝ }
     ensures { λ r. ⌜ r ≡ all (fitsIn (read (now (b .entry))) (now (ca .entry)) (now (cb .entry))) (readRecords (now (records .entry))) ⌝ }
 {
     let mut at: usize = 0;

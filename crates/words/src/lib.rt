@@ -52,7 +52,7 @@ fn add_epsilon(r: &[u32], rows: &mut [u64])
 
 // Each row gets the targets of the epsilons that leave its state.
 fn add_epsilons(records: &[u32], rows: &mut [u64])
-    requires { ⌜ Named (readRecords (now records)) × RowsFor (length (now rows)) (readRecords (now records)) ⌝ }
+    requires { ⌜ Named 256 (readRecords (now records)) × RowsFor (length (now rows)) (readRecords (now records)) ⌝ }
     ensures { λ u. ⌜ EpsilonsAdded (now (rows .entry)) (now (rows .exit)) (readRecords (now (records .entry))) ⌝ }
 {
     let mut at: usize = 0;

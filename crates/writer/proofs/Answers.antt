@@ -89,7 +89,8 @@ module _ (s b p ws qs : List ℕ) (k : TextTables s b p qs) (w : ws ≡ writtenS
         wrote-refused o (Input Names) _ (rw z)
 
     module _ (t : not r ≡ false) (n : ℕ) (f : n ≡ length (patternText (readPattern s b))) where
-      passed : (hasTwice (map (labelOf (readPattern s b)) (writtenStates (read s))) || (not (all isName (map (labelOf (readPattern s b)) (writtenStates (read s)))) || ltb textSize (length (patternText (readPattern s b)))))
+      passed : (hasTwice (map (labelOf (readPattern s b)) (writtenStates (read s))) ||
+          (not (all isName (map (labelOf (readPattern s b)) (writtenStates (read s)))) || ltb textSize (length (patternText (readPattern s b)))))
           ≡ ltb textSize n
       passed =
           good (hasTwice (map (labelOf (readPattern s b)) (writtenStates (read s)))) _ (ltb textSize (length (patternText (readPattern s b)))) (sym same ∙ not-false r t)
@@ -175,7 +176,8 @@ module _ (s b : List ℕ) (r : Bool) (e : r ≡ hasEpsilon (readRecords (take (l
   epsilon-refused t o = wrote-refused o (Input EpsilonRecord) _ (rw (sym same-records ∙ t))
 
   pub epsilon-passed : r ≡ false → (o o′ : List ℕ) (x : Wrote)
-      → wroteOf x o′ ≡ writeOutcome o (acceptingFirst (read s) (namesFirst (readPattern s b) (given (patternText (readPattern s b))))) → wroteOf x o′ ≡ writeOutcome o (patternAnswer (readPattern s b))
+      → wroteOf x o′ ≡ writeOutcome o (acceptingFirst (read s) (namesFirst (readPattern s b) (given (patternText (readPattern s b)))))
+      → wroteOf x o′ ≡ writeOutcome o (patternAnswer (readPattern s b))
   unfolding patternAnswer epsilonFirst
   epsilon-passed t o o′ x y = y ∙ ap (writeOutcome o) (sym (rw (sym same-records ∙ t)))
 
@@ -187,7 +189,8 @@ module _ (s b : List ℕ) (r : Checked) (e : checkedNumber r ≡ labelsFault (st
       → wroteOf x o′ ≡ writeOutcome o (labelsFirst (stateCount s) b (patternAnswer (readPattern s b)))
   labels-written h o o′ x y = y ∙ ap (writeOutcome o) (sym (labels-passed (stateCount s) b _ r e h))
 
-  pub labels-faulty : (i : InputRefusal) → r ≡ labels-checked.Refused i → (o : List ℕ) → wroteOf (wrote.Refused (Input i)) o ≡ writeOutcome o (labelsFirst (stateCount s) b (patternAnswer (readPattern s b)))
+  pub labels-faulty : (i : InputRefusal) → r ≡ labels-checked.Refused i → (o : List ℕ)
+      → wroteOf (wrote.Refused (Input i)) o ≡ writeOutcome o (labelsFirst (stateCount s) b (patternAnswer (readPattern s b)))
   labels-faulty i h o = wrote-refused o (Input i) _ (labels-refused (stateCount s) b _ r e i h)
 
 pub ruleset labelsWriteLaws = (labels-accepted, labels-written, labels-faulty, needs)

@@ -1,6 +1,6 @@
 -- The lengths of the parts of the text.
 use Prim.Native.Nat.{ℕ, _+_, _-_, _*_, _/_, _^_, _≤_, _<_}
-use mathlib.Core.List.{List, [], _∷_, _++_, flatMap, List·Memᴰ·tail}
+use mathlib.Core.List.{List, [], _∷_, _++_, flatMap}
 use mathlib.Core.Path.{_≡_, sym, _∙_, ap}
 use native.Mathlib.Omega.{arith}
 use mir.Syntax.{w64}
@@ -11,13 +11,14 @@ use Rattle.lists.proofs.Parts.{drop-at}
 use Rattle.automata.specs.Automaton.{Transition}
 use Rattle.automata.specs.Records.{readRecords}
 use Rattle.automata.specs.inner.Records.{recordAt}
-use Rattle.automata.proofs.Records.{records-at, records-end, part-record, part-in}
+use Rattle.automata.proofs.Records.{records-at, records-end, part-record}
 use Rattle.decimal.specs.Decimal.{digits}
 use Rattle.decimal.proofs.Decimal.{length-one, length-more, length-word}
 use Rattle.labels.specs.Labels.{labelCount, readLabels}
+use Rattle.sheets.proofs.Named.{named-from, named-to, named-next}
 use Rattle.writer.specs.Text.{moreNamesText}
 use Rattle.writer.specs.inner.Parts.{arrowText, rangeText, spacedTransition, spacedTransitions}
-use Rattle.writer.specs.inner.Tables.{LabelPlaces, TransitionsBelow, stateLabels}
+use Rattle.writer.specs.inner.Tables.{LabelPlaces, stateLabels}
 use Rattle.writer.proofs.Gathering.{state-below}
 use Rattle.writer.proofs.Places.{label-short}
 
@@ -48,28 +49,23 @@ module _ (b p l : List ℕ) (q : ℕ) (i : LabelPlaces b p) (h : q < labelCount 
 pub ruleset labelLengthLaws = (label-length, label-few, needs)
 
 -- a transition
-transition-length : (ls : List (List ℕ)) (e : Transition) → length (spacedTransition ls e) ≡ 11 + length (getD ls (e .from) []) + length (getD ls (e .to) []) + length (digits (e .first)) + length (digits (e .last))
+transition-length : (ls : List (List ℕ)) (e : Transition) → length (spacedTransition ls e)
+    ≡ 11 + length (getD ls (e .from) []) + length (getD ls (e .to) []) + length (digits (e .first)) + length (digits (e .last))
 unfolding spacedTransition arrowText rangeText
 transition-length ls e = simp length-append (omega arith)
 
-pub transition-counted : (ls : List (List ℕ)) (r : List ℕ) (x y z w : ℕ) → x ≡ length (getD ls (getD r 0 0) []) → y ≡ length (getD ls (getD r 4 0) []) → z ≡ length (digits (getD r 2 0)) → w ≡ length (digits (getD r 3 0))
+pub transition-counted : (ls : List (List ℕ)) (r : List ℕ) (x y z w : ℕ) → x ≡ length (getD ls (getD r 0 0) []) → y ≡ length (getD ls (getD r 4 0) [])
+    → z ≡ length (digits (getD r 2 0)) → w ≡ length (digits (getD r 3 0))
     → 11 + x + y + z + w ≡ length (spacedTransition ls (recordAt r 0))
 transition-counted ls r x y z w f g h k = omega (arith, transition-length ls (recordAt r 0))
 
 -- the transitions from `at` on are left
-module _ (b t : List ℕ) (at : ℕ) (d : TransitionsBelow (labelCount b) (readRecords (drop at t))) (h : 5 ≤ length t - at) where
-  pub bounded-from : getD (take (at + 5 - at) (drop at t)) 0 0 < labelCount b
-  bounded-from = d .froms _ (part-in t at h)
-
-  pub bounded-to : getD (take (at + 5 - at) (drop at t)) 4 0 < labelCount b
-  bounded-to = d .tos _ (part-in t at h)
-
-  pub bounded-next : TransitionsBelow (labelCount b) (readRecords (drop (at + 5) t))
-  bounded-next = let r = rw (records-at t at h) at d in record { froms = λ e m. r .froms e (List·Memᴰ·tail m); tos = λ e m. r .tos e (List·Memᴰ·tail m) }
-
-pub transitions-split : (ls : List (List ℕ)) (t : List ℕ) (at : ℕ) → 5 ≤ length t - at → spacedTransitions ls (readRecords (drop at t)) ≡ spacedTransition ls (recordAt (take (at + 5 - at) (drop at t)) 0) ++ spacedTransitions ls (readRecords (drop (at + 5) t))
+pub transitions-split : (ls : List (List ℕ)) (t : List ℕ) (at : ℕ) → 5 ≤ length t - at
+    → spacedTransitions ls (readRecords (drop at t)) ≡ spacedTransition ls (recordAt (take (at + 5 - at) (drop at t)) 0) ++ spacedTransitions ls (readRecords (drop (at + 5) t))
 unfolding spacedTransitions flatMap
-transitions-split ls t at h = ap (spacedTransitions ls) (records-at t at h) ∙ ap (λ (e : Transition). spacedTransition ls e ++ spacedTransitions ls (readRecords (drop (at + 5) t))) (sym (part-record t at))
+transitions-split ls t at h =
+    ap (spacedTransitions ls) (records-at t at h)
+    ∙ ap (λ (e : Transition). spacedTransition ls e ++ spacedTransitions ls (readRecords (drop (at + 5) t))) (sym (part-record t at))
 
 pub transitions-none : (ls : List (List ℕ)) (t : List ℕ) (at : ℕ) → length t - at < 5 → spacedTransitions ls (readRecords (drop at t)) ≡ []
 unfolding spacedTransitions flatMap
@@ -87,7 +83,13 @@ module _ (ls : List (List ℕ)) (t : List ℕ) (n at : ℕ) (g : TransitionsLeft
   pub transitions-next : 5 ≤ length t - at → (r : ℕ) → r ≡ length (spacedTransition ls (recordAt (take (at + 5 - at) (drop at t)) 0)) → r ≤ 160 → TransitionsLeft ls t (n + r) (at + 5)
   transitions-next h r e k =
       record {
-        counted = omega (arith, g .counted, ap length (transitions-split ls t at h), length-append (spacedTransition ls (recordAt (take (at + 5 - at) (drop at t)) 0)) (spacedTransitions ls (readRecords (drop (at + 5) t))));
+        counted = omega (
+          arith,
+          g .counted,
+          ap length (transitions-split ls t at h),
+          length-append (spacedTransition ls (recordAt (take (at + 5 - at) (drop at t)) 0))
+              (spacedTransitions ls (readRecords (drop (at + 5) t))),
+        );
         few = omega (arith, g .few);
       }
 
@@ -97,10 +99,11 @@ module _ (ls : List (List ℕ)) (t : List ℕ) (n at : ℕ) (g : TransitionsLeft
   pub transitions-few : at ≤ length t → length t ≤ 10240 → n ≤ 327680
   transitions-few h k = omega (arith, g .few)
 
-pub ruleset transitionsLaws = (bounded-from, bounded-to, bounded-next, transitions-begin, transitions-next, transitions-counted, transitions-few, needs)
+pub ruleset transitionsLaws = (named-from, named-to, named-next, transitions-begin, transitions-next, transitions-counted, transitions-few, needs)
 
 -- names, each behind a comma and a blank
-pub names-split : (b qs : List ℕ) (i : ℕ) → i < length qs → moreNamesText (stateLabels b (drop i qs)) ≡ 44 ∷ 32 ∷ getD (readLabels b) (getD qs i 0) [] ++ moreNamesText (stateLabels b (drop (i + 1) qs))
+pub names-split : (b qs : List ℕ) (i : ℕ) → i < length qs → moreNamesText (stateLabels b (drop i qs))
+    ≡ 44 ∷ 32 ∷ getD (readLabels b) (getD qs i 0) [] ++ moreNamesText (stateLabels b (drop (i + 1) qs))
 unfolding moreNamesText stateLabels flatMap
 names-split b qs i h = ap (λ (x : List ℕ). moreNamesText (stateLabels b x)) (drop-at qs i h)
 

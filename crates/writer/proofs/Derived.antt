@@ -79,7 +79,8 @@ unfolding transitionText
 transition-text P e w =
     Syntax.TransitionText.moves (w .from) gap gap (w .to) gap Each.none (number-of (e .first) (omega (arith, w .full, w .small))) Each.none gap (number-of (e .last) (w .small)) (w .full)
 
-transitions-text : (P : Pattern) (es : List Transition) → ((e : Transition) → e ∈ es → WritableTransition P e) → TransitionsText (flatMap (λ e. blank ⨾ transitionText P e) es) (map (moveOf P) es)
+transitions-text : (P : Pattern) (es : List Transition) → ((e : Transition) → e ∈ es → WritableTransition P e)
+    → TransitionsText (flatMap (λ e. blank ⨾ transitionText P e) es) (map (moveOf P) es)
 unfolding flatMap
 transitions-text P [] h = TransitionsText.none
 transitions-text P (e ∷ es) h =
@@ -96,7 +97,8 @@ unfolding isLetter
 pattern-name = Name.named refl Each.none (omega arith)
 
 module _ (P : Pattern) (start : Name (labelOf P (P .automaton .start))) (ranges : (e : Transition) → e ∈ P .automaton .transitions → WritableTransition P e) where
-  pub by-names : (b : List ℕ) (ns : List (List ℕ)) → map (labelOf P) (acceptingStates (P .automaton)) ≡ b ∷ ns → ((a : List ℕ) → a ∈ (b ∷ ns) → Name a) → Text (patternText P) (saidOf P)
+  pub by-names : (b : List ℕ) (ns : List (List ℕ)) → map (labelOf P) (acceptingStates (P .automaton)) ≡ b ∷ ns → ((a : List ℕ) → a ∈ (b ∷ ns) → Name a)
+      → Text (patternText P) (saidOf P)
   unfolding patternText namesText
   by-names b ns e h =
       rw (e, append-assoc b (moreNamesText ns) (semicolon ⨾ blank ⨾ rightBrace ⨾ semicolon))

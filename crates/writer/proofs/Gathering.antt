@@ -2,13 +2,13 @@
 use Prim.Native.Nat.{ℕ, _+_, _≤_, _<_}
 use mathlib.Core.Bool.{Bool, true, false, cond}
 use mathlib.Core.List.{List, [], _∷_, _++_}
-use mathlib.Core.Path.{_≡_, sym, _∙_, ap}
+use mathlib.Core.Path.{_≡_, refl, sym, _∙_, ap}
 use native.Mathlib.Omega.{arith}
 use borrow.Author.Needs.{needs}
 use lib.Dec.{eqb, ltb}
 use lib.ListN.{length, getD, drop, drop-of-length-le}
 use Rattle.lists.specs.Lists.{_∈_, filter}
-use Rattle.lists.proofs.Lists.{length-filter, filter-out}
+use Rattle.lists.proofs.Lists.{length-filter, filter-out, length-tabulate, tabulate-at}
 use Rattle.lists.proofs.Parts.{drop-at}
 use Rattle.automata.specs.Automaton.{states, acceptOf}
 use Rattle.automata.proofs.States.{length-states, states-out, states-at, states-end}
@@ -18,7 +18,7 @@ use Rattle.stores.specs.Written.{Written}
 use Rattle.stores.proofs.Left.{Left, left-start, left-length, left-done, left-room, left-next}
 use Rattle.stores.proofs.Written.{written-none, written-length}
 use Rattle.writer.specs.Text.{isWritten, writtenStates}
-use Rattle.writer.specs.inner.Tables.{WrittenMarks, StatesBelow, acceptingAmong}
+use Rattle.writer.specs.inner.Tables.{writtenMarks, StatesBelow, acceptingAmong}
 
 -- one state, if it is kept
 module _ (l : List ℕ) (at q : ℕ) (keep : Bool) where
@@ -81,17 +81,29 @@ module _ (s marks o₀ o : List ℕ) (end q : ℕ) (g : StatesLeft (isWritten (r
   unfolding writtenStates
   written-ended h = ended _ _ o₀ o end q g (states-end (stateCount s) q h)
 
-  module _ (m : WrittenMarks (read s) marks) (h : q < stateCount s) where
-    pub written-room : Accepted s → length o₀ ≡ 256 → end + length (cond (eqb (getD marks q 0) 1) (q ∷ []) []) ≤ length o
-    written-room a k =
-        room _ _ o₀ o end q g q (states-at (stateCount s) q h) (eqb (getD marks q 0) 1) (m .at q)
+  module _ (a : Accepted s) (m : marks ≡ writtenMarks (read s)) (h : q < stateCount s) where
+    mark-is : eqb (getD marks q 0) 1 ≡ isWritten (read s) q
+    unfolding writtenMarks
+    mark-is =
+        ap (λ (l : List ℕ). eqb (getD l q 0) 1) m ∙ ap (λ x. eqb x 1) (tabulate-at 256 (λ p. cond (isWritten (read s) p) 1 0) q 0 (omega (arith, a .few-states)))
+        ∙ one (isWritten (read s) q)
+      where
+        one : (b : Bool) → eqb (cond b 1 0) 1 ≡ b
+        one true = refl
+        one false = refl
+
+    pub written-room : length o₀ ≡ 256 → end + length (cond (eqb (getD marks q 0) 1) (q ∷ []) []) ≤ length o
+    written-room k =
+        room _ _ o₀ o end q g q (states-at (stateCount s) q h) (eqb (getD marks q 0) 1) mark-is
         (omega (arith, length-states (stateCount s), a .few-states))
 
-    pub written-next : (o′ : List ℕ) (end′ : ℕ) → Written o end (cond (eqb (getD marks q 0) 1) (q ∷ []) []) o′ end′ → StatesLeft (isWritten (read s)) (states (stateCount s)) o₀ o′ end′ (q + 1)
-    written-next = next _ _ o₀ o end q g q (states-at (stateCount s) q h) (eqb (getD marks q 0) 1) (m .at q)
+    pub written-next : (o′ : List ℕ) (end′ : ℕ) → Written o end (cond (eqb (getD marks q 0) 1) (q ∷ []) []) o′ end′
+        → StatesLeft (isWritten (read s)) (states (stateCount s)) o₀ o′ end′ (q + 1)
+    written-next = next _ _ o₀ o end q g q (states-at (stateCount s) q h) (eqb (getD marks q 0) 1) mark-is
 
-pub mark-room : (s marks : List ℕ) (q : ℕ) → Accepted s → WrittenMarks (read s) marks → q < stateCount s → q < length marks
-mark-room s marks q a m h = omega (arith, a .few-states, m .long)
+pub mark-room : (s marks : List ℕ) (q : ℕ) → Accepted s → marks ≡ writtenMarks (read s) → q < stateCount s → q < length marks
+unfolding writtenMarks
+mark-room s marks q a m h = omega (arith, a .few-states, ap length m, length-tabulate {X = ℕ} 256 (λ p. cond (isWritten (read s) p) 1 0))
 
 pub ruleset writtenLaws = (written-begin, written-ended, written-room, written-next, mark-room, gathered-length, written-length, needs)
 

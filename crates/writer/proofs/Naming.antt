@@ -207,4 +207,18 @@ module _ (b p qs : List ℕ) (i : ℕ) (k : LabelPlaces b p) (w : StatesBelow (l
               good = ap (all isName) one-more ∙ all-end isName (stateLabels b (take i qs)) x (g .good) good;
             }
 
-pub ruleset listedLaws = (state-below, listed-begin, listed-table, listed-ended, listed-no-name, listed-place, listed-state, listed-straight, listed-inside, listed-full, listed-twice, listed-next, needs)
+pub ruleset listedLaws = (
+  state-below,
+  listed-begin,
+  listed-table,
+  listed-ended,
+  listed-no-name,
+  listed-place,
+  listed-state,
+  listed-straight,
+  listed-inside,
+  listed-full,
+  listed-twice,
+  listed-next,
+  needs,
+)

@@ -17,10 +17,11 @@ use Rattle.sheets.specs.Sheet.{recordsAt}
 use Rattle.stores.specs.Written.{Written}
 use Rattle.stores.proofs.Left.{Left, left-start, left-length, left-done, left-next}
 use Rattle.stores.proofs.Written.{written-append, written-length}
+use Rattle.sheets.proofs.Named.{named-from, named-to, named-next}
 use Rattle.writer.specs.Text.{namesText, moreNamesText, patternText}
 use Rattle.writer.specs.inner.Parts.{arrowText, rangeText, spacedTransition, spacedTransitions, headingText, closingText}
 use Rattle.writer.specs.inner.Tables.{StatesBelow, TextTables, stateLabels}
-use Rattle.writer.proofs.Counting.{bounded-from, bounded-to, bounded-next, transitions-split, transitions-none, names-split, names-none}
+use Rattle.writer.proofs.Counting.{transitions-split, transitions-none, names-split, names-none}
 use Rattle.writer.proofs.Gathering.{state-below}
 use Rattle.writer.proofs.TextParts.{heading-length, closing-length, ready-text}
 
@@ -125,17 +126,26 @@ module _ (ls : List (List ℕ)) (t : List ℕ) (at : ℕ) (o₀ o : List ℕ) (e
   pub transitions-put-length : length o ≡ length o₀
   transitions-put-length = left-length o₀ at (spacedTransitions ls (readRecords t)) o end _ (g .left)
 
-  pub transitions-put-room : at + length (spacedTransitions ls (readRecords t)) + 10 ≤ length o₀ → 5 ≤ length t - i → end + length (spacedTransition ls (recordAt (take (i + 5 - i) (drop i t)) 0)) + 10 ≤ length o
+  pub transitions-put-room : at + length (spacedTransitions ls (readRecords t)) + 10 ≤ length o₀ → 5 ≤ length t - i
+      → end + length (spacedTransition ls (recordAt (take (i + 5 - i) (drop i t)) 0)) + 10 ≤ length o
   transitions-put-room h k =
-      omega (arith, g .left .behind, transitions-put-length, ap length (transitions-split ls t i k), length-append (spacedTransition ls (recordAt (take (i + 5 - i) (drop i t)) 0)) (spacedTransitions ls (readRecords (drop (i + 5) t))))
+      omega (
+        arith,
+        g .left .behind,
+        transitions-put-length,
+        ap length (transitions-split ls t i k),
+        length-append
+            (spacedTransition ls (recordAt (take (i + 5 - i) (drop i t)) 0)) (spacedTransitions ls (readRecords (drop (i + 5) t))),
+      )
 
-  pub transitions-put-next : 5 ≤ length t - i → (o′ : List ℕ) (end′ : ℕ) → Written o end (spacedTransition ls (recordAt (take (i + 5 - i) (drop i t)) 0)) o′ end′ → TransitionsToPut ls t at o₀ o′ end′ (i + 5)
+  pub transitions-put-next : 5 ≤ length t - i → (o′ : List ℕ) (end′ : ℕ) → Written o end (spacedTransition ls (recordAt (take (i + 5 - i) (drop i t)) 0)) o′ end′
+      → TransitionsToPut ls t at o₀ o′ end′ (i + 5)
   transitions-put-next k o′ end′ w = record { left = left-next o₀ at (spacedTransitions ls (readRecords t)) o end _ (g .left) _ _ (transitions-split ls t i k) o′ end′ w }
 
   pub transitions-put-done : length t - i < 5 → Written o₀ at (spacedTransitions ls (readRecords t)) o end
   transitions-put-done k = left-done o₀ at (spacedTransitions ls (readRecords t)) o end _ (g .left) (transitions-none ls t i k)
 
-pub ruleset transitionsPutLaws = (bounded-from, bounded-to, bounded-next, transitions-put-begin, transitions-put-length, transitions-put-room, transitions-put-next, transitions-put-done, needs)
+pub ruleset transitionsPutLaws = (named-from, named-to, named-next, transitions-put-begin, transitions-put-length, transitions-put-room, transitions-put-next, transitions-put-done, needs)
 
 -- names, each behind a comma and a blank, of which those from the place i on are left
 pub record NamesToPut (b qs : List ℕ) (at : ℕ) (o₀ o : List ℕ) (end i : ℕ) : Type 0 where
@@ -205,7 +215,8 @@ module _ (o p : List ℕ) (h : length (headingText p) ≤ length o) where
   pub heading-words : 0 + 19 ≤ length o
   heading-words = omega (arith, heading-length p)
 
-  module _ (m : List ℕ) (i : ℕ) (w : Written o 0 (97 ∷ 117 ∷ 116 ∷ 111 ∷ 109 ∷ 97 ∷ 116 ∷ 111 ∷ 110 ∷ 32 ∷ 80 ∷ 32 ∷ 123 ∷ 32 ∷ 105 ∷ 110 ∷ 105 ∷ 116 ∷ 32 ∷ []) m i) where
+  module _ (m : List ℕ) (i : ℕ)
+      (w : Written o 0 (97 ∷ 117 ∷ 116 ∷ 111 ∷ 109 ∷ 97 ∷ 116 ∷ 111 ∷ 110 ∷ 32 ∷ 80 ∷ 32 ∷ 123 ∷ 32 ∷ 105 ∷ 110 ∷ 105 ∷ 116 ∷ 32 ∷ []) m i) where
     pub heading-name : i + length p ≤ length m
     heading-name = omega (arith, heading-length p, w .behind, written-length o m _ 0 i w)
 

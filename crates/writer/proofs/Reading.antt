@@ -86,7 +86,8 @@ module _ (P : Pattern) where
 
   module _ (ok : InBounds (P .automaton)) where
     -- the states that records name, and with the start those that the text names, are written
-    ends-written : (es : List Transition) → ((e : Transition) → e ∈ es → e ∈ P .automaton .transitions) → (x : ℕ) → x ∈ flatMap (λ e. e .from ∷ e .to ∷ []) es → WrittenState P x
+    ends-written : (es : List Transition) → ((e : Transition) → e ∈ es → e ∈ P .automaton .transitions) → (x : ℕ) → x ∈ flatMap (λ e. e .from ∷ e .to ∷ []) es
+        → WrittenState P x
     unfolding flatMap
     ends-written [] h x m = elim m [ ]
     ends-written (e ∷ es) h x (List·Memᴰ·head z) = rw z (from-written P ok e (h e (List·Memᴰ·head refl)))
@@ -131,16 +132,19 @@ module _ (P : Pattern) (ok : Expressible P) where
     inside = inside;
     one = λ p q v w e. ok .different p q v w (sym (label p v) ∙ ap (λ i. getD (names P) i []) e ∙ label q w);
     all = λ r h. let (q, w, e) = named-written P (ok .states) (getD (names P) r []) (at-in (names P) r [] h) in (q, w, ap (λ x. index sameLabel x (names P)) (sym e) ∙ place r h);
-    appearance = λ p q v w. subst (λ i. (number P p < number P q) ↔ (i < index eqb q order)) (ordered p v) (subst (λ j. (number P p < number P q) ↔ (index sameLabel (labelOf P p) told-order < j)) (ordered q w) (parse-numbered (saidOf P) (labelOf P p) (labelOf P q)));
+    appearance = λ p q v w. subst (λ i. (number P p < number P q) ↔ (i < index eqb q order)) (ordered p v)
+        (subst (λ j. (number P p < number P q) ↔ (index sameLabel (labelOf P p) told-order < j)) (ordered q w) (parse-numbered (saidOf P) (labelOf P p) (labelOf P q)));
     labels = label;
     start = sym (ap (λ x. index sameLabel x (names P)) (sym (parse-start (saidOf P) .2)) ∙ place 0 (parse-start (saidOf P) .1));
-    accepting = λ q w. let a = parse-accept (saidOf P) (number P q) (inside q w) in (λ h. told q w (subst Accepting (label q w) (a .0 h)), λ h. a .1 (subst Accepting (sym (label q w)) (map-in (labelOf P) (accepting-in P q w h))));
+    accepting = λ q w. let a = parse-accept (saidOf P) (number P q) (inside q w) in
+        (λ h. told q w (subst Accepting (label q w) (a .0 h)), λ h. a .1 (subst Accepting (sym (label q w)) (map-in (labelOf P) (accepting-in P q w h))));
     transitions = λ e. (
       λ m.
           let (v, i, k) = origin (saidOf P) e m in
           let (d, j, f) = map-out (moveOf P) (P .automaton .transitions) v i in
           (d, j, k ∙ ap (transitionOfMove (names P)) f ∙ moved d j),
-      λ (d, j, k). subst (λ (x : Transition). x ∈ inOrder (map (transitionOfMove (names P)) (saidOf P .moves))) (moved d j ∙ sym k) (inOrder-in (map-in (transitionOfMove (names P)) (map-in (moveOf P) j))),
+      λ (d, j, k). subst (λ (x : Transition). x ∈ inOrder (map (transitionOfMove (names P)) (saidOf P .moves))) (moved d j ∙ sym k)
+          (inOrder-in (map-in (transitionOfMove (names P)) (map-in (moveOf P) j))),
     );
   }
     where

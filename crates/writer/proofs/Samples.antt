@@ -12,11 +12,13 @@ use Rattle.labels.specs.Labels.{sameLabel, readLabels, readEntries}
 use Rattle.output.specs.Output.{Pattern, readPattern}
 use Rattle.refusal.specs.Answer.{refused, given}
 use Rattle.syntax.specs.Examples.{text-a, text-b}
-use Rattle.writer.specs.Text.{isWritten, writtenStates, acceptingStates, transitionText, moreNamesText, namesText, patternText, isName, hasTwice, epsilonFirst, acceptingFirst, namesFirst, patternAnswer}
+use Rattle.writer.specs.Text.{isWritten, writtenStates, acceptingStates, transitionText, moreNamesText, namesText, patternText, isName, hasTwice}
+use Rattle.writer.specs.Text.{epsilonFirst, acceptingFirst, namesFirst, patternAnswer}
 
 -- the sheet of A and its labels p and q: text A with the name P
 pub sample-a : patternAnswer (readPattern (1 ∷ 0 ∷ 2 ∷ 0 ∷ 1 ∷ 1 ∷ 0 ∷ 1 ∷ 0 ∷ 9 ∷ 1 ∷ []) (2 ∷ 0 ∷ 1 ∷ 112 ∷ 1 ∷ 113 ∷ [])) ≡ given (set text-a 10 80)
-unfolding patternAnswer epsilonFirst acceptingFirst namesFirst patternText namesText moreNamesText transitionText acceptingStates writtenStates isWritten isName hasTwice states tabulate any all filter hasEpsilon sameLabel digits lastDigits isLetter isNameByte isDigit flatMap readRecords readLabels readEntries
+unfolding patternAnswer epsilonFirst acceptingFirst namesFirst patternText namesText moreNamesText transitionText acceptingStates writtenStates isWritten isName hasTwice
+    states tabulate any all filter hasEpsilon sameLabel digits lastDigits isLetter isNameByte isDigit flatMap readRecords readLabels readEntries
 sample-a = refl
 
 -- a pattern of four states from these accept words, records and labels, which starts in state 0
@@ -33,11 +35,13 @@ labels = (115 ∷ []) ∷ (116 ∷ []) ∷ (117 ∷ []) ∷ (49 ∷ []) ∷ []
 
 -- text B with the name P; the fourth state accepts and is not written
 pub sample-b : patternAnswer (four (0 ∷ 1 ∷ 1 ∷ 1 ∷ []) records labels) ≡ given (set text-b 10 80)
-unfolding patternAnswer epsilonFirst acceptingFirst namesFirst patternText namesText moreNamesText transitionText acceptingStates writtenStates isWritten isName hasTwice states tabulate any all filter hasEpsilon sameLabel digits lastDigits isLetter isNameByte isDigit flatMap
+unfolding patternAnswer epsilonFirst acceptingFirst namesFirst patternText namesText moreNamesText transitionText acceptingStates writtenStates isWritten isName hasTwice
+    states tabulate any all filter hasEpsilon sameLabel digits lastDigits isLetter isNameByte isDigit flatMap
 sample-b = refl
 
 -- the second record is an epsilon
-pub sample-30 : patternAnswer (four (0 ∷ 0 ∷ 0 ∷ 0 ∷ []) (record { from = 0; kind = 1; first = 0; last = 4; to = 1 } ∷ record { from = 1; kind = 0; first = 0; last = 0; to = 2 } ∷ []) labels) ≡ refused 30
+pub sample-30 : patternAnswer (four (0 ∷ 0 ∷ 0 ∷ 0 ∷ [])
+    (record { from = 0; kind = 1; first = 0; last = 4; to = 1 } ∷ record { from = 1; kind = 0; first = 0; last = 0; to = 2 } ∷ []) labels) ≡ refused 30
 unfolding patternAnswer epsilonFirst any hasEpsilon
 sample-30 = refl
 

@@ -16,12 +16,13 @@ use Rattle.labels.specs.Labels.{labelCount, readLabels}
 use Rattle.labels.proofs.Labels.{count-read}
 use Rattle.output.specs.Output.{Pattern, labelOf, readPattern}
 use Rattle.sheets.specs.Sheet.{stateCount, recordsAt, read}
+use Rattle.sheets.specs.inner.Runs.{Named}
 use Rattle.sheets.proofs.Meaning.{read-well}
 use Rattle.syntax.specs.Syntax.{_⨾_}
 use Rattle.writer.specs.Text.{writtenStates, acceptingStates, blank, transitionText, moreNamesText, namesText, patternText}
 use Rattle.writer.specs.inner.Parts.{arrowText, rangeText, spacedTransition, spacedTransitions, headingText, closingText}
 use Rattle.writer.proofs.Gathering.{written-few, written-in}
-use Rattle.writer.specs.inner.Tables.{LabelPlaces, StatesBelow, TransitionsBelow, TextTables, stateLabels}
+use Rattle.writer.specs.inner.Tables.{LabelPlaces, StatesBelow, TextTables, stateLabels}
 
 transition-text : (P : Pattern) (e : Transition) → blank ⨾ transitionText P e ≡ spacedTransition (P .labels) e
 unfolding transitionText spacedTransition arrowText rangeText
@@ -39,8 +40,10 @@ pub parts : (P : Pattern) → patternText P ≡
 unfolding patternText headingText closingText
 parts P =
     ap (λ (t : List ℕ). 97 ∷ 117 ∷ 116 ∷ 111 ∷ 109 ∷ 97 ∷ 116 ∷ 111 ∷ 110 ∷ 32 ∷ 80 ∷ 32 ∷ 123 ∷ 32 ∷ 105 ∷ 110 ∷ 105 ∷ 116 ∷ 32 ∷ t)
-    (ap (λ (t : List ℕ). labelOf P (P .automaton .start) ++ (59 ∷ t ++ closingText (namesText (map (labelOf P) (acceptingStates (P .automaton)))))) (transitions-text P (P .automaton .transitions))
-    ∙ sym (append-assoc (labelOf P (P .automaton .start)) (59 ∷ []) (spacedTransitions (P .labels) (P .automaton .transitions) ++ closingText (namesText (map (labelOf P) (acceptingStates (P .automaton)))))))
+    (ap (λ (t : List ℕ). labelOf P (P .automaton .start) ++ (59 ∷ t ++ closingText (namesText (map (labelOf P) (acceptingStates (P .automaton))))))
+    (transitions-text P (P .automaton .transitions))
+    ∙ sym (append-assoc (labelOf P (P .automaton .start)) (59 ∷ [])
+    (spacedTransitions (P .labels) (P .automaton .transitions) ++ closingText (namesText (map (labelOf P) (acceptingStates (P .automaton)))))))
 
 -- names with a comma and a blank before the first too take two bytes more
 names-more : (ns : List (List ℕ)) → 0 < length ns → length (moreNamesText ns) ≡ length (namesText ns) + 2
@@ -70,9 +73,9 @@ module _ (s b p qs : List ℕ) (r : TextTables s b p qs) where
   pub ready-start : getD s 1 0 < labelCount b
   ready-start = omega (arith, ready-count, r .sheet .start)
 
-  pub ready-bounded : TransitionsBelow (labelCount b) (readRecords (take (length s - recordsAt s) (drop (recordsAt s) s)))
+  pub ready-bounded : Named (labelCount b) (readRecords (take (length s - recordsAt s) (drop (recordsAt s) s)))
   ready-bounded =
-      subst (λ (l : List ℕ). TransitionsBelow (labelCount b) (readRecords l)) (sym (part-all (recordsAt s) s))
+      subst (λ (l : List ℕ). Named (labelCount b) (readRecords l)) (sym (part-all (recordsAt s) s))
       (let w = read-well s (r .sheet) .states in
       record { froms = λ e m. omega (arith, w .froms e m, ready-count); tos = λ e m. omega (arith, w .tos e m, ready-count) })
 
@@ -95,20 +98,24 @@ module _ (s b p qs : List ℕ) (r : TextTables s b p qs) where
 
   -- the whole text by what the code holds
   pub ready-text : patternText (readPattern s b) ≡
-      headingText (getD (readLabels b) (getD s 1 0) []) ++ (spacedTransitions (readLabels b) (readRecords (take (length s - recordsAt s) (drop (recordsAt s) s))) ++ closingText (namesText (stateLabels b qs)))
+      headingText (getD (readLabels b) (getD s 1 0) []) ++ (spacedTransitions (readLabels b) (readRecords (take (length s - recordsAt s) (drop (recordsAt s) s))) ++
+      closingText (namesText (stateLabels b qs)))
   unfolding stateLabels
   ready-text =
       parts (readPattern s b)
-      ∙ ap₂ (λ (t a : List ℕ). headingText (getD (readLabels b) (getD s 1 0) []) ++ (spacedTransitions (readLabels b) (readRecords t) ++ closingText (namesText (map (λ q. getD (readLabels b) q []) a))))
+      ∙ ap₂ (λ (t a : List ℕ). headingText (getD (readLabels b) (getD s 1 0) []) ++
+      (spacedTransitions (readLabels b) (readRecords t) ++ closingText (namesText (map (λ q. getD (readLabels b) q []) a))))
       (sym (part-all (recordsAt s) s)) (sym (r .accepting))
 
-  pub text-counted : (x y z : ℕ) → x ≡ length (getD (readLabels b) (getD s 1 0) []) → y ≡ length (spacedTransitions (readLabels b) (readRecords (take (length s - recordsAt s) (drop (recordsAt s) s))))
+  pub text-counted : (x y z : ℕ) → x ≡ length (getD (readLabels b) (getD s 1 0) [])
+      → y ≡ length (spacedTransitions (readLabels b) (readRecords (take (length s - recordsAt s) (drop (recordsAt s) s))))
       → z ≡ length (moreNamesText (stateLabels b qs)) → 33 + x + y + z ≡ length (patternText (readPattern s b))
   text-counted x y z f g h =
       let n : length (stateLabels b qs) ≡ length qs = labels-length b qs in
       let k = names-more (stateLabels b qs) (omega (arith, r .some)) in
       let l = ap length ready-text in
-      let m = length-append (headingText (getD (readLabels b) (getD s 1 0) [])) (spacedTransitions (readLabels b) (readRecords (take (length s - recordsAt s) (drop (recordsAt s) s))) ++ closingText (namesText (stateLabels b qs))) in
+      let m = length-append (headingText (getD (readLabels b) (getD s 1 0) []))
+      (spacedTransitions (readLabels b) (readRecords (take (length s - recordsAt s) (drop (recordsAt s) s))) ++ closingText (namesText (stateLabels b qs))) in
       let o = length-append (spacedTransitions (readLabels b) (readRecords (take (length s - recordsAt s) (drop (recordsAt s) s)))) (closingText (namesText (stateLabels b qs))) in
       omega (arith, heading-length (getD (readLabels b) (getD s 1 0) []), closing-length (namesText (stateLabels b qs)))
 

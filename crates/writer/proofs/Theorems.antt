@@ -79,7 +79,8 @@ module _ (s b o : List ℕ) where
   -- a text is given exactly where there is room, the sheet and the labels have no fault, no record is an epsilon, a written state accepts, and the
   -- written labels are different names and the text is short enough
   pub write-text : ((t : List ℕ) × (writeAnswer s b o ≡ given t))
-      ↔ ((textSize ≤ length o) × (fault s ≡ 0) × (labelsFault (stateCount s) b ≡ 0) × (SomeEpsilon (readPattern s b) → ⊥) × SomeAccepting (readPattern s b) × (Unfit (readPattern s b) → ⊥))
+      ↔ ((textSize ≤ length o) × (fault s ≡ 0) × (labelsFault (stateCount s) b ≡ 0)
+      × (SomeEpsilon (readPattern s b) → ⊥) × SomeAccepting (readPattern s b) × (Unfit (readPattern s b) → ⊥))
   write-text = (
     λ (t, e).
         let (r, f, g, h) = write-given s b o t .0 e in

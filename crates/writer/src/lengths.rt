@@ -8,9 +8,10 @@ ghost use Rattle.automata.specs.inner.Records.{recordAt};
 ghost use Rattle.decimal.specs.Decimal.{digits};
 ghost use Rattle.labels.specs.Labels.{labelCount, readLabels};
 ghost use Rattle.output.specs.Output.{readPattern};
+ghost use Rattle.sheets.specs.inner.Runs.{Named};
 ghost use Rattle.writer.specs.Text.{moreNamesText, patternText};
 ghost use Rattle.writer.specs.inner.Parts.{spacedTransition, spacedTransitions};
-ghost use Rattle.writer.specs.inner.Tables.{LabelPlaces, StatesBelow, TransitionsBelow, TextTables, stateLabels};
+ghost use Rattle.writer.specs.inner.Tables.{LabelPlaces, StatesBelow, TextTables, stateLabels};
 
 // How many decimal digits x has.
 fn digit_count(x: u32) -> usize
@@ -47,7 +48,7 @@ fn transition_length(labels: &[u8], places: &[usize], words: &[u32]) -> usize
 
 // The length of some transitions.
 fn transitions_length(labels: &[u8], places: &[usize], records: &[u32]) -> usize
-    requires { ⌜ LabelPlaces (now labels) (now places) × TransitionsBelow (labelCount (now labels)) (readRecords (now records)) × (length (now records) ≤ 10240) ⌝ }
+    requires { ⌜ LabelPlaces (now labels) (now places) × Named (labelCount (now labels)) (readRecords (now records)) × (length (now records) ≤ 10240) ⌝ }
     ensures { λ r. ⌜ (r ≡ length (spacedTransitions (readLabels (now (labels .entry))) (readRecords (now (records .entry))))) × (r ≤ 327680) ⌝ }
 {
     let mut n: usize = 0;

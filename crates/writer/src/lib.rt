@@ -9,7 +9,7 @@ ghost use Rattle.sheets.specs.inner.Accepted.{Accepted};
 ghost use Rattle.sheets.specs.Sheet.{stateCount, read};
 ghost use Rattle.writer.specs.Text.{writtenStates, patternText, textSize, acceptingFirst, namesFirst, patternAnswer, writeAnswer, writeOutcome};
 ghost use Rattle.writer.specs.Wrote.{wroteOf};
-ghost use Rattle.writer.specs.inner.Tables.{WrittenMarks, LabelPlaces, TextTables};
+ghost use Rattle.writer.specs.inner.Tables.{writtenMarks, LabelPlaces, TextTables};
 use refusal::InputRefusal;
 use refusal::Refusal;
 use refusal::StateRefusal;
@@ -49,7 +49,7 @@ fn write_ready(
 
 // The text of a pattern without epsilons whose tables are made, or 31 or 32.
 fn write_marked(s: &[u32], labels: &[u8], marks: &[u8], places: &[usize], out: &mut [u8]) -> Wrote
-    requires { ⌜ Accepted (now s) × (labelsFault (stateCount (now s)) (now labels) ≡ 0) × WrittenMarks (read (now s)) (now marks) × LabelPlaces (now labels) (now places) × (textSize ≤ length (now out)) ⌝ }
+    requires { ⌜ Accepted (now s) × (labelsFault (stateCount (now s)) (now labels) ≡ 0) × (now marks ≡ writtenMarks (read (now s))) × LabelPlaces (now labels) (now places) × (textSize ≤ length (now out)) ⌝ }
     ensures { λ r. ⌜ wroteOf r (now (out .exit)) ≡ writeOutcome (now (out .entry)) (acceptingFirst (read (now (s .entry))) (namesFirst (readPattern (now (s .entry)) (now (labels .entry))) (given (patternText (readPattern (now (s .entry)) (now (labels .entry))))))) ⌝ }
 {
     let mut written = [0u32; 256];

@@ -10,12 +10,12 @@ ghost use Rattle.sheets.specs.inner.Accepted.{Accepted};
 ghost use Rattle.sheets.specs.Sheet.{stateCount, read};
 ghost use Rattle.stores.specs.Written.{Written};
 ghost use Rattle.writer.specs.Text.{writtenStates};
-ghost use Rattle.writer.specs.inner.Tables.{WrittenMarks, LabelPlaces, StatesBelow, acceptingAmong};
+ghost use Rattle.writer.specs.inner.Tables.{writtenMarks, placesBelow, LabelPlaces, StatesBelow, acceptingAmong};
 
 // A mark for each state that is the start or that a record names.
 pub fn mark_states(s: &[u32], marks: &mut [u8])
     requires { ⌜ Accepted (now s) × Zeros 256 (now marks) ⌝ }
-    ensures { λ u. ⌜ WrittenMarks (read (now (s .entry))) (now (marks .exit)) ⌝ }
+    ensures { λ u. ⌜ now (marks .exit) ≡ writtenMarks (read (now (s .entry))) ⌝ }
 {
     let start = s[1] as usize;
     marks[start] = 1;
@@ -29,10 +29,10 @@ pub fn mark_states(s: &[u32], marks: &mut [u8])
     }
 }
 
-// Where the length of each of the n labels stands.
+// Where the length of each of the n labels stands, at the front of places.
 pub fn label_places(labels: &[u8], n: usize, places: &mut [usize])
     requires { ⌜ (labelsFault n (now labels) ≡ 0) × (n ≤ 256) × (length (now places) ≡ 256) ⌝ }
-    ensures { λ u. ⌜ LabelPlaces (now (labels .entry)) (now (places .exit)) ⌝ }
+    ensures { λ u. ⌜ now (places .exit) ≡ placesBelow (now (labels .entry)) (now (places .entry)) n ⌝ }
 {
     let mut at: usize = 2;
     let mut q: usize = 0;
@@ -65,7 +65,7 @@ fn put_state(list: &mut [u32], at: usize, q: u32, keep: bool) -> usize
 
 // The written states in order; how many there are.
 pub fn gather_written(s: &[u32], marks: &[u8], list: &mut [u32]) -> usize
-    requires { ⌜ Accepted (now s) × WrittenMarks (read (now s)) (now marks) × (length (now list) ≡ 256) ⌝ }
+    requires { ⌜ Accepted (now s) × (now marks ≡ writtenMarks (read (now s))) × (length (now list) ≡ 256) ⌝ }
     ensures { λ r. ⌜ Written (now (list .entry)) 0 (writtenStates (read (now (s .entry)))) (now (list .exit)) r ⌝ }
 {
     let n = s[2];

@@ -8,9 +8,10 @@ ghost use Rattle.automata.specs.inner.Records.{recordAt};
 ghost use Rattle.labels.specs.Labels.{labelCount, readLabels};
 ghost use Rattle.output.specs.Output.{readPattern};
 ghost use Rattle.stores.specs.Written.{Written};
+ghost use Rattle.sheets.specs.inner.Runs.{Named};
 ghost use Rattle.writer.specs.Text.{namesText, moreNamesText, patternText};
 ghost use Rattle.writer.specs.inner.Parts.{arrowText, rangeText, spacedTransition, spacedTransitions, headingText, closingText};
-ghost use Rattle.writer.specs.inner.Tables.{LabelPlaces, StatesBelow, TransitionsBelow, TextTables, stateLabels};
+ghost use Rattle.writer.specs.inner.Tables.{LabelPlaces, StatesBelow, TextTables, stateLabels};
 
 // The label of the state q.
 fn put_label(out: &mut [u8], at: usize, labels: &[u8], places: &[usize], q: u32) -> usize
@@ -66,7 +67,7 @@ fn put_transitions(
     places: &[usize],
     records: &[u32],
 ) -> usize
-    requires { ⌜ LabelPlaces (now labels) (now places) × TransitionsBelow (labelCount (now labels)) (readRecords (now records)) × (at + length (spacedTransitions (readLabels (now labels)) (readRecords (now records))) + 10 ≤ length (now out)) ⌝ }
+    requires { ⌜ LabelPlaces (now labels) (now places) × Named (labelCount (now labels)) (readRecords (now records)) × (at + length (spacedTransitions (readLabels (now labels)) (readRecords (now records))) + 10 ≤ length (now out)) ⌝ }
     ensures { λ r. ⌜ Written (now (out .entry)) at (spacedTransitions (readLabels (now (labels .entry))) (readRecords (now (records .entry)))) (now (out .exit)) r ⌝ }
 {
     let mut end = at;

@@ -5,6 +5,10 @@ use compare::sheet::{RANGE, Sheet, TEXT_BYTES, plain_labels};
 
 use crate::calls;
 
+/// Names of 64 bytes, and where they differ.
+const LONG_NAMES: [(&str, fn(usize) -> Vec<String>); 2] =
+    [("in their last bytes", hostile::long_names), ("in the middle", hostile::alike_at_both_ends)];
+
 /// An eighth, a quarter, a half and the whole of `most`.
 fn doubling(most: usize) -> impl Iterator<Item = usize> {
     (0..4).map(move |k| most >> (3 - k))
@@ -125,13 +129,9 @@ fn others() {
         let case = format!("labels equal, {n} records of 256 states");
         calls::inclusion(&case, (&a, &same), (&b, &same));
     }
-    let names = [
-        ("in their last bytes", hostile::long_names as fn(usize) -> Vec<String>),
-        ("in the middle", hostile::alike_at_both_ends),
-    ];
-    for (case, names) in names {
+    for (case, names) in LONG_NAMES {
         for n in doubling(256) {
-            let labels: Vec<Vec<u8>> = names(n).into_iter().map(String::into_bytes).collect();
+            let labels = hostile::as_labels(names(n));
             let a = Sheet { start: 0, accept: vec![1; n], records: Vec::new() };
             let case = format!("{n} labels of 64 bytes that differ {case}");
             calls::inclusion(&case, (&a, &labels), (&a, &labels));
@@ -167,13 +167,9 @@ fn parsing() {
 }
 
 fn writing() {
-    let names = [
-        ("in their last bytes", hostile::long_names as fn(usize) -> Vec<String>),
-        ("in the middle", hostile::alike_at_both_ends),
-    ];
-    for (case, names) in names {
+    for (case, names) in LONG_NAMES {
         for n in doubling(256) {
-            let labels: Vec<Vec<u8>> = names(n).into_iter().map(String::into_bytes).collect();
+            let labels = hostile::as_labels(names(n));
             let case = format!("ring of {n} names of 64 bytes that differ {case}");
             calls::write_automaton(&case, &sheets::chain(n, true), &labels);
         }

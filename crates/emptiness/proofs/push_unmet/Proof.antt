@@ -11,7 +11,7 @@ use Rattle.emptiness.proofs.push_unmet.Tie as tie
 
 abbrev Inv-loop : tie.InvT-loop
 Inv-loop t from marks₀ stack₀ top e₀ at₀ marks stack e at =
-    (at ≤ length t) × Named (readRecords (drop at t)) × Pushed marks₀ stack₀ top (readRecords (drop from t)) (readRecords (drop at t)) marks stack e
+    (at ≤ length t) × Named 256 (readRecords (drop at t)) × Pushed marks₀ stack₀ top (readRecords (drop from t)) (readRecords (drop at t)) marks stack e
 
 abbrev μ-loop : tie.MeasureT-loop
 μ-loop t from marks₀ stack₀ top e₀ at₀ marks stack e at = length t - at

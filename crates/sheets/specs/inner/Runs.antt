@@ -8,7 +8,6 @@ use lib.Seq.{sets}
 use Rattle.lists.specs.Lists.{_∈_, filter, tabulate, Ascending}
 use Rattle.automata.specs.Automaton.{Transition, leaving}
 use Rattle.automata.specs.Records.{readRecords, writeRecords}
-use Rattle.automata.specs.WellFormed.{mostStates}
 use Rattle.sheets.specs.Sheet.{stateCount, recordsAt, read}
 use Rattle.sheets.specs.inner.Accepted.{Accepted}
 
@@ -45,10 +44,10 @@ pub record IndexedSheet (s starts : List ℕ) : Type 0 where
   pub accepted : Accepted s
   pub indexed : Indexed s starts
 
--- the states that the transitions name are below 256
-pub record Named (es : List Transition) : Type 0 where
-  pub froms : (e : Transition) → e ∈ es → e .from < mostStates
-  pub tos : (e : Transition) → e ∈ es → e .to < mostStates
+-- the states that the transitions name are below n
+pub record Named (n : ℕ) (es : List Transition) : Type 0 where
+  pub froms : (e : Transition) → e ∈ es → e .from < n
+  pub tos : (e : Transition) → e ∈ es → e .to < n
 
 -- the records of state q stand in s where starts says
 pub record RunAt (s starts : List ℕ) (q : ℕ) : Type 0 where

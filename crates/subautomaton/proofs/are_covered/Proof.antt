@@ -12,7 +12,7 @@ use Rattle.subautomaton.proofs.are_covered.Statement.{statement}
 use Rattle.subautomaton.proofs.are_covered.Tie as tie
 
 abbrev Inv-loop : tie.InvT-loop
-Inv-loop records b starts ca cb at₀ at = (at ≤ length records) × Named (readRecords (drop at records)) × (all (fitsIn (read b) ca cb) (readRecords records) ≡ all (fitsIn (read b) ca cb) (readRecords (drop at records)))
+Inv-loop records b starts ca cb at₀ at = (at ≤ length records) × Named 256 (readRecords (drop at records)) × (all (fitsIn (read b) ca cb) (readRecords records) ≡ all (fitsIn (read b) ca cb) (readRecords (drop at records)))
 
 abbrev μ-loop : tie.MeasureT-loop
 μ-loop records b starts ca cb at₀ at = length records - at

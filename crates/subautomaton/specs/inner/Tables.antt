@@ -49,7 +49,7 @@ reaching last (e ∷ es) = cond (ltb (e .last) last) (reaching last es) (e ∷ e
 
 -- the records of a run: the states that they name are below 256, and none starts before an earlier one
 pub record Ordered (es : List Transition) : Type 0 where
-  pub named : Named es
+  pub named : Named 256 es
   pub rises : Ascending (λ d e. d .first ≤ e .first) es
 
 -- the state q has the number from, and one of its transitions covers d

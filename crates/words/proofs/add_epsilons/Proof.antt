@@ -11,7 +11,7 @@ use Rattle.words.proofs.add_epsilons.Statement.{statement}
 use Rattle.words.proofs.add_epsilons.Tie as tie
 
 abbrev Inv-loop : tie.InvT-loop
-Inv-loop records rows₀ at₀ rows at = (at ≤ length records) × (length rows ≡ length rows₀) × Named (readRecords (drop at records)) × RowsFor (length rows₀) (readRecords (drop at records)) × EpsilonsLeft rows₀ (readRecords records) rows (readRecords (drop at records))
+Inv-loop records rows₀ at₀ rows at = (at ≤ length records) × (length rows ≡ length rows₀) × Named 256 (readRecords (drop at records)) × RowsFor (length rows₀) (readRecords (drop at records)) × EpsilonsLeft rows₀ (readRecords records) rows (readRecords (drop at records))
 
 abbrev μ-loop : tie.MeasureT-loop
 μ-loop records rows₀ at₀ rows at = length records - at

@@ -15,6 +15,10 @@ write-marked-spec =
     let some = c .before .before .before .before .before in
     let accepts = some .before .before in
     let states = accepts .before .before .before .before .before in
-    let start = states .before .before .before .before .before .before .before in
-    (ready _ _ _ _ (start .pre .0) (states .gather-written .ensures) refl _ _ _ (accepts .gather-accepting .ensures) refl (some .if1 .left) _ _ (start .pre .1) (start .pre .3), search markedLaws, search markedLaws))
+    let start = states .before .before .before .before .before .before .before in (
+      ready _ _ _ _ (start .pre .0) (states .gather-written .ensures) refl _ _ _ (accepts .gather-accepting .ensures) refl (some .if1 .left) _ _ (start .pre .1)
+          (start .pre .3),
+      search markedLaws,
+      search markedLaws,
+    ))
     (λ c. search markedLaws) (λ c. search markedLaws))

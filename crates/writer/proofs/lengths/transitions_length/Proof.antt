@@ -3,13 +3,13 @@ use Prim.Native.Nat.{_-_, _≤_}
 use lib.ListN.{length, drop}
 use Rattle.automata.specs.Records.{readRecords}
 use Rattle.labels.specs.Labels.{labelCount, readLabels}
-use Rattle.writer.specs.inner.Tables.{TransitionsBelow}
+use Rattle.sheets.specs.inner.Runs.{Named}
 use Rattle.writer.proofs.Counting.{TransitionsLeft, transitionsLaws}
 use Rattle.writer.proofs.lengths.transitions_length.Statement.{statement}
 use Rattle.writer.proofs.lengths.transitions_length.Tie as tie
 
 abbrev Inv-loop : tie.InvT-loop
-Inv-loop labels places records n₀ at₀ n at = (at ≤ length records) × TransitionsLeft (readLabels labels) records n at × TransitionsBelow (labelCount labels) (readRecords (drop at records))
+Inv-loop labels places records n₀ at₀ n at = (at ≤ length records) × TransitionsLeft (readLabels labels) records n at × Named (labelCount labels) (readRecords (drop at records))
 
 abbrev μ-loop : tie.MeasureT-loop
 μ-loop labels places records n₀ at₀ n at = length records - at

@@ -28,7 +28,9 @@ are-names-spec =
     let told = c .before in
     let turn = c .before .before .before .before .before .before .before .before .before .before .before .before .before in (
       search needs,
-      listed-next _ _ _ _ (turn .before .before .before .before .before .pre .0) (turn .before .before .before .before .before .pre .1) (turn .loop-test .taken) _ (c .before .before .before .before .before .before .before .next-label .ensures) _ _
-          (turn .before .loop .inv .1) _ (c .before .before .before .before .before .add .ensures) _ (told .before .k .given .1) (c .if2 .left) _ (name .before .before .label-at .ensures) _ (name .before .is-name .ensures) (name .if1 .left),
+      listed-next _ _ _ _ (turn .before .before .before .before .before .pre .0) (turn .before .before .before .before .before .pre .1) (turn .loop-test .taken) _
+          (c .before .before .before .before .before .before .before .next-label .ensures) _ _
+          (turn .before .loop .inv .1) _ (c .before .before .before .before .before .add .ensures) _ (told .before .k .given .1) (c .if2 .left) _
+          (name .before .before .label-at .ensures) _ (name .before .is-name .ensures) (name .if1 .left),
     ))
     (λ c. search listedLaws))

@@ -2,12 +2,13 @@
 use Prim.Native.Nat.{_-_, _≤_}
 use mathlib.Core.Path.{_≡_}
 use Rattle.labels.specs.inner.Places.{labelPlace}
-use Rattle.writer.proofs.Places.{PlacesTo, placingLaws}
+use Rattle.writer.specs.inner.Tables.{placesBelow}
+use Rattle.writer.proofs.Places.{placingLaws}
 use Rattle.writer.proofs.tables.label_places.Statement.{statement}
 use Rattle.writer.proofs.tables.label_places.Tie as tie
 
 abbrev Inv-loop : tie.InvT-loop
-Inv-loop labels n places₀ at₀ q₀ places at q = (q ≤ n) × (at ≡ labelPlace labels q) × PlacesTo labels q places
+Inv-loop labels n places₀ at₀ q₀ places at q = (q ≤ n) × (at ≡ labelPlace labels q) × (places ≡ placesBelow labels places₀ q)
 
 abbrev μ-loop : tie.MeasureT-loop
 μ-loop labels n places₀ at₀ q₀ places at q = n - q

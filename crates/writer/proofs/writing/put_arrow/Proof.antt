@@ -9,5 +9,12 @@ put-arrow-spec =
     tie.close
     (tie.spec
     (λ c κs. search arrowLaws) (λ c κs. search arrowLaws) (λ c. search arrowLaws) (λ c κs. search arrowLaws)
-    (λ c κs. (search needs, search needs, arrow-to _ _ _ _ _ (c .before .before .before .before .before .before .before .before .before .before .before .before .before .before .before .before .before .pre .3) _ _ (c .before .before .before .before .before .before .before .before .before .before .before .before .put-byte .ensures) _ _ (c .before .before .before .before .before .before .before .before .put-label .ensures) _ _ (c .before .before .before .put-bytes .ensures)))
+    (λ c κs. (
+      search needs,
+      search needs,
+      arrow-to _ _ _ _ _
+          (c .before .before .before .before .before .before .before .before .before .before .before .before .before .before .before .before .before .pre .3) _ _
+          (c .before .before .before .before .before .before .before .before .before .before .before .before .put-byte .ensures) _ _
+          (c .before .before .before .before .before .before .before .before .put-label .ensures) _ _ (c .before .before .before .put-bytes .ensures),
+    ))
     (λ c. search arrowLaws) (λ c. search arrowLaws))

@@ -14,4 +14,5 @@ put-range-spec =
     let comma = last .before .before .before .before in
     let first = comma .before .before .before .before .before in
     let bracket = first .before .before .before .before in
-    range-put _ _ _ _ (bracket .before .before .before .before .pre) _ _ (bracket .put-bytes .ensures) _ _ (first .put-decimal .ensures) _ _ (comma .put-bytes2 .ensures) _ _ (last .put-decimal2 .ensures) _ _ (c .before .before .put-bytes3 .ensures)))
+    range-put _ _ _ _ (bracket .before .before .before .before .pre) _ _ (bracket .put-bytes .ensures) _ _ (first .put-decimal .ensures) _ _ (comma .put-bytes2 .ensures)
+    _ _ (last .put-decimal2 .ensures) _ _ (c .before .before .put-bytes3 .ensures)))

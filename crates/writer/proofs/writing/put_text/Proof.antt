@@ -9,9 +9,32 @@ put-text-spec =
     tie.close
     (tie.spec
     (λ c. search readyLaws) (λ c. search readyLaws) (λ c. search readyLaws) (λ c. search readyLaws)
-    (λ c κs. (search readyLaws, search readyLaws, text-heading _ _ _ _ (c .before .before .before .before .before .before .before .before .args .out .now) (c .before .before .before .before .before .before .before .before .pre .0) (c .before .before .before .before .before .before .before .before .pre .1)))
+    (λ c κs. (
+      search readyLaws,
+      search readyLaws,
+      text-heading _ _ _ _ (c .before .before .before .before .before .before .before .before .args .out .now)
+          (c .before .before .before .before .before .before .before .before .pre .0) (c .before .before .before .before .before .before .before .before .pre .1),
+    ))
     (λ c. search readyLaws) (λ c. search readyLaws) (λ c. search readyLaws) (λ c. search readyLaws)
-    (λ c κs. (search readyLaws, search readyLaws, text-transitions _ _ _ _ _ (c .before .before .before .before .before .before .before .before .before .before .before .before .before .pre .0) (c .before .before .before .before .before .before .before .before .before .before .before .before .before .pre .1) _ _ (c .before .before .before .before .put-heading .ensures)))
-    (λ c κs. (search readyLaws, search readyLaws, search readyLaws, text-closing _ _ _ _ _ (c .before .before .before .before .before .before .before .before .before .before .before .before .before .before .before .before .before .pre .0) (c .before .before .before .before .before .before .before .before .before .before .before .before .before .before .before .before .before .pre .1) _ _ (c .before .before .before .before .before .before .before .before .put-heading .ensures) _ _ (c .before .before .before .put-transitions .ensures)))
+    (λ c κs. (
+      search readyLaws,
+      search readyLaws,
+      text-transitions _ _ _ _ _
+          (c .before .before .before .before .before .before .before .before .before .before .before .before .before .pre .0)
+          (c .before .before .before .before .before .before .before .before .before .before .before .before .before .pre .1) _ _ (c .before .before .before .before .put-heading .ensures),
+    ))
+    (λ c κs. (
+      search readyLaws,
+      search readyLaws,
+      search readyLaws,
+      text-closing _ _ _ _ _
+          (c .before .before .before .before .before .before .before .before .before .before .before .before .before .before .before .before .before .pre .0)
+          (c .before .before .before .before .before .before .before .before .before .before .before .before .before .before .before .before .before .pre .1) _ _
+          (c .before .before .before .before .before .before .before .before .put-heading .ensures) _ _ (c .before .before .before .put-transitions .ensures),
+    ))
     (λ c. search readyLaws)
-    (λ c. text-put _ _ _ _ _ (c .before .before .before .before .before .before .before .before .before .before .before .before .before .before .before .before .before .before .before .before .pre .0) (c .before .before .before .before .before .before .before .before .before .before .before .before .before .before .before .before .before .before .before .before .pre .1) _ _ (c .before .before .before .before .before .before .before .before .before .before .before .put-heading .ensures) _ _ (c .before .before .before .before .before .before .put-transitions .ensures) _ _ (c .before .before .put-closing .ensures)))
+    (λ c. text-put _ _ _ _ _ (c .before .before .before .before .before .before .before .before .before .before .before .before .before .before .before .before .before
+    .before .before .before .pre .0) (c .before .before .before .before .before .before .before .before .before .before .before .before .before .before .before
+    .before .before .before .before .before .pre .1) _ _
+    (c .before .before .before .before .before .before .before .before .before .before .before .put-heading .ensures) _ _
+    (c .before .before .before .before .before .before .put-transitions .ensures) _ _ (c .before .before .put-closing .ensures)))

@@ -3,13 +3,16 @@ use Prim.Native.Nat.{_-_, _≤_}
 use lib.ListN.{length, drop}
 use Rattle.automata.specs.Records.{readRecords}
 use Rattle.labels.specs.Labels.{labelCount, readLabels}
-use Rattle.writer.specs.inner.Tables.{TransitionsBelow}
+use Rattle.sheets.specs.inner.Runs.{Named}
 use Rattle.writer.proofs.Putting.{TransitionsToPut, transitionsPutLaws}
 use Rattle.writer.proofs.writing.put_transitions.Statement.{statement}
 use Rattle.writer.proofs.writing.put_transitions.Tie as tie
 
 abbrev Inv-loop : tie.InvT-loop
-Inv-loop out₀ at labels places records end₀ i₀ out end i = (i ≤ length records) × TransitionsToPut (readLabels labels) records at out₀ out end i × TransitionsBelow (labelCount labels) (readRecords (drop i records))
+Inv-loop out₀ at labels places records end₀ i₀ out end i =
+    (i ≤ length records)
+    × TransitionsToPut (readLabels labels) records at out₀ out end i
+    × Named (labelCount labels) (readRecords (drop i records))
 
 abbrev μ-loop : tie.MeasureT-loop
 μ-loop out₀ at labels places records end₀ i₀ out end i = length records - i
