@@ -30,6 +30,13 @@ unfolding all
 all-in f [] h = refl
 all-in f (x ∷ l) h = rw (h x (List·Memᴰ·head refl)) (all-in f l (λ y m. h y (List·Memᴰ·tail m)))
 
+pub all-not : {A : Type 0} (f : A → Bool) (l : List A) → all f l ≡ false → (x : A) × x ∈ l × (f x ≡ false)
+unfolding all
+all-not f [] h = absurd (false≢true (sym h))
+all-not f (x ∷ l) h =
+    ⊎-elim (λ (t : f x ≡ true). let (y, m, e) = all-not f l (sym (ap (λ b. b && all f l) t) ∙ h) in (y, List·Memᴰ·tail m, e)) (λ (t : f x ≡ false). (x, List·Memᴰ·head refl, t))
+    (test (f x))
+
 pub all-ext : {A : Type 0} (f g : A → Bool) (l : List A) → ((x : A) → x ∈ l → f x ≡ g x) → all f l ≡ all g l
 unfolding all
 all-ext f g [] h = refl

@@ -1,14 +1,14 @@
 -- Laws of the place of an element in a list, and of the test whether two lists of numbers are the same.
 use Prim.Native.Nat.{ℕ, zero, suc, _≤_, _<_}
-use mathlib.Core.Bool.{Bool, true, false, cond, false≢true}
+use mathlib.Core.Bool.{Bool, true, false, cond, _||_, false≢true}
 use mathlib.Core.List.{List, [], _∷_, _++_, List·Memᴰ·head, List·Memᴰ·tail, List·Memᴰ·cases-cons, Memᴰ·cast}
 use mathlib.Core.Logic.{⊎-elim}
 use mathlib.Core.Path.{_≡_, refl, sym, _∙_, ap, ap₂}
 use native.Mathlib.Omega.{arith}
-use borrow.Author.Tests.{eq-eqb, eqb-true}
-use lib.Dec.{eqb}
+use borrow.Author.Tests.{eq-eqb, eqb-true, lt-ltb, ltb-true}
+use lib.Dec.{eqb, ltb}
 use lib.ListN.{getD, length}
-use Rattle.lists.specs.Lists.{_∈_, Distinct}
+use Rattle.lists.specs.Lists.{_∈_, any, Distinct}
 use Rattle.lists.specs.Index.{index, same}
 use Rattle.lists.proofs.Members.{at-in}
 use Rattle.lists.proofs.Tests.{test, and-both, and-parts, true-same}
@@ -53,6 +53,19 @@ module _ {X : Type 0} (same : X → X → Bool) where
           → cond b 0 (suc (index same x (T ++ y ∷ []))) ≡ cond (same x y) (suc (length T)) (suc (suc (length T)))
       go true h ih = absurd (omega arith)
       go false h ih = ap suc (ih (omega arith)) ∙ lift (same x y)
+
+  -- an element is in a list exactly where its place is
+  pub index-any : (x : X) (T : List X) → any (same x) T ≡ ltb (index same x T) (length T)
+  unfolding index any
+  index-any x [] = refl
+  index-any x (y ∷ T) = go (same x y) (index-any x T)
+    where
+      go : (b : Bool) → any (same x) T ≡ ltb (index same x T) (length T) → (b || any (same x) T) ≡ ltb (cond b 0 (suc (index same x T))) (suc (length T))
+      go true e = sym (lt-ltb 0 (suc (length T)) (omega arith))
+      go false e =
+          let i = index same x T in
+          let n = length T in
+          e ∙ true-same (ltb i n) (ltb (suc i) (suc n)) (λ t. lt-ltb (suc i) (suc n) (omega (arith, ltb-true i n t))) (λ t. lt-ltb i n (omega (arith, ltb-true (suc i) (suc n) t)))
 
 -- where the test is equality
 module _ {X : Type 0} (same : X → X → Bool) (ok : Decides same) where

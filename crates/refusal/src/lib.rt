@@ -1,4 +1,4 @@
-// The refusals: those that come from the input (1 to 10 of document 01, 30 to 32 of document 02), those that come from the state (20 to 24),
+// The refusals: those that come from the input (1 to 10 of document 01, 30 to 33 of document 02), those that come from the state (20 to 24),
 // and either.
 ghost use mathlib.Core.Path.{_≡_};
 ghost use Rattle.refusal.specs.Number.{inputNumber, stateNumber, numberOf};
@@ -30,6 +30,8 @@ pub enum InputRefusal {
     NoAcceptingState,
     // 32: two written labels are equal, one is no name, or the text is too long.
     Names,
+    // 33: an accepting name that is no state.
+    AcceptingName,
 }
 
 pub enum StateRefusal {
@@ -74,6 +76,7 @@ pub fn input_number(r: InputRefusal) -> u32
         InputRefusal::EpsilonRecord => 30,
         InputRefusal::NoAcceptingState => 31,
         InputRefusal::Names => 32,
+        InputRefusal::AcceptingName => 33,
     }
 }
 

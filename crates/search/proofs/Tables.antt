@@ -1,6 +1,6 @@
 -- Tables grow at their end: adding an element, and meeting some one after the other.
 use Prim.Native.Nat.{ℕ, _+_, _≤_, _<_}
-use mathlib.Core.Bool.{Bool, true, false, cond}
+use mathlib.Core.Bool.{Bool, true, false, cond, _&&_, _||_}
 use mathlib.Core.List.{List, [], _∷_, _++_, append-assoc, append-nil}
 use mathlib.Core.List.{List·Memᴰ·head, List·Memᴰ·tail, List·Memᴰ·cases-cons, List·Memᴰ·append-cases, List·Memᴰ·eq-of-singleton, Memᴰ·append-left, Memᴰ·append-right}
 use mathlib.Core.Logic.{_⊎_, inl, inr, ⊎-elim}
@@ -10,12 +10,14 @@ use borrow.Author.Tests.{ltb-true, ltb-false, lt-ltb, le-ltb}
 use lib.Dec.{ltb}
 use lib.ListN.{getD, length, take, length-append, List·getD-append}
 use lib.Seq.{take-all, take-append-le, length-take-le}
-use Rattle.lists.specs.Lists.{_∈_}
+use Rattle.lists.specs.Lists.{_∈_, any, all}
 use Rattle.lists.specs.Index.{index}
+use Rattle.lists.proofs.Every.{all-in, all-out}
 use Rattle.lists.proofs.Index.{Decides}
+use Rattle.lists.proofs.Lists.{any-in, any-out}
 use Rattle.lists.proofs.Members.{distinct-end}
 pub use Rattle.lists.proofs.Index.{index-before, index-behind, same-no, index-in, index-lt, index-at, index-place}
-use Rattle.lists.proofs.Tests.{test}
+use Rattle.lists.proofs.Tests.{test, true-same, and-both, and-parts, or-cases, or-left, or-right}
 use Rattle.search.specs.Search.{Graph, add, meet}
 use Rattle.search.proofs.Reached.{Reached, ReachedElements}
 
@@ -120,6 +122,20 @@ module _ {X : Type 0} (same : X → X → Bool) (ok : Decides same) where
   meet-in [] T x m = elim m [ ]
   meet-in (y ∷ xs) T x m =
       ⊎-elim (λ (e : x ≡ y). extends-in (meet-extends same xs (add same y T)) x (rw e (add-in y T))) (λ m. meet-in xs (add same y T) x m) (List·Memᴰ·cases-cons m)
+
+  -- a test of all elements, and of some, after others are met
+  pub meet-all : (f : X → Bool) (xs T : List X) → all f (meet same xs T) ≡ (all f T && all f xs)
+  meet-all f xs T =
+      true-same _ _
+      (λ h. and-both _ _ (all-in f T (λ x m. all-out f (extends-in (meet-extends same xs T) x m) h)) (all-in f xs (λ x m. all-out f (meet-in xs T x m) h)))
+      (λ h. let (a, b) = and-parts (all f T) (all f xs) h in all-in f _ (λ x m. ⊎-elim (λ i. all-out f i a) (λ i. all-out f i b) (meet-out same xs T x m)))
+
+  pub meet-any : (f : X → Bool) (xs T : List X) → any f (meet same xs T) ≡ (any f T || any f xs)
+  meet-any f xs T =
+      true-same _ _
+      (λ h. let (x, m, t) = any-out f (meet same xs T) h in ⊎-elim (λ i. or-left (any f T) (any f xs) (any-in f i t)) (λ i. or-right (any f T) (any f xs) (any-in f i t)) (meet-out same xs T x m))
+      (λ h. ⊎-elim (λ (a : any f T ≡ true). let (x, m, t) = any-out f T a in any-in f (extends-in (meet-extends same xs T) x m) t)
+      (λ (a : any f xs ≡ true). let (x, m, t) = any-out f xs a in any-in f (meet-in xs T x m) t) (or-cases (any f T) (any f xs) h))
 
 module _ {X : Type 0} (G : Graph X) (ok : Decides (G .same)) where
   -- a table of distinct and reached elements stays one

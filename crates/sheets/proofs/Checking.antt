@@ -19,7 +19,8 @@ use Rattle.automata.specs.inner.Records.{recordAt}
 use Rattle.automata.proofs.Ordered.{less-ended, less-short, less-differs, less-next}
 use Rattle.automata.proofs.Records.{records-at, records-end, part-record}
 use Rattle.refusal.specs.declared.InputRefusal.{InputRefusal}
-use Rattle.refusal.specs.declared.InputRefusal.the-variants.{SheetLength, Start, Counts, AcceptWord, Record, RecordOrder, Epsilon, Grammar, Utf8, Labels, EpsilonRecord, NoAcceptingState, Names}
+use Rattle.refusal.specs.declared.InputRefusal.the-variants.{SheetLength, Start, Counts, AcceptWord, Record, RecordOrder, Epsilon, Grammar, Utf8, Labels}
+use Rattle.refusal.specs.declared.InputRefusal.the-variants.{EpsilonRecord, NoAcceptingState, Names, AcceptingName}
 use Rattle.refusal.specs.Answer.{Answer, refused}
 use Rattle.refusal.specs.Number.{inputNumber}
 use Rattle.sheets.specs.declared.Checked.{Checked}
@@ -115,6 +116,7 @@ refused-some Labels h = omega arith
 refused-some EpsilonRecord h = omega arith
 refused-some NoAcceptingState h = omega arith
 refused-some Names h = omega arith
+refused-some AcceptingName h = omega arith
 
 -- the records from a place on decide, where the one at the place has the answer f
 module _ (n : ℕ) (t before : List ℕ) (at : ℕ) (e : recordsFault n [] (readRecords t) ≡ recordsFault n before (readRecords (drop at t))) where
