@@ -52,6 +52,7 @@ extern "C" {
 #define RINGMATCH_EPSILON_RECORD 30     /* a record is an epsilon */
 #define RINGMATCH_NO_ACCEPTING_STATE 31 /* no state that the text names accepts */
 #define RINGMATCH_NAMES 32              /* two labels in the text are equal, one is no name, or the text is over 65,536 bytes */
+#define RINGMATCH_ACCEPTING_NAME 33     /* an accepting name that is no state */
 
 /* Refusals that come from the state. */
 #define RINGMATCH_OUTPUT_LENGTH 20 /* an output shorter than its least size */
@@ -112,7 +113,7 @@ uint32_t ringmatch_is_subautomaton(const uint32_t *a, size_t a_words, const uint
 
 /* The pattern at the front of a text, such as
  *   automaton A { init p; p -> q [0, 9]; accepting q; };
- * *read is the number of bytes read. Refusals: 20; 8; 21, 22. */
+ * Each accepting name has to be a state. *read is the number of bytes read. Refusals: 20; 8; 33; 21, 22. */
 uint32_t ringmatch_parse_automaton(const uint8_t *text, size_t text_bytes, uint32_t *out, size_t out_room,
                                    uint8_t *labels_out, size_t labels_room, uint64_t *read, uint64_t *words,
                                    uint64_t *bytes);

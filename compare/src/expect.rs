@@ -153,7 +153,7 @@ pub fn is_subautomaton(a: &[u32], a_labels: &[u8], b: &[u32], b_labels: &[u8]) -
     Ok(oracle::is_subautomaton(a, b) as u32)
 }
 
-/// The answer by the original's parser, with document 01's limit on names.
+/// The answer by the original's parser, with document 01's limit on names, and with 33 where it drops an accepting name.
 #[cfg(parser)]
 pub fn parse_automaton(text: &[u8]) -> Outcome<Parsed> {
     // The original reads strings only. Bytes over 127 belong to nothing of the grammar, so any
@@ -163,6 +163,10 @@ pub fn parse_automaton(text: &[u8]) -> Outcome<Parsed> {
     if long_name(&text[..read]) {
         return Err(8);
     }
+    let (pattern, _) = crate::grammar::read(text).expect("the original reads it");
+    if crate::grammar::misspelt(&pattern) {
+        return Err(33);
+    }
     built(&a).map(|built| Parsed { read: read as u64, built })
 }
 
@@ -170,7 +174,7 @@ pub fn parse_automaton(text: &[u8]) -> Outcome<Parsed> {
 #[cfg(not(parser))]
 pub use parse_by_grammar as parse_automaton;
 
-/// Whether a text of the grammar has a name over 64 bytes, one that is dropped included.
+/// Whether a text of the grammar has a name over 64 bytes, one that is no state included.
 #[cfg(parser)]
 fn long_name(text: &[u8]) -> bool {
     text.split(|&byte| !(byte.is_ascii_alphanumeric() || byte == b'_'))
@@ -180,6 +184,9 @@ fn long_name(text: &[u8]) -> bool {
 /// What document 01's grammar makes of a text, without the original.
 pub fn parse_by_grammar(text: &[u8]) -> Outcome<Parsed> {
     let (pattern, read) = crate::grammar::read(text).ok_or(8u32)?;
+    if crate::grammar::misspelt(&pattern) {
+        return Err(33);
+    }
     let (sheet, labels) = crate::grammar::automaton(&pattern);
     built(&oracle::labelled(&sheet, &labels)).map(|built| Parsed { read: read as u64, built })
 }

@@ -2,6 +2,8 @@
 //!
 //! It is used beside the original's parser, and alone where nom is missing.
 
+use std::collections::HashSet;
+
 use crate::sheet::{MAX_NAME, RANGE, Sheet};
 
 /// A pattern as its text gives it.
@@ -137,6 +139,13 @@ pub fn read(text: &[u8]) -> Option<(Pattern<'_>, usize)> {
     let mut cursor = Cursor { text, at: 0 };
     let pattern = cursor.pattern()?;
     Some((pattern, cursor.at))
+}
+
+/// Whether some accepting name is no state.
+pub fn misspelt(pattern: &Pattern) -> bool {
+    let states: HashSet<&[u8]> =
+        pattern.transitions.iter().flat_map(|t| [t.from, t.to]).chain([pattern.initial]).collect();
+    pattern.accepting.iter().any(|name| !states.contains(name))
 }
 
 /// A pattern's sheet and labels: states number by appearance, the initial one first.

@@ -27,13 +27,17 @@ mod parser {
             let over = name.len() > 64;
             for text in [
                 format!("automaton {name}{{init p;accepting p;}};"),
-                format!("automaton A{{init {name};accepting p;}};"),
-                format!("automaton A{{init p;accepting {name};}};"),
+                format!("automaton A{{init {name};accepting {name};}};"),
+                format!("automaton A{{init p;{name}->p[0,0];accepting p;}};"),
             ] {
                 assert!(oracle::parse_automaton(&text).is_some());
                 let expected = expect::parse_automaton(text.as_bytes());
                 assert_eq!(expected.err(), over.then_some(8), "{text}");
             }
+            // An accepting name that is no state is measured too.
+            let text = format!("automaton A{{init p;accepting {name};}};");
+            let expected = expect::parse_automaton(text.as_bytes());
+            assert_eq!(expected.err(), Some(if over { 8 } else { 33 }), "{text}");
         }
     }
 
@@ -49,11 +53,12 @@ mod parser {
     }
 
     #[test]
-    fn accepting_names_of_no_state_are_dropped_by_both() {
+    fn accepting_names_of_no_state_are_dropped() {
         let text = "automaton A{init p;accepting q;};";
         let (a, read) = oracle::parse_automaton(text).expect("it is in the grammar");
         assert_eq!(oracle::sheet(&a).words(), [1, 0, 1, 0, 0]);
         assert_eq!(read, text.len());
+        assert_eq!(expect::parse_automaton(text.as_bytes()).err(), Some(33));
     }
 }
 

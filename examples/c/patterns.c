@@ -62,6 +62,13 @@ int main(void) {
         printf("\n");
     }
 
+    /* A misspelt accepting name is refused with 33. */
+    static const char misspelt[] = "automaton A { init p; p -> q [0, 9]; accepting r; };";
+    uint64_t read;
+    code = ringmatch_parse_automaton((const uint8_t *)misspelt, strlen(misspelt), sheets[1], RINGMATCH_SHEET_WORDS,
+                                     labels[1], RINGMATCH_LABEL_BYTES, &read, &lengths[1], &label_bytes[1]);
+    printf("a misspelt accepting name: refused %" PRIu32 "\n", code);
+
     /* A sheet of 257 states is refused with 3, and nothing is written. */
     uint32_t large[3] = {1, 0, RINGMATCH_MAX_STATES + 1};
     answer = 7;

@@ -151,7 +151,7 @@ pub fn is_subautomaton(p: &Automaton, q: &Automaton) -> Result<bool, Refusal> {
     })
 }
 
-/// The pattern at the front of a text, and the rest of the text.
+/// The pattern at the front of a text, and the rest of the text. Each accepting name has to be a state ([`Refusal::AcceptingName`]).
 pub fn parse_automaton(input: &str) -> Result<(&str, Automaton), Refusal> {
     let (rest, automaton) = parse_automaton_bytes(input.as_bytes())?;
     Ok((&input[input.len() - rest.len()..], automaton))

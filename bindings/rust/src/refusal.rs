@@ -22,9 +22,10 @@ pub enum Refusal {
     EpsilonRecord,
     NoAcceptingState,
     Names,
+    AcceptingName,
 }
 
-const ALL: [(Refusal, u32, &str); 16] = [
+const ALL: [(Refusal, u32, &str); 17] = [
     (
         Refusal::SheetLength,
         1,
@@ -57,6 +58,7 @@ const ALL: [(Refusal, u32, &str); 16] = [
         32,
         "two labels in the text are equal, one is no name in the grammar, or the text is over 65,536 bytes",
     ),
+    (Refusal::AcceptingName, 33, "an accepting name that is no state"),
 ];
 
 impl Refusal {

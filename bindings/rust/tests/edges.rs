@@ -48,6 +48,15 @@ fn parse_automaton_gives_sheet_labels_and_rest() {
     let many: String = (1..257).map(|i| format!(" s{} -> s{i} [0, 0];", i - 1)).collect();
     let text = format!("automaton L {{ init s0;{many} accepting s0; }};");
     assert_eq!(parse_automaton(&text), Err(Refusal::States));
+    // The last of them is a state too; a misspelt name is none, wherever it stands.
+    assert_eq!(parse_automaton(&text.replace("g s0;", "g s256;")), Err(Refusal::States));
+    assert_eq!(
+        parse_automaton(&text.replace("g s0;", "g s256, s257;")),
+        Err(Refusal::AcceptingName)
+    );
+    let misspelt = A.replace("accepting q", "accepting q, r");
+    assert_eq!(parse_automaton(&misspelt), Err(Refusal::AcceptingName));
+    assert_eq!(parse_automaton(&misspelt.replace("};", "}")), Err(Refusal::Grammar));
 }
 
 #[test]
@@ -226,5 +235,6 @@ fn refusals_have_their_numbers() {
     assert_eq!(Refusal::EpsilonRecord.number(), 30);
     assert_eq!(Refusal::NoAcceptingState.number(), 31);
     assert_eq!(Refusal::Names.number(), 32);
+    assert_eq!(Refusal::AcceptingName.number(), 33);
     assert_eq!(Refusal::States.to_string(), "refusal 21: the result needs over 256 states");
 }

@@ -25,7 +25,7 @@ fn read(input: &[u8], at: usize) -> Option<(Result<Vec<u32>, u32>, usize)> {
         Err(8) => None,
         Err(number) => {
             let (_, read) = compare::grammar::read(&input[at..])
-                .expect("a text over a limit is one of the grammar");
+                .expect("a text with another number is one of the grammar");
             Some((Err(number), at + read))
         }
     }

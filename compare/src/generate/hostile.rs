@@ -212,3 +212,10 @@ pub fn text(names: &[String], transitions: usize) -> String {
     let arrows: String = own.chain((names.len()..transitions).map(between)).collect();
     format!("automaton A {{ init {from};{arrows} accepting {from}; }};")
 }
+
+/// A text of a chain of `states` states, all of them accepting, the last one first.
+pub fn accepting_chain(states: usize) -> String {
+    let arrows: String = (1..states).map(|i| format!("s{:x}->s{i:x}[0,0];", i - 1)).collect();
+    let accepting: Vec<String> = (0..states).rev().map(|i| format!("s{i:x}")).collect();
+    format!("automaton A{{init s0;{arrows}accepting {};}};", accepting.join(","))
+}

@@ -68,30 +68,48 @@ fn transition(rng: &mut Rng, text: &mut String, from: &str, to: &str) {
 }
 
 /// A text of up to `most` transitions by the grammar, apart from a name, a number or a range that
-/// may break it.
+/// may break it. One in five has accepting names that may be no states.
 fn pattern(rng: &mut Rng, most: usize) -> String {
     let names: Vec<String> = (0..rng.within(1, 6)).map(|_| name(rng)).collect();
     let mut text = format!("automaton{}{}{}{{", needed(rng), name(rng), space(rng));
-    text += &format!("{}init{}{};", space(rng), needed(rng), rng.pick(&names));
+    let mut states = vec![rng.pick(&names).clone()];
+    text += &format!("{}init{}{};", space(rng), needed(rng), states[0]);
     for _ in 0..rng.within(0, most) {
         text += space(rng);
         let (from, to) = (rng.pick(&names).clone(), rng.pick(&names).clone());
         transition(rng, &mut text, &from, &to);
+        states.extend([from, to]);
     }
+    let any = rng.one_in(5);
     text += &format!("{}accepting{}", space(rng), needed(rng));
     for i in 0..rng.within(1, 3) {
         if i > 0 {
             text += &format!("{},{}", space(rng), space(rng));
         }
-        text += &if rng.one_in(4) { name(rng) } else { rng.pick(&names).clone() };
+        text += &match any {
+            true if rng.one_in(2) => name(rng),
+            true => rng.pick(&names).clone(),
+            false => rng.pick(&states).clone(),
+        };
     }
     text + ";" + space(rng) + "};"
 }
 
-/// A pattern of that many states.
-fn with_states(states: usize) -> String {
+/// A pattern of that many states, with these accepting names.
+fn with_states(states: usize, accepting: &[String]) -> String {
     let chain: String = (1..states).map(|i| format!(" s{} -> s{i} [0, 0];", i - 1)).collect();
-    format!("automaton L {{ init s0;{chain} accepting s0; }};")
+    format!("automaton L {{ init s0;{chain} accepting {}; }};", accepting.join(", "))
+}
+
+/// Accepting names of a pattern with that many states: one or hundreds, in no order, sometimes with one that is no state at any place.
+fn accepting(rng: &mut Rng, states: usize) -> Vec<String> {
+    let count = *rng.pick(&[1, 2, 255, 256, 257, 300, 511, 512, 513]);
+    let mut names: Vec<String> = (0..count).map(|_| format!("s{}", rng.below(states))).collect();
+    if rng.one_in(3) {
+        let at = rng.below(count);
+        names[at] = format!("s{states}");
+    }
+    names
 }
 
 /// A pattern of that many transitions; a repeated one counts once.
@@ -105,7 +123,9 @@ fn with_transitions(transitions: usize) -> String {
 /// A pattern whose states or transitions are at a limit.
 fn limit(rng: &mut Rng) -> String {
     if rng.one_in(2) {
-        with_states(rng.within(255, 258))
+        let states = *rng.pick(&[255, 256, 257, 258, 600]);
+        let accepting = accepting(rng, states);
+        with_states(states, &accepting)
     } else {
         with_transitions(rng.within(2047, 2050))
     }
@@ -143,7 +163,7 @@ pub fn short(rng: &mut Rng) -> Vec<u8> {
 }
 
 /// A text with every piece of the grammar and every sort of space.
-const FULL: &str = "automaton\tP_1 {\r\n init p;\n p -> q [0, 007];\taccepting->p[8 ,9];\n q->p [ 4294967295,4294967295]; p -> q [0, 7];\n accepting q , p,none;\n};x";
+const FULL: &str = "automaton\tP_1 {\r\n init p;\n p -> q [0, 007];\taccepting->p[8 ,9];\n q->p [ 4294967295,4294967295]; p -> q [0, 7];\n accepting q , p,accepting;\n};x";
 
 /// The full text with one byte changed, one left out or one put in, and every prefix of it.
 pub fn edits() -> Vec<Vec<u8>> {
@@ -206,16 +226,30 @@ pub fn rules() -> Vec<Vec<u8>> {
     .to_vec();
     for name in [&long, &longer] {
         texts.push(format!("automaton {name} {{ init p; accepting p; }};"));
-        texts.push(format!("automaton A {{ init {name}; accepting p; }};"));
+        texts.push(format!("automaton A {{ init {name}; accepting {name}; }};"));
         texts.push(format!("automaton A {{ init p; {name} -> p [0, 9]; accepting p; }};"));
         texts.push(format!("automaton A {{ init p; p -> {name} [0, 9]; accepting p; }};"));
         texts.push(format!("automaton A {{ init p; accepting p, {name}; }};"));
         texts.push(format!("automaton A {{ init p; accepting p; }};{name}"));
     }
+    let names = |numbers: &[usize]| numbers.iter().map(|i| format!("s{i}")).collect::<Vec<_>>();
     for states in [255, 256, 257] {
-        texts.push(with_states(states));
-        texts.push(with_states(states) + " ;");
-        texts.push(with_states(states).replace("};", "} ;"));
+        let text = with_states(states, &names(&[0]));
+        texts.push(text.clone() + " ;");
+        texts.push(text.replace("};", "} ;"));
+        texts.push(text);
+        // The last state, and a name that none has: alone, first and last.
+        for accepting in [&[states - 1][..], &[states], &[states, 0], &[0, states]] {
+            texts.push(with_states(states, &names(accepting)));
+        }
+    }
+    // A name that no state has, before and behind 256 others, and all states.
+    let all: Vec<usize> = (0..600).collect();
+    texts.push(with_states(600, &names(&all)));
+    for at in [0, 255, 256, 257, 511, 512, 599] {
+        let mut accepting = all.clone();
+        accepting[at] = 600;
+        texts.push(with_states(600, &names(&accepting)));
     }
     for transitions in [2047, 2048, 2049] {
         texts.push(with_transitions(transitions));

@@ -5,6 +5,7 @@ pub mod Labelling
 pub mod Entering
 pub mod ReadInvariant
 pub mod Marking
+pub mod Spelling
 pub mod Reading
 pub mod Said
 pub mod Outcomes

@@ -3,7 +3,7 @@ use Prim.Native.Nat.{ℕ, zero, _≤_, _<_}
 use mathlib.Core.Bool.{Bool, true, false, cond, _||_}
 use mathlib.Core.List.{List, [], _∷_, map}
 use mathlib.Core.Logic.{⊎-elim}
-use mathlib.Core.Path.{_≡_, refl, sym, _∙_, ap}
+use mathlib.Core.Path.{_≡_, refl, sym, _∙_, ap, ap₂}
 use native.Mathlib.Omega.{arith}
 use borrow.Author.Needs.{needs}
 use borrow.Author.Tests.{lt-ltb, le-ltb, eqb-true, eqb-false}
@@ -16,10 +16,10 @@ use Rattle.grammar.specs.inner.Pieces.{nameOf}
 use Rattle.grammar.specs.declared.tokens.TextSpan.{TextSpan}
 use Rattle.grammar.specs.declared.tokens.NamePiece.{NamePiece}
 use Rattle.grammar.specs.declared.tokens.NamePiece.the-variants.{Read as NameRead, Nothing as NoName}
-use Rattle.grammar.proofs.Many.{names-ended, names-more, names-less, name-spelt}
+use Rattle.grammar.proofs.Many.{names-ended, names-more}
 use Rattle.lists.specs.Lists.{any, Distinct}
 use Rattle.lists.proofs.Tests.{test}
-use Rattle.lists.proofs.Index.{index-same, same-decides}
+use Rattle.lists.proofs.Index.{index-any, index-same, same-decides}
 use Rattle.lists.proofs.Lists.{map-at}
 use Rattle.labels.specs.Labels.{sameLabel}
 use Rattle.search.specs.Search.{index}
@@ -27,7 +27,7 @@ use Rattle.name_table.proofs.Finding.{names-count}
 use Rattle.parser.specs.inner.Accepts.{markOne, markAll}
 use Rattle.parser.specs.inner.Memory.{Zeros}
 use Rattle.parser.specs.inner.Names.{SpeltTable, namesIn}
-use Rattle.parser.specs.Pattern.{acceptWord}
+use Rattle.parser.specs.Pattern.{acceptWord, isAmong}
 
 -- the state's word is marked, or there is none
 module _ (t b : List ℕ) (n : ℕ) (k : SpeltTable t b n) (x : TextSpan) (ws : List ℕ) (i : ℕ) (e : i ≡ index sameLabel (spelled t x) (namesIn t b n)) where
@@ -39,10 +39,19 @@ module _ (t b : List ℕ) (n : ℕ) (k : SpeltTable t b n) (x : TextSpan) (ws : 
   unfolding markOne
   mark-set h = sym (rw (← e, names-count t b n, lt-ltb i n h))
 
+  among : isAmong (namesIn t b n) (spelled t x) ≡ ltb i n
+  among = index-any sameLabel (spelled t x) (namesIn t b n) ∙ ap₂ ltb (sym e) (names-count t b n)
+
+  pub among-not : n ≤ i → false ≡ isAmong (namesIn t b n) (spelled t x)
+  among-not h = sym (among ∙ le-ltb i n h)
+
+  pub among-is : i < n → true ≡ isAmong (namesIn t b n) (spelled t x)
+  among-is h = sym (among ∙ lt-ltb i n h)
+
   pub mark-room : length ws ≡ 256 → i < n → i < length ws
   mark-room g h = omega (arith, k .few)
 
-pub ruleset markLaws = (mark-none, mark-set, mark-room, length-set, needs)
+pub ruleset markLaws = (mark-none, mark-set, among-not, among-is, mark-room, length-set, needs)
 
 -- the words ws are marked up to the place, and p is what is read there
 module _ (t : List ℕ) (at : ℕ) (p : NamePiece) (told : nameOf p ≡ nextName t at) (ls : List (List ℕ)) (ws all : List ℕ)
@@ -54,8 +63,6 @@ module _ (t : List ℕ) (at : ℕ) (p : NamePiece) (told : nameOf p ≡ nextName
   pub marks-next : (x : TextSpan) (next : ℕ) → p ≡ NameRead x (record { at = next }) → (m : List ℕ) → m ≡ markOne t ls ws x → markAll t ls m (nextNames t next .items) ≡ all
   unfolding markAll
   marks-next x next h m q = sym (sym i ∙ ap (λ (k : Items TextSpan). markAll t ls ws (k .items)) (names-more t at p told x (record { at = next }) h) ∙ ap (λ (v : List ℕ). markAll t ls v (nextNames t next .items)) (sym q))
-
-pub ruleset marksLaws = (marks-ended, names-less, name-spelt, needs)
 
 pub marks-first : (t : List ℕ) (ls : List (List ℕ)) (ws m n : List ℕ) (x : TextSpan) (xs : List TextSpan) → m ≡ markOne t ls ws x → n ≡ markAll t ls m xs → n ≡ markAll t ls ws (x ∷ xs)
 unfolding markAll
@@ -105,7 +112,7 @@ module _ (t : List ℕ) (ls : List (List ℕ)) (d : Distinct ls) where
       either false false w = refl
 
   -- the words are those of the states
-  pub marks-words : (ws : List ℕ) (xs : List TextSpan) → Zeros 256 ws → length ls ≤ 256 → take (length ls) (markAll t ls ws xs) ≡ map (acceptWord (map (spelled t) xs)) ls
+  marks-words : (ws : List ℕ) (xs : List TextSpan) → Zeros 256 ws → length ls ≤ 256 → take (length ls) (markAll t ls ws xs) ≡ map (acceptWord (map (spelled t) xs)) ls
   unfolding acceptWord
   marks-words ws xs z g =
       let l : length (markAll t ls ws xs) ≡ 256 = marks-length ws xs ∙ z .long in
@@ -114,3 +121,17 @@ module _ (t : List ℕ) (ls : List (List ℕ)) (d : Distinct ls) where
       let k : j < length ls = omega arith in
       getD-take (length ls) (markAll t ls ws xs) j 0 k ∙ all-marks ws xs j (omega (arith, z .long)) k
       ∙ ap (cond (any (sameLabel (getD ls j [])) (map (spelled t) xs)) 1) (z .zero j) ∙ sym (map-at (acceptWord (map (spelled t) xs)) ls j [] 0 k)
+
+-- a table's names have some of the 256 words
+module _ (t b : List ℕ) (n : ℕ) (k : SpeltTable t b n) where
+  pub words-inside : (ws : List ℕ) → length ws ≡ 256 → n ≤ length ws
+  words-inside ws h = omega (arith, k .few)
+
+  pub words-counted : (ws : List ℕ) → length ws ≡ 256 → n ≡ length (take n ws)
+  words-counted ws h = sym (length-take-le n ws (words-inside ws h))
+
+  -- the names at the places xs are marked
+  pub words-marked : (us ws : List ℕ) (xs : List TextSpan) → Zeros 256 us → ws ≡ markAll t (namesIn t b n) us xs
+      → take n ws ≡ map (acceptWord (map (spelled t) xs)) (namesIn t b n)
+  words-marked us ws xs z h =
+      ap₂ take (sym (names-count t b n)) h ∙ marks-words t (namesIn t b n) (k .distinct) us xs z (omega (arith, names-count t b n, k .few))

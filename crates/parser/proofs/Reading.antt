@@ -1,15 +1,14 @@
 -- Laws of the outputs: the sheet and the labels are written, and the refusals come in their order.
 use Prim.Native.Nat.{ℕ, _-_, _*_, _/_, _≤_, _<_}
-use mathlib.Core.Bool.{Bool, true, false, _||_}
+use mathlib.Core.Bool.{Bool, true, false, cond, not, _||_}
 use mathlib.Core.List.{List, [], _∷_, _++_, map}
 use mathlib.Core.Logic.{⊎-elim}
-use mathlib.Core.Path.{_≡_, refl, sym, _∙_, ap, ap₂}
+use mathlib.Core.Path.{_≡_, refl, sym, _∙_, ap}
 use native.Mathlib.Omega.{arith}
 use borrow.Author.Needs.{needs}
-use borrow.Author.Tests.{le-ltb, lt-ltb}
+use borrow.Author.Tests.{le-ltb, lt-ltb, not-true, not-false}
 use lib.Dec.{ltb}
 use lib.ListN.{length, take, drop, length-map, length-take, length-drop}
-use lib.Seq.{length-take-le}
 use Rattle.grammar.specs.Grammar.{ReadResult, TextParts, nextNames}
 use Rattle.grammar.specs.Places.{spelled}
 use Rattle.grammar.specs.inner.Parts.{opening, closing, toldFrom}
@@ -30,6 +29,7 @@ use Rattle.automata.specs.Automaton.{Transition}
 use Rattle.automata.specs.Records.{writeRecords}
 use Rattle.automata.proofs.Records.{length-write}
 use Rattle.labels.specs.Labels.{writeLabels, sameLabel}
+use Rattle.lists.specs.Lists.{all}
 use Rattle.output.proofs.Answers.{room-lacking, room-enough, room-words, room-bytes}
 use Rattle.output.proofs.Collecting.{records-count}
 use Rattle.output.proofs.Halves.{inOrder-length}
@@ -37,27 +37,30 @@ use Rattle.output.specs.declared.gathering.Filled.{Filled}
 use Rattle.output.specs.inner.Ordered.{recordsIn}
 use Rattle.output.specs.inner.Gathering.{Held, Gathered, Collected, Settled}
 use Rattle.output.specs.Output.{Pattern, Outputs, statesFirst, transitionsFirst}
-use Rattle.refusal.specs.Answer.{given}
+use Rattle.refusal.specs.Answer.{Answer, refused, given}
+use Rattle.refusal.specs.Number.{numberOf}
+use Rattle.refusal.specs.declared.Refusal.{Refusal}
 use Rattle.refusal.specs.Outcome.{Outcome}
-use Rattle.refusal.specs.declared.InputRefusal.the-variants.{Grammar}
-use Rattle.refusal.specs.declared.StateRefusal.the-variants.{OutputLength, States, Transitions}
+use Rattle.refusal.specs.declared.InputRefusal.the-variants.{Grammar, AcceptingName}
+use Rattle.refusal.specs.declared.StateRefusal.the-variants.{OutputLength, Transitions}
 use Rattle.refusal.specs.declared.Refusal.the-variants.{Input, State}
 use Rattle.search.specs.Search.{meet}
 use Rattle.sheets.specs.Sheet.{write}
 use Rattle.syntax.specs.Spelled.{spell}
 use Rattle.name_table.proofs.Finding.{names-count}
 use Rattle.parser.specs.inner.Accepts.{markAll}
-use Rattle.parser.specs.inner.Arrows.{Fitting, ArrowsRead}
+use Rattle.parser.specs.inner.Arrows.{Fitting, ArrowsRead, allNames}
 use Rattle.parser.specs.inner.Memory.{Zeros}
 use Rattle.parser.specs.inner.Names.{SpeltTable, namesIn}
 use Rattle.parser.specs.Parsed.{ReadLengths, parsed, parsedOf}
 use Rattle.parser.specs.inner.Records.{Recorded}
-use Rattle.parser.specs.Pattern.{namesOf, statesOf, transitionOfMove, acceptWord, automatonOf, patternOf, fewTransitions, meant, meaning, readingAnswer, parseAnswer}
+use Rattle.parser.specs.Pattern.{namesOf, statesOf, transitionOfMove, acceptWord, automatonOf, patternOf, Reading}
+use Rattle.parser.specs.Pattern.{fewTransitions, withinLimits, isAmong, acceptsFirst, meant, meaning, readingAnswer, parseAnswer}
 use Rattle.parser.specs.inner.Places.{saidAt, movesAt, transitionsAt, patternAt}
 use Rattle.parser.specs.declared.Parsed.the-variants.{Read, Refused}
 use Rattle.parser.specs.declared.arrows.Arrows.{Arrows}
 use Rattle.parser.proofs.ReadInvariant.{below-or}
-use Rattle.parser.proofs.Marking.{marks-words}
+use Rattle.parser.proofs.Marking.{words-inside, words-counted, words-marked}
 use Rattle.parser.proofs.Tables.{added-table, added-names, added-full}
 
 -- the parts of a sheet, one behind the other
@@ -76,31 +79,36 @@ parsed-given o l o′ l′ n w k P p q =
 
 module _ (t : List ℕ) (l : Layout) (b : List ℕ) (i : ℕ) (k : SpeltTable t b i) where
   -- the accept words
-  words-marked : (vs ws : List ℕ) → Zeros 256 vs → ws ≡ markAll t (namesIn t b i) vs (l .first ∷ nextNames t (l .more .at) .items)
-      → take i ws ≡ map (acceptWord (map (spelled t) (l .first ∷ nextNames t (l .more .at) .items))) (namesIn t b i)
-  words-marked vs ws z h =
-      ap₂ take (sym (names-count t b i)) h ∙ marks-words t (namesIn t b i) (k .distinct) vs _ z (omega (arith, names-count t b i, k .few))
+  pub accepts-marked : (us ws : List ℕ) → Zeros 256 us → ws ≡ markAll t (namesIn t b i) us (l .first ∷ nextNames t (l .more .at) .items)
+      → take i ws ≡ map (acceptWord (saidAt t l .accepts)) (namesIn t b i)
+  unfolding spell
+  accepts-marked us ws z h = words-marked t b i k us ws _ z h
 
-  pub pattern-written : (us ws rs o o′ n n′ : List ℕ) (c w j : ℕ) → Zeros 256 us
-      → ws ≡ markAll t (namesIn t b i) us (l .first ∷ nextNames t (l .more .at) .items) → Recorded rs (transitionsAt t l (namesIn t b i)) →
-      Written o 0 (1 ∷ 0 ∷ length (take i ws) ∷ (take i ws ++ length rs / 5 ∷ rs)) o′ w → Written n 0 (writeLabels (namesIn t b i)) n′ j →
-      parsedOf (Read c w j) o′ n′ ≡ parsed o n (given (record { pattern = patternAt t l (namesIn t b i); read = c }))
+  pub pattern-written : (ws rs o o′ n n′ : List ℕ) (c w j : ℕ) → ws ≡ map (acceptWord (saidAt t l .accepts)) (namesIn t b i)
+      → Recorded rs (transitionsAt t l (namesIn t b i)) → Written o 0 (1 ∷ 0 ∷ length ws ∷ (ws ++ length rs / 5 ∷ rs)) o′ w
+      → Written n 0 (writeLabels (namesIn t b i)) n′ j
+      → parsedOf (Read c w j) o′ n′ ≡ parsed o n (given (record { pattern = patternAt t l (namesIn t b i); read = c }))
   unfolding automatonOf spell
-  pattern-written us ws rs o o′ n n′ c w j u h g p q =
-      let vs = map (acceptWord (map (spelled t) (l .first ∷ nextNames t (l .more .at) .items))) (namesIn t b i) in
+  pattern-written ws rs o o′ n n′ c w j x g p q =
       let es = transitionsAt t l (namesIn t b i) in
-      let x : take i ws ≡ vs = words-marked us ws u h in
-      let y : length vs ≡ length (namesIn t b i) = length-map (namesIn t b i) (acceptWord (map (spelled t) (l .first ∷ nextNames t (l .more .at) .items))) in
+      let y : length (map (acceptWord (saidAt t l .accepts)) (namesIn t b i)) ≡ length (namesIn t b i) = length-map (namesIn t b i) (acceptWord (saidAt t l .accepts)) in
       let z : length (writeRecords es) / 5 ≡ length es = omega (arith, length-write es) in
       parsed-given o n o′ n′ c w j (patternAt t l (namesIn t b i)) (rw (x, g .words, y, z) at p) q
 
--- as many words as names
-module _ (t b : List ℕ) (i : ℕ) (k : SpeltTable t b i) (ws : List ℕ) (h : length ws ≡ 256) where
-  pub words-counted : i ≡ length (take i ws)
-  words-counted = sym (length-take-le i ws (omega (arith, k .few)))
+  -- there are as many words as names
+  pub words-few : (ws : List ℕ) → ws ≡ map (acceptWord (saidAt t l .accepts)) (namesIn t b i) → length ws ≤ 256
+  words-few ws x = omega (arith, ap length x, length-map (namesIn t b i) (acceptWord (saidAt t l .accepts)), names-count t b i, k .few)
 
-  pub words-few : length (take i ws) ≤ 256
-  words-few = omega (arith, words-counted, k .few)
+  -- an accepting name is no state, or all are
+  module _ (r : Bool) (e : r ≡ all (isAmong (namesIn t b i)) (map (spelled t) (l .first ∷ nextNames t (l .more .at) .items))) where
+    pub over-33 : not r ≡ true → (o n : List ℕ) (a : Answer Reading) → parsedOf (Refused (Input AcceptingName)) o n ≡ parsed o n (acceptsFirst (saidAt t l .accepts) (namesIn t b i) a)
+    unfolding parsed acceptsFirst spell
+    over-33 h o n a = sym (rw (sym e ∙ not-true r h))
+
+    pub within-33 : not r ≡ false → (o n : List ℕ) (a : Answer Reading) (y : Outcome ReadLengths Outputs) → y ≡ parsed o n a
+        → y ≡ parsed o n (acceptsFirst (saidAt t l .accepts) (namesIn t b i) a)
+    unfolding acceptsFirst spell
+    within-33 h o n a y q = q ∙ sym (rw (sym e ∙ not-false r h))
 
 pub gathered-held : (buf : List ℕ) (sorted end : ℕ) (es : List Transition) → Gathered buf sorted end es → Held buf sorted end
 gathered-held buf sorted end es g = g .held
@@ -134,6 +142,19 @@ module _ (t : List ℕ) (l : Layout) (ls : List (List ℕ)) (old : List ℕ) (f 
     unfolding fewTransitions transitionsFirst automatonOf spell
     within-22 o n c x q = q ∙ sym (rw (le-ltb 2048 (length (transitionsAt t l ls)) (omega (arith, a .listed h .behind, a .memory .most))))
 
+-- the refusal of a text with over 256 states
+module _ (t : List ℕ) (l : Layout) (r : Bool)
+    (e : r ≡ all (isAmong (allNames t (l .arrows .at) (spelled t (l .initial) ∷ []))) (map (spelled t) (l .first ∷ nextNames t (l .more .at) .items))) where
+  asked : all (isAmong (statesOf (saidAt t l))) (saidAt t l .accepts) ≡ r
+  unfolding statesOf allNames spell
+  asked = sym e
+
+  pub states-21 : r ≡ true → _≡_ {A = ℕ} 21 (cond (all (isAmong (statesOf (saidAt t l))) (saidAt t l .accepts)) 21 33)
+  states-21 h = sym (rw (asked ∙ h))
+
+  pub states-33 : r ≡ false → _≡_ {A = ℕ} 33 (cond (all (isAmong (statesOf (saidAt t l))) (saidAt t l .accepts)) 21 33)
+  states-33 h = sym (rw (asked ∙ h))
+
 -- 8, 21, or what follows: the initial state is x, the transitions go on from arrows, r is what was read of them and q what closes the text
 module _ (t : List ℕ) (x : TextSpan) (arrows : Cursor) (b buf : List ℕ) (r : Arrows) (a : ArrowsRead t (arrows .at) (spelled t x ∷ []) b buf r)
     (q : AcceptingPiece) (told : acceptingOf t q ≡ closing t (r .behind .at)) where
@@ -155,9 +176,20 @@ module _ (t : List ℕ) (x : TextSpan) (arrows : Cursor) (b buf : List ℕ) (r :
     unfolding statesOf spell
     said-states = refl
 
-    pub over-21 : r .added ≡ Full → (o n : List ℕ) → parsedOf (Refused (State States)) o n ≡ parsed o n (meaning t (toldFrom t x (arrows .at)))
-    unfolding parsed meant statesFirst patternOf automatonOf
-    over-21 f o n = sym (ap (parsed o n) closed ∙ rw (lt-ltb 256 (length (statesOf (saidAt t l))) (omega (arith, ap length said-states, added-full _ _ b (r .added) (a .names) f))))
+    many-states : r .added ≡ Full → meant (saidAt t l) (c .at) ≡ refused (cond (all (isAmong (statesOf (saidAt t l))) (saidAt t l .accepts)) 21 33)
+    unfolding meant acceptsFirst withinLimits statesFirst patternOf automatonOf
+    many-states f =
+        rw (lt-ltb 256 (length (statesOf (saidAt t l))) (omega (arith, ap length said-states, added-full _ _ b (r .added) (a .names) f)))
+        (either (all (isAmong (statesOf (saidAt t l))) (saidAt t l .accepts)))
+      where
+        either : (u : Bool) → _≡_ {A = Answer Reading} (cond u (refused 21) (refused 33)) (refused (cond u 21 33))
+        either true = refl
+        either false = refl
+
+    pub over-21 : r .added ≡ Full → (v : Refusal) → numberOf v ≡ cond (all (isAmong (statesOf (saidAt t l))) (saidAt t l .accepts)) 21 33
+        → (o n : List ℕ) → parsedOf (Refused v) o n ≡ parsed o n (meaning t (toldFrom t x (arrows .at)))
+    unfolding parsed
+    over-21 f v e o n = ap (λ (k : ℕ). parsed o n (refused k)) e ∙ sym (ap (parsed o n) (closed ∙ many-states f))
 
     module _ (i : ℕ) (f : r .added ≡ Kept i) where
       names-states : namesIn t b i ≡ statesOf (saidAt t l)
@@ -172,12 +204,13 @@ module _ (t : List ℕ) (x : TextSpan) (arrows : Cursor) (b buf : List ℕ) (r :
       pub states-fitting : Fitting buf (r .filled)
       states-fitting = a .fitting i f
 
-      pub within-21 : (o n : List ℕ) (y : Outcome ReadLengths Outputs) → y ≡ parsed o n (fewTransitions (patternAt t (record { initial = x; arrows = arrows; first = first; more = more }) (namesIn t b i)) (c .at))
+      pub within-21 : (o n : List ℕ) (y : Outcome ReadLengths Outputs)
+          → y ≡ parsed o n (acceptsFirst (saidAt t l .accepts) (namesIn t b i) (fewTransitions (patternAt t l (namesIn t b i)) (c .at)))
           → y ≡ parsed o n (meaning t (toldFrom t x (arrows .at)))
-      unfolding meant statesFirst patternOf automatonOf
+      unfolding meant withinLimits statesFirst patternOf automatonOf
       within-21 o n y z =
           let m : length (statesOf (saidAt t l)) ≤ 256 = omega (arith, ap length names-states, names-count t b i, states-table .few) in
-          z ∙ ap (λ (ls : List (List ℕ)). parsed o n (fewTransitions (patternAt t l ls) (c .at))) names-states
+          z ∙ ap (λ (ls : List (List ℕ)). parsed o n (acceptsFirst (saidAt t l .accepts) ls (fewTransitions (patternAt t l ls) (c .at)))) names-states
           ∙ sym (ap (parsed o n) closed ∙ rw (le-ltb 256 (length (statesOf (saidAt t l))) m))
 
 -- 20, 8, or what follows
@@ -195,7 +228,7 @@ module _ (t o n : List ℕ) (f : Bool) (room : f ≡ (ltb (length o) 10500 || lt
     unfolding readingAnswer parseAnswer
     text-read x c e y q = q ∙ sym (ap (parsed o n) (room-enough o n (readingAnswer t) f room h ∙ ap (meaning t) (opens-found t p told x c e)))
 
-pub ruleset recordedLaws = (over-22, few-22, within-22, gathered-held, needs)
+pub ruleset recordedLaws = (over-33, within-33, accepts-marked, words-inside, words-counted, over-22, few-22, within-22, gathered-held, needs)
 
 pub ruleset closedLaws = (open-8, laid, over-21, states-table, states-gathered, states-fitting, within-21, needs)
 

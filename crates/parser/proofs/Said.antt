@@ -1,18 +1,20 @@
 -- Laws of what a text says and means: its names are labels, the names of its states are all different, and its automaton is well-formed.
 use Prim.Native.Nat.{ℕ, zero, suc, _≤_, _<_}
-use mathlib.Core.Bool.{Bool, true, false, cond}
+use mathlib.Core.Bool.{Bool, true, false, cond, true≢false}
 use mathlib.Core.List.{List, [], _∷_, map, List·Memᴰ·head, List·Memᴰ·tail, List·Memᴰ·eq-of-singleton}
 use mathlib.Core.Logic.{_⊎_, inl, inr, ⊎-elim}
-use mathlib.Core.Path.{_≡_, refl, sym, subst}
+use mathlib.Core.Path.{_≡_, refl, sym, _∙_, subst}
 use native.Mathlib.Omega.{arith}
 use borrow.Author.Tests.{ltb-true, ltb-false}
 use lib.Dec.{ltb}
 use lib.ListN.{length, getD, length-map}
-use Rattle.lists.specs.Lists.{_∈_, any, Distinct}
+use Rattle.lists.specs.Lists.{_∈_, any, all, Distinct}
 use Rattle.lists.specs.Lists as lists
-use Rattle.lists.proofs.Every.{flat-in, flat-out}
+use Rattle.lists.proofs.Every.{all-out, all-not, flat-in, flat-out}
 use Rattle.lists.proofs.Index.{index-lt, index-at, index-place, same-decides}
+use Rattle.lists.proofs.Lists.{any-in, any-out}
 use Rattle.lists.proofs.Members.{map-out}
+use Rattle.lists.proofs.Tests.{test}
 use Rattle.automata.specs.Automaton.{Transition}
 use Rattle.automata.specs.WellFormed.{Sound, WellFormed}
 use Rattle.automata.proofs.Ordered.{inOrder-out, inOrder-ascending}
@@ -26,7 +28,8 @@ use Rattle.search.proofs.Tables.{extends-in, extends-length, meet-extends, meet
 use Rattle.syntax.specs.Syntax as syntax
 use Rattle.syntax.specs.Syntax.{Name, named, Move, Said, Text, says}
 use Rattle.parser.specs.Moves.{IsMove}
-use Rattle.parser.specs.Pattern.{bothNames, namesOf, statesOf, transitionOfMove, acceptWord, automatonOf, patternOf, fewTransitions, meant}
+use Rattle.parser.specs.Pattern.{bothNames, namesOf, statesOf, transitionOfMove, acceptWord, automatonOf, patternOf, fewTransitions, withinLimits, isAmong, acceptsFirst, meant}
+use Rattle.parser.specs.Misspelt.{Misspelt}
 
 -- a name is a label
 name-label : {x : List ℕ} → Name x → Label x
@@ -161,18 +164,36 @@ module _ (s : Said) where
     unfolding patternOf automatonOf
     said-writable a b = record { well = said-well; fits = record { few-states = a; few-transitions = b }; labels = labels-states; each = refl }
 
+-- every accepting name is a state, or one is not
+module _ (s : Said) where
+  misspelt-out : all (isAmong (statesOf s)) (s .accepts) ≡ false → Misspelt s
+  misspelt-out e = let (a, i, n) = all-not (isAmong (statesOf s)) (s .accepts) e in (a, i, λ m. true≢false (sym (any-in (sameLabel a) m (same-decides .same-self a)) ∙ n))
+
+  spelt-out : all (isAmong (statesOf s)) (s .accepts) ≡ true → Misspelt s → ⊥
+  spelt-out e (a, i, n) =
+      let (y, m, t) = any-out (sameLabel a) (statesOf s) (all-out (isAmong (statesOf s)) i e) in
+      n (subst (λ (z : List ℕ). z ∈ statesOf s) (sym (same-decides .same-eq a y t)) m)
+
+  pub spelt-in : (Misspelt s → ⊥) → all (isAmong (statesOf s)) (s .accepts) ≡ true
+  spelt-in n = ⊎-elim (λ t. t) (λ (t : all (isAmong (statesOf s)) (s .accepts) ≡ false). absurd (n (misspelt-out t))) (test (all (isAmong (statesOf s)) (s .accepts)))
+
 -- the refusals of what a text means, in their order
 module _ (s : Said) (n : ℕ) where
   pub data Limits : Type 0 where
-    many-states : 256 < length (statesOf s) → meant s n ≡ refused 21 → Limits
-    many-transitions : length (statesOf s) ≤ 256 → 2048 < length (automatonOf s (statesOf s) .transitions) → meant s n ≡ refused 22 → Limits
-    few : length (statesOf s) ≤ 256 → length (automatonOf s (statesOf s) .transitions) ≤ 2048 → meant s n ≡ given (record { pattern = patternOf s; read = n }) → Limits
+    no-state : Misspelt s → meant s n ≡ refused 33 → Limits
+    many-states : (Misspelt s → ⊥) → 256 < length (statesOf s) → meant s n ≡ refused 21 → Limits
+    many-transitions : (Misspelt s → ⊥) → length (statesOf s) ≤ 256 → 2048 < length (automatonOf s (statesOf s) .transitions) → meant s n ≡ refused 22 → Limits
+    few : (Misspelt s → ⊥) → length (statesOf s) ≤ 256 → length (automatonOf s (statesOf s) .transitions) ≤ 2048
+        → meant s n ≡ given (record { pattern = patternOf s; read = n }) → Limits
 
   pub limits : Limits
-  unfolding meant statesFirst fewTransitions transitionsFirst patternOf automatonOf
-  limits = go (ltb 256 (length (statesOf s))) (ltb 2048 (length (automatonOf s (statesOf s) .transitions))) refl refl
+  unfolding meant acceptsFirst withinLimits statesFirst fewTransitions transitionsFirst patternOf automatonOf
+  limits =
+      go (all (isAmong (statesOf s)) (s .accepts)) (ltb 256 (length (statesOf s))) (ltb 2048 (length (automatonOf s (statesOf s) .transitions))) refl refl refl
     where
-      go : (c d : Bool) → ltb 256 (length (statesOf s)) ≡ c → ltb 2048 (length (automatonOf s (statesOf s) .transitions)) ≡ d → Limits
-      go true d p q = many-states (ltb-true _ _ p) (rw p)
-      go false true p q = many-transitions (ltb-false _ _ p) (ltb-true _ _ q) (rw (p, q))
-      go false false p q = few (ltb-false _ _ p) (ltb-false _ _ q) (rw (p, q))
+      go : (b c d : Bool) → all (isAmong (statesOf s)) (s .accepts) ≡ b → ltb 256 (length (statesOf s)) ≡ c
+          → ltb 2048 (length (automatonOf s (statesOf s) .transitions)) ≡ d → Limits
+      go false c d o p q = no-state (misspelt-out s o) (rw o)
+      go true true d o p q = many-states (spelt-out s o) (ltb-true _ _ p) (rw (o, p))
+      go true false true o p q = many-transitions (spelt-out s o) (ltb-false _ _ p) (ltb-true _ _ q) (rw (o, p, q))
+      go true false false o p q = few (spelt-out s o) (ltb-false _ _ p) (ltb-false _ _ q) (rw (o, p, q))

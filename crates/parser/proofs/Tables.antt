@@ -23,7 +23,6 @@ use Rattle.name_table.proofs.Adding as Adding
 use Rattle.search.specs.Search.{index, add, meet}
 use Rattle.search.proofs.Tables.{meet-out}
 use Rattle.name_table.proofs.Finding.{names-count}
-use Rattle.parser.specs.inner.Memory.{Zeros}
 use Rattle.parser.specs.inner.Names.{spanAt, namesIn, SpeltTable, SpeltAddition, kept, full}
 
 -- a name of a text is a label
@@ -75,8 +74,8 @@ unfolding namesIn tabulate
 nowhere text t x m = List·Memᴰ·not-nil m
 
 -- a table without names
-pub table-none : (text t : List ℕ) → Zeros 1024 t → SpeltTable text t 0
-table-none text t e = labels-table text t 0 (Adding.table-none text t (e .long)) (λ x m. absurd (nowhere text t x m))
+pub table-none : (text t : List ℕ) → length t ≡ 1024 → SpeltTable text t 0
+table-none text t e = labels-table text t 0 (Adding.table-none text t e) (λ x m. absurd (nowhere text t x m))
 
 -- a name is added to a table
 module _ (text t : List ℕ) (n : ℕ) (k : SpeltTable text t n) (x : TextSpan) (p : Spelt text x) (u : List ℕ) (r : Added)

@@ -2,4 +2,5 @@
 pub mod Pattern
 pub mod Parsed
 pub mod Moves
+pub mod Misspelt
 pub mod inner

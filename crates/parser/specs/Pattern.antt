@@ -1,14 +1,14 @@
--- What a text means, by what it says (document 01, "Beside the equality"): states number by appearance, the initial one first; a repeated transition
--- counts once; accepting names that no state has are dropped. The automaton's own name is not kept.
+-- What a text means, by what it says (document 01, "Beside the equality"; document 02, M-101): states number by appearance, the initial one first; a
+-- repeated transition counts once; an accepting name that is no state is refused. The automaton's own name is not kept.
 use Prim.Native.Nat.{ℕ}
-use mathlib.Core.Bool.{cond}
+use mathlib.Core.Bool.{Bool, cond}
 use mathlib.Core.List.{List, [], _∷_, map, flatMap}
 use lib.ListN.{length}
 use Rattle.automata.specs.Automaton.{Transition, Automaton}
 use Rattle.automata.specs.Ordered.{inOrder}
 use Rattle.grammar.specs.Grammar.{ReadResult, nothing, found, TextParts, wholeText}
 use Rattle.labels.specs.Labels.{sameLabel}
-use Rattle.lists.specs.Lists.{any}
+use Rattle.lists.specs.Lists.{any, all}
 use Rattle.output.specs.Output.{Pattern, roomFirst, statesFirst, transitionsFirst}
 use Rattle.refusal.specs.Answer.{Answer, refused, given}
 use Rattle.search.specs.Search.{index, meet}
@@ -57,9 +57,21 @@ pub record Reading : Type 0 where
 unfoldable pub fewTransitions : Pattern → ℕ → Answer Reading
 fewTransitions P n = transitionsFirst (P .automaton) (given (record { pattern = P; read = n }))
 
--- what a text of n bytes means that says s: 21 where there are over 256 states, then 22, or else the pattern
+-- 21 where the text of n bytes that says s has over 256 states, then 22, or else the pattern; accepting names that are no states count for nothing
+unfoldable pub withinLimits : Said → ℕ → Answer Reading
+withinLimits s n = statesFirst (patternOf s .automaton) (fewTransitions (patternOf s) n)
+
+-- l is one of the names ls
+abbrev pub isAmong : List (List ℕ) → List ℕ → Bool
+isAmong ls l = any (sameLabel l) ls
+
+-- 33 where one of the accepting names is no state, by the names ls of the states
+unfoldable pub acceptsFirst : {X : Type 0} → List (List ℕ) → List (List ℕ) → Answer X → Answer X
+acceptsFirst accepts ls a = cond (all (isAmong ls) accepts) a (refused 33)
+
+-- what a text of n bytes means that says s: 33, then 21 and 22, or else the pattern
 unfoldable pub meant : Said → ℕ → Answer Reading
-meant s n = statesFirst (patternOf s .automaton) (fewTransitions (patternOf s) n)
+meant s n = acceptsFirst (s .accepts) (statesOf s) (withinLimits s n)
 
 -- 8 where no text is found, or else the answer for its parts and its length
 abbrev pub textFirst : {X : Type 0} → ReadResult TextParts → (TextParts → ℕ → Answer X) → Answer X
@@ -74,6 +86,6 @@ meaning t f = textFirst f (λ g n. meant (spell t g) n)
 unfoldable pub readingAnswer : List ℕ → Answer Reading
 readingAnswer t = meaning t (wholeText t)
 
--- the same into the outputs o and l: 20, then 8, 21 and 22
+-- the same into the outputs o and l: 20, then 8, 33, 21 and 22
 unfoldable pub parseAnswer : List ℕ → List ℕ → List ℕ → Answer Reading
 parseAnswer t o l = roomFirst o l (readingAnswer t)

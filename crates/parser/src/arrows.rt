@@ -8,7 +8,6 @@ ghost use Rattle.grammar.specs.inner.Places.{Spelt, Drawn};
 ghost use Rattle.output.specs.inner.Gathering.{Memory, Held};
 ghost use Rattle.syntax.specs.Spelled.{spellMove};
 ghost use Rattle.parser.specs.inner.Arrows.{Entering, Noting, ArrowNoting, Beginning, Continuing};
-ghost use Rattle.parser.specs.inner.Memory.{Zeros};
 ghost use Rattle.parser.specs.inner.Names.{SpeltTable, namesIn};
 use grammar::Arrow;
 use grammar::ArrowPiece;
@@ -128,7 +127,7 @@ fn read_first(text: &[u8], c: Cursor, t: &mut [usize], n: usize, buf: &mut [u32]
 
 // The same behind the name of the initial state, which comes first.
 pub fn read_states(text: &[u8], x: TextSpan, c: Cursor, t: &mut [usize], buf: &mut [u32]) -> Begun
-    requires { ⌜ Spelt (now text) x × Zeros 1024 (now t) × Memory (now buf) ⌝ }
+    requires { ⌜ Spelt (now text) x × (length (now t) ≡ 1024) × Memory (now buf) ⌝ }
     ensures { λ r. ⌜ Beginning (now (text .entry)) (c .at) (spelled (now (text .entry)) x ∷ []) (now (t .exit)) (now (buf .exit)) r ⌝ }
 {
     let Added::Kept(n) = crate::names::add_name(text, t, 0, x) else {

@@ -1,4 +1,5 @@
 // Reading a pattern from its text: its parts in order, with the states and the transitions on the way, and only then the outputs.
+ghost use mathlib.Core.Bool.{cond};
 ghost use mathlib.Core.List.{[], _∷_, _++_, map};
 ghost use mathlib.Core.Path.{_≡_};
 ghost use Prim.Native.Nat.{_+_, _/_, _≤_, _<_};
@@ -9,14 +10,16 @@ ghost use Rattle.grammar.specs.inner.Places.{Spelt, Laid};
 ghost use Rattle.labels.specs.Labels.{entry, writeLabels};
 ghost use Rattle.stores.specs.Written.{Written};
 ghost use Rattle.output.specs.inner.Gathering.{Memory, Gathered};
+ghost use Rattle.lists.specs.Lists.{all};
 ghost use Rattle.refusal.specs.Answer.{given};
+ghost use Rattle.refusal.specs.Number.{numberOf};
 ghost use Rattle.parser.specs.inner.Arrows.{Fitting, ArrowsRead, StoppedAt};
 ghost use Rattle.parser.specs.inner.Memory.{Zeros};
 ghost use Rattle.parser.specs.inner.Names.{spanAt, namesIn, SpeltTable};
 ghost use Rattle.parser.specs.inner.Records.{Recorded};
 ghost use Rattle.parser.specs.Parsed.{parsedOf, parsed};
-ghost use Rattle.parser.specs.Pattern.{transitionOfMove, fewTransitions, meaning, parseAnswer};
-ghost use Rattle.parser.specs.inner.Places.{movesAt, transitionsAt, patternAt};
+ghost use Rattle.parser.specs.Pattern.{statesOf, transitionOfMove, acceptWord, fewTransitions, isAmong, acceptsFirst, meaning, parseAnswer};
+ghost use Rattle.parser.specs.inner.Places.{saidAt, movesAt, transitionsAt, patternAt};
 ghost use Rattle.output.specs.Output.{labelsSize, sheetSize};
 use arrows::Arrows;
 use arrows::Begun;
@@ -77,7 +80,7 @@ fn write_labels(names: &mut [u8], text: &[u8], t: &[usize], n: usize) -> usize
     at
 }
 
-// The outputs of a text whose names and records are known.
+// The outputs of a text whose names, records and accept words are known.
 fn write_pattern(
     text: &[u8],
     l: Layout,
@@ -85,22 +88,21 @@ fn write_pattern(
     t: &[usize],
     n: usize,
     records: &[u32],
-    words: &mut [u32],
+    words: &[u32],
     out: &mut [u32],
     names: &mut [u8],
 ) -> Parsed
-    requires { ⌜ SpeltTable (now text) (now t) n × Laid (now text) l ⌝ }
-    requires { ⌜ Recorded (now records) (transitionsAt (now text) l (namesIn (now text) (now t) n)) × Zeros 256 (now words) ⌝ }
+    requires { ⌜ SpeltTable (now text) (now t) n ⌝ }
+    requires { ⌜ Recorded (now records) (transitionsAt (now text) l (namesIn (now text) (now t) n)) × (now words ≡ map (acceptWord (saidAt (now text) l .accepts)) (namesIn (now text) (now t) n)) ⌝ }
     requires { ⌜ (sheetSize ≤ length (now out)) × (labelsSize ≤ length (now names)) ⌝ }
     ensures { λ r. ⌜ parsedOf r (now (out .exit)) (now (names .exit)) ≡ parsed (now (out .entry)) (now (names .entry)) (given (record { pattern = patternAt (now (text .entry)) l (namesIn (now (text .entry)) (now (t .entry)) n); read = c .at })) ⌝ }
 {
-    accepts::mark_names(text, l.first, l.more, t, n, words);
-    let w = write_sheet(out, &words[..n], records);
+    let w = write_sheet(out, words, records);
     let k = write_labels(names, text, t, n);
     Parsed::Read(c.at, w, k)
 }
 
-// The outputs of a text whose names are known and whose records are gathered, or 22.
+// The outputs of a text whose names are known and whose records are gathered, or 33 or 22.
 fn with_names(
     text: &[u8],
     l: Layout,
@@ -117,17 +119,31 @@ fn with_names(
     requires { ⌜ Fitting (now buf) f ⌝ }
     requires { ⌜ Gathered (now buf) (f .sorted) (f .end) (map (transitionOfMove (namesIn (now text) (now t) n)) (movesAt (now text) (l .arrows .at))) × Zeros 256 (now words) ⌝ }
     requires { ⌜ (sheetSize ≤ length (now out)) × (labelsSize ≤ length (now names)) ⌝ }
-    ensures { λ r. ⌜ parsedOf r (now (out .exit)) (now (names .exit)) ≡ parsed (now (out .entry)) (now (names .entry)) (fewTransitions (patternAt (now (text .entry)) l (namesIn (now (text .entry)) (now (t .entry)) n)) (c .at)) ⌝ }
+    ensures { λ r. ⌜ parsedOf r (now (out .exit)) (now (names .exit)) ≡ parsed (now (out .entry)) (now (names .entry)) (acceptsFirst (saidAt (now (text .entry)) l .accepts) (namesIn (now (text .entry)) (now (t .entry)) n) (fewTransitions (patternAt (now (text .entry)) l (namesIn (now (text .entry)) (now (t .entry)) n)) (c .at))) ⌝ }
 {
+    if !accepts::mark_names(text, l.first, l.more, t, n, words) {
+        return Parsed::Refused(Refusal::Input(InputRefusal::AcceptingName));
+    }
     let last = output::collect_records(buf, f);
     if buf.len() / 9 * 8 < last {
         return Parsed::Refused(Refusal::State(StateRefusal::Transitions));
     }
-    write_pattern(text, l, c, t, n, &buf[0..last], words, out, names)
+    write_pattern(text, l, c, t, n, &buf[0..last], &words[..n], out, names)
 }
 
-// The outputs of a text whose initial state is x and whose transitions, from the cursor arrows on, were read, or 8, 21 or 22: the text is read to its end
-// before it is said that there are too many states or transitions.
+// The refusal of a text with over 256 states: 33 or 21.
+fn over_states(text: &[u8], l: Layout) -> Refusal
+    requires { ⌜ Laid (now text) l ⌝ }
+    ensures { λ r. ⌜ numberOf r ≡ cond (all (isAmong (statesOf (saidAt (now (text .entry)) l))) (saidAt (now (text .entry)) l .accepts)) 21 33 ⌝ }
+{
+    if accepts::are_states(text, l.initial, l.arrows, l.first, l.more) {
+        return Refusal::State(StateRefusal::States);
+    }
+    Refusal::Input(InputRefusal::AcceptingName)
+}
+
+// The outputs of a text whose initial state is x and whose transitions, from the cursor arrows on, were read, or 8, 33, 21 or 22: the text is read to its
+// end before it is said that an accepting name is no state, or that there are too many states or transitions.
 fn with_read(
     text: &[u8],
     x: TextSpan,
@@ -146,15 +162,15 @@ fn with_read(
     let AcceptingPiece::Read(first, more, c) = grammar::closing(text, read.behind) else {
         return Parsed::Refused(Refusal::Input(InputRefusal::Grammar));
     };
-    let added = read.added;
-    let Added::Kept(n) = added else {
-        return Parsed::Refused(Refusal::State(StateRefusal::States));
-    };
     let l = Layout {
         initial: x,
         arrows,
         first,
         more,
+    };
+    let added = read.added;
+    let Added::Kept(n) = added else {
+        return Parsed::Refused(over_states(text, l));
     };
     with_names(text, l, c, t, n, buf, read.filled, words, out, names)
 }
@@ -200,7 +216,7 @@ fn with_tables(
     out: &mut [u32],
     names: &mut [u8],
 ) -> Parsed
-    requires { ⌜ Spelt (now text) x × Zeros 1024 (now t) × Memory (now buf) × Zeros 256 (now words) ⌝ }
+    requires { ⌜ Spelt (now text) x × (length (now t) ≡ 1024) × Memory (now buf) × Zeros 256 (now words) ⌝ }
     requires { ⌜ (sheetSize ≤ length (now out)) × (labelsSize ≤ length (now names)) ⌝ }
     ensures { λ r. ⌜ parsedOf r (now (out .exit)) (now (names .exit)) ≡ parsed (now (out .entry)) (now (names .entry)) (meaning (now (text .entry)) (toldFrom (now (text .entry)) x (arrows .at))) ⌝ }
 {

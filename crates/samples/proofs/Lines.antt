@@ -3,7 +3,7 @@ use Prim.Native.Nat.{ℕ}
 use mathlib.Core.List.{List, [], _∷_, _++_, flatMap}
 use mathlib.Core.Path.{_≡_, ap, subst}
 use native.Mathlib.Omega.{arith}
-use Rattle.lists.specs.Lists.{any}
+use Rattle.lists.specs.Lists.{any, all}
 use Rattle.automata.specs.Ordered.{insert, inOrder}
 use Rattle.automata.specs.Records.{readRecords}
 use Rattle.automata.specs.WellFormed.{WellFormed, lastSymbol}
@@ -17,7 +17,7 @@ use Rattle.labels.specs.Labels.{sameLabel}
 use Rattle.grammar.specs.Bytes.{isSpace, isLetter, isNameByte}
 use Rattle.grammar.specs.Grammar.{follow, run, space, neededSpace, begins, token, name, number, ends, range}
 use Rattle.grammar.specs.Grammar.{target, transition, initial, nextName, many, transitions, nextNames, accepting, heading, ending, wholeText}
-use Rattle.parser.specs.Pattern.{namesOf, statesOf, acceptWord, automatonOf, patternOf, fewTransitions, meant, readingAnswer}
+use Rattle.parser.specs.Pattern.{namesOf, statesOf, acceptWord, automatonOf, patternOf, fewTransitions, withinLimits, acceptsFirst, meant, readingAnswer}
 use Rattle.syntax.specs.Examples.{text-a, text-b, text-c}
 use Rattle.syntax.specs.Spelled.{spell}
 use Rattle.refusal.specs.Answer.{Answer, given}
@@ -43,7 +43,7 @@ are-compared :
     × (verdictAnswer 0 lastSymbol (text-a ++ 32 ∷ text-c) ≡ given apart)
 unfolding follow isSpace isLetter isDigit isNameByte run space neededSpace begins token name valueAfter number ends range target transition initial
     nextName many transitions nextNames accepting heading ending wholeText spell sameLabel index add meet flatMap namesOf statesOf any acceptWord automatonOf
-    patternOf fewTransitions meant statesFirst transitionsFirst readingAnswer insert inOrder readRecords twoTexts withSecondText withFirstText
+    patternOf all fewTransitions withinLimits acceptsFirst meant statesFirst transitionsFirst readingAnswer insert inOrder readRecords twoTexts withSecondText withFirstText
     verdictAnswer
 are-compared = (
   determinized-both 0 lastSymbol (read A) (read B) DA DB (determinized .0) (determinized .1),

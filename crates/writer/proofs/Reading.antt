@@ -20,6 +20,7 @@ use Rattle.automata.proofs.Ordered.{inOrder-in}
 use Rattle.automata.proofs.States.{states-in, states-out, length-states}
 use Rattle.labels.specs.Labels.{sameLabel}
 use Rattle.output.specs.Output.{Pattern, labelOf}
+use Rattle.parser.specs.Misspelt.{Misspelt}
 use Rattle.parser.specs.Pattern.{namesOf, statesOf, transitionOfMove, automatonOf, patternOf}
 use Rattle.parser.proofs.Said.{origin}
 use Rattle.parser.proofs.Theorems.{parse-start, parse-states, parse-labels-distinct, parse-numbered, parse-accept}
@@ -66,6 +67,10 @@ module _ (P : Pattern) where
       (⊎-elim (λ e. inl (ap (labelOf P) e))
       (λ (d, m, k). inr (moveOf P d, map-in (moveOf P) m, ⊎-elim (λ e. inl (ap (labelOf P) e)) (λ e. inr (ap (labelOf P) e)) k))
       (written-cases q (w .1)))
+
+  -- and so is every accepting name
+  pub accepts-spelt : Misspelt (saidOf P) → ⊥
+  accepts-spelt (a, i, n) = let (q, j, e) = map-out (labelOf P) (acceptingStates (P .automaton)) a i in n (rw e (written-named q (accepting-out q j .0)))
 
   -- the names in order of appearance are the labels of the states in that order
   moves-named : (es : List Transition) → namesOf (map (moveOf P) es) ≡ map (labelOf P) (flatMap (λ e. e .from ∷ e .to ∷ []) es)

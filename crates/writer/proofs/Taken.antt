@@ -14,8 +14,9 @@ use Rattle.lists.proofs.Tests.{test}
 use Rattle.automata.specs.Automaton.{Transition, InBounds}
 use Rattle.output.specs.Output.{Pattern, labelOf}
 use Rattle.output.proofs.Halves.{inOrder-length}
+use Rattle.parser.specs.Misspelt.{Misspelt}
 use Rattle.parser.specs.Pattern.{statesOf, transitionOfMove, automatonOf, patternOf, meant, meaning, readingAnswer}
-use Rattle.parser.proofs.Said.{Limits, many-states, many-transitions, few, limits}
+use Rattle.parser.proofs.Said.{Limits, no-state, many-states, many-transitions, few, limits}
 use Rattle.refusal.specs.Answer.{given}
 use Rattle.syntax.specs.Syntax.{Name, Said, Text}
 use Rattle.syntax.proofs.Theorems.{complete}
@@ -24,21 +25,22 @@ use Rattle.writer.specs.ReadBack.{OfSheet, WrittenState, ReadBack}
 use Rattle.writer.specs.Refusals.{SomeEpsilon, SomeAccepting, Unfit}
 use Rattle.writer.proofs.Conditions.{name-is}
 use Rattle.writer.proofs.Derived.{WritableTransition, name-of, moveOf, saidOf, by-names}
-use Rattle.writer.proofs.Reading.{accepting-in, accepting-out, few-names, read-back}
+use Rattle.writer.proofs.Reading.{accepting-in, accepting-out, accepts-spelt, few-names, read-back}
 use Rattle.writer.proofs.Words.{start-written, from-written, to-written}
 
--- a text within the limits is read to its end
-text-read : (t : List ℕ) (s : Said) → Text t s → length (statesOf s) ≤ 256 → length (automatonOf s (statesOf s) .transitions) ≤ 2048
+-- a text within the limits whose accepting names are states is read to its end
+text-read : (t : List ℕ) (s : Said) → Text t s → (Misspelt s → ⊥) → length (statesOf s) ≤ 256 → length (automatonOf s (statesOf s) .transitions) ≤ 2048
     → readingAnswer t ≡ given (record { pattern = patternOf s; read = length t })
 unfolding readingAnswer
-text-read t s x m k =
+text-read t s x n m k =
     let (g, e, f) = complete (record { text = x; rest = []; whole = sym (append-nil t) }) in
     ap (meaning t) e ∙ ap (λ r. meant r (length t)) f ∙ within (limits s (length t))
   where
     within : Limits s (length t) → meant s (length t) ≡ given (record { pattern = patternOf s; read = length t })
-    within (many-states a q) = absurd (omega arith)
-    within (many-transitions a b q) = absurd (omega arith)
-    within (few a b q) = q
+    within (no-state h q) = absurd (n h)
+    within (many-states o a q) = absurd (omega arith)
+    within (many-transitions o a b q) = absurd (omega arith)
+    within (few o a b q) = q
 
 module _ (P : Pattern) (fit : Unfit P → ⊥) where
   written-name : (q : ℕ) → WrittenState P q → Name (labelOf P q)
@@ -81,7 +83,7 @@ module _ (P : Pattern) (ok : OfSheet (P .automaton)) (plain : SomeEpsilon P → 
 
   pub taken : readingAnswer (patternText P) ≡ given (record { pattern = patternOf (saidOf P); read = length (patternText P) })
   taken =
-      text-read (patternText P) (saidOf P) derived (omega (arith, few-names P bounds, ok .fits .few-states)) (omega (arith, few-moves P, ok .fits .few-transitions))
+      text-read (patternText P) (saidOf P) derived (accepts-spelt P) (omega (arith, few-names P bounds, ok .fits .few-states)) (omega (arith, few-moves P, ok .fits .few-transitions))
 
   pub taken-back : ReadBack P (patternOf (saidOf P))
   taken-back = read-back P (record {

@@ -164,6 +164,10 @@ fn parsing() {
             calls::parse_automaton(&case, &hostile::text(&names, n));
         }
     }
+    for n in doubling(2048) {
+        let case = format!("chain of {n} states, all accepting");
+        calls::parse_automaton(&case, &hostile::accepting_chain(n));
+    }
 }
 
 fn writing() {

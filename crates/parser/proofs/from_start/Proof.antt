@@ -10,5 +10,5 @@ from-start-spec =
     tie.close
     (tie.spec (λ c. search needs) (λ c. search needs) (λ c. search needs)
     (λ c κs. let p = c .before .before .before .before .before .before .before .before .pre in
-    ((p .0, zeros 1024, small-memory, zeros 256), p .1))
+    ((p .0, zeros 1024 .long, small-memory, zeros 256), p .1))
     (λ c. search needs) (λ c. search needs) (λ c. search needs))
