@@ -1,6 +1,6 @@
 -- Laws of the accepting names: whether all are states, by the table of the states or by tables of accepting names.
 use Prim.Native.Nat.{ℕ, _+_, _≤_, _<_}
-use mathlib.Core.Bool.{Bool, true, false, cond, not, _&&_, _||_}
+use mathlib.Core.Bool.{Bool, true, false, cond, not, _&&_, _||_, and-true, and-assoc, or-false}
 use mathlib.Core.List.{List, [], _∷_, map, flatMap}
 use mathlib.Core.Path.{_≡_, refl, sym, _∙_, ap, ap₂}
 use native.Mathlib.Omega.{arith}
@@ -40,14 +40,6 @@ use Rattle.parser.proofs.Entering.{from-drawn, to-drawn}
 use Rattle.parser.proofs.Memory.{zeros}
 use Rattle.parser.proofs.Tables.{table-none, added-table, added-names, added-full}
 
-and-true : (a : Bool) → (a && true) ≡ a
-and-true true = refl
-and-true false = refl
-
-and-assoc : (a b c : Bool) → (a && (b && c)) ≡ ((a && b) && c)
-and-assoc true b c = refl
-and-assoc false b c = refl
-
 -- f did not hold of a name up to the place, and so not of all
 pub names-lost : (t : List ℕ) (f : List ℕ → Bool) (at : ℕ) (k total : Bool) → (k && all f (namesFrom t at)) ≡ total → k ≡ false → (next : ℕ)
     → (k && all f (namesFrom t next)) ≡ total
@@ -60,10 +52,10 @@ module _ (t : List ℕ) (f : List ℕ → Bool) (at : ℕ) (p : NamePiece) (told
   names-done h = sym (and-true k) ∙ sym (ap (λ (m : Items TextSpan). k && all f (map (spelled t) (m .items))) (names-ended t at p told h)) ∙ i
 
   module _ (x : TextSpan) (next : ℕ) (h : p ≡ NameRead x (record { at = next })) where
-    pub names-step : ((k && f (spelled t x)) && all f (namesFrom t next)) ≡ total
+    names-step : ((k && f (spelled t x)) && all f (namesFrom t next)) ≡ total
     unfolding all
     names-step =
-        sym (and-assoc k (f (spelled t x)) (all f (namesFrom t next)))
+        and-assoc k (f (spelled t x)) (all f (namesFrom t next))
         ∙ sym (ap (λ (m : Items TextSpan). k && all f (map (spelled t) (m .items))) (names-more t at p told x (record { at = next }) h)) ∙ i
 
     pub names-kept : k ≡ true → (r : Bool) → r ≡ f (spelled t x) → (r && all f (namesFrom t next)) ≡ total
@@ -137,11 +129,8 @@ among-all : (t : List ℕ) (x : TextSpan) (at : ℕ) (l : List ℕ) → isAmong 
 unfolding allNames spansFrom any
 among-all t x at l =
     ap (λ (ns : List (List ℕ)). any (sameLabel l) (spelled t x ∷ ns)) (spans-names t (transitions t at .items))
-    ∙ sym (meet-any sameLabel same-decides (sameLabel l) (namesOf (movesAt t at)) (spelled t x ∷ []) ∙ or-false (sameLabel l (spelled t x)) (any (sameLabel l) (namesOf (movesAt t at))))
-  where
-    or-false : (a b : Bool) → ((a || false) || b) ≡ (a || b)
-    or-false true b = refl
-    or-false false b = refl
+    ∙ sym (meet-any sameLabel same-decides (sameLabel l) (namesOf (movesAt t at)) (spelled t x ∷ [])
+    ∙ ap (λ b. b || any (sameLabel l) (namesOf (movesAt t at))) (or-false (sameLabel l (spelled t x))))
 
 -- the words of a table's names are marked by the states' names
 module _ (t b : List ℕ) (n : ℕ) (k : SpeltTable t b n) (x : TextSpan) (at : ℕ) (us vs ws : List ℕ) (z : Zeros 256 us) (q : vs ≡ markOne t (namesIn t b n) us x)
@@ -161,7 +150,7 @@ pub ruleset tableLaws = (table-states, words-inside, zeros, needs)
 -- one more name in the table b
 module _ (t b : List ℕ) (k : ℕ) (y : TextSpan) (u : List ℕ) (a : Added) (g : SpeltAddition t (add sameLabel (spelled t y) (namesIn t b k)) u a) where
   -- fewer than 256 names leave room for one more
-  pub added-room : k < 256 → a ≡ Full → ⊥
+  added-room : k < 256 → a ≡ Full → ⊥
   added-room l e = omega (arith, added-full t _ u a g e, add-length sameLabel (spelled t y) (namesIn t b k), names-count t b k)
 
   added-count : (m : ℕ) → a ≡ Kept m → m ≤ k + 1
