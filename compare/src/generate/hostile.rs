@@ -2,7 +2,7 @@
 //! transitions, pairs and names that a simple table would put into one place.
 
 use super::Rng;
-use crate::sheet::{EPSILON, RANGE, Record, Sheet};
+use crate::sheet::{EPSILON, RANGE, Record, Sheet, TEXT_BYTES};
 
 const MAX: u32 = u32::MAX;
 
@@ -218,4 +218,23 @@ pub fn accepting_chain(states: usize) -> String {
     let arrows: String = (1..states).map(|i| format!("s{:x}->s{i:x}[0,0];", i - 1)).collect();
     let accepting: Vec<String> = (0..states).rev().map(|i| format!("s{i:x}")).collect();
     format!("automaton A{{init s0;{arrows}accepting {};}};", accepting.join(","))
+}
+
+/// A text of 65,536 bytes at most with `transitions` transitions, each between two names of two bytes, and as many accepting names as there is room for:
+/// the states in their order, again and again.
+pub fn accepting_again(transitions: usize) -> String {
+    let letters: Vec<char> = ('a'..='z').chain('A'..='Z').collect();
+    let name = |i: usize| format!("{}{}", letters[i % 52], letters[i / 52 % 52]);
+    let arrow = |i: usize| format!("{}->{}[0,0];", name(2 * i), name(2 * i + 1));
+    let arrows: String = (0..transitions).map(arrow).collect();
+    let mut text = format!("automaton A{{init aa;{arrows}accepting aa");
+    let end = ";};";
+    for i in (0..(2 * transitions).min(52 * 52)).cycle() {
+        let more = format!(",{}", name(i));
+        if text.len() + more.len() + end.len() > TEXT_BYTES {
+            break;
+        }
+        text += &more;
+    }
+    text + end
 }

@@ -168,6 +168,10 @@ fn parsing() {
         let case = format!("chain of {n} states, all accepting");
         calls::parse_automaton(&case, &hostile::accepting_chain(n));
     }
+    for n in [625, 1250, 2500, 5000] {
+        let case = format!("65,536 bytes, {n} transitions, the rest accepting names");
+        calls::parse_automaton(&case, &hostile::accepting_again(n));
+    }
 }
 
 fn writing() {
