@@ -13,14 +13,14 @@ use lib.Pow.{shr-shr}
 use Rattle.lists.proofs.Tests.{test, true-same}
 use Rattle.sets.specs.inner.BitSet.{bit}
 
-bit-zero : (w : ℕ) → bit w 0 ≡ eqb (w % 2) 1
+pub bit-zero : (w : ℕ) → bit w 0 ≡ eqb (w % 2) 1
 unfolding bit
 bit-zero w = ap (λ x. eqb (x % 2) 1) (div-one w)
   where
     div-one : (w : ℕ) → w / 2 ^ 0 ≡ w
     div-one w = omega arith
 
-bit-suc : (w k : ℕ) → bit w (suc k) ≡ bit (w / 2) k
+pub bit-suc : (w k : ℕ) → bit w (suc k) ≡ bit (w / 2) k
 unfolding bit
 bit-suc w k = ap (λ x. eqb (x % 2) 1) (ap (λ x. w / x) (pow-succ' 2 k) ∙ sym (div-div-eq-div-mul w 2 (2 ^ k)))
 

@@ -6,6 +6,7 @@ pub mod Bits
 pub mod BitSet
 pub mod Stores
 pub mod Steps
+pub mod Places
 pub mod Scan
 pub mod Rounds
 pub mod Closing

@@ -1,6 +1,6 @@
 -- The laws by which the functions are proved: each has the shape of what a function is asked at a return or at the next turn of its loop.
-use Prim.Native.Nat.{ℕ, _+_, _*_, _/_, _%_, _^_, _≤_, _<_}
-use mathlib.Core.Bool.{Bool, true, false, false≢true}
+use Prim.Native.Nat.{ℕ, _+_, _*_, _/_, _%_, _^_, _<_}
+use mathlib.Core.Bool.{true, false, false≢true}
 use mathlib.Core.List.{List, [], _∷_}
 use mathlib.Core.Logic.{⊎-elim}
 use mathlib.Core.Path.{_≡_, refl, sym, _∙_, ap}
@@ -12,13 +12,13 @@ use mir.Syntax.{w64}
 use mir.Val.{Fits}
 use lib.Bits.{bitOr, or-add-and, and-le-l, and-le-r}
 use lib.Dec.{eqb, lit<}
-use lib.ListN.{getD, set, length, drop, drop-of-length-le}
+use lib.ListN.{getD, set, length, drop}
 use lib.Pow.{shl-exact}
 use lib.Seq.{drop-cons}
 use Rattle.lists.proofs.Tests.{test, true-same}
-use Rattle.lists.specs.Index.{index, same}
+use Rattle.lists.specs.Index.{same}
 use Rattle.lists.proofs.Index.{equal-same, unequal-same}
-use Rattle.sets.specs.Sets.{Set, has, isEmpty}
+use Rattle.sets.specs.Sets.{has, isEmpty}
 use Rattle.sets.specs.inner.BitSet.{bit, inWords, setAt, entries}
 use Rattle.sets.specs.inner.Words.{insertAt}
 use Rattle.sets.proofs.Sets.{empty-yes}
@@ -95,24 +95,6 @@ module _ (t s : List ℕ) (o : ℕ) (bt : Small t) (bs : Small s) where
 
 pub ruleset wordLaws = (has-word, insert-word, empty-words, same-differ₀, same-differ₁, same-differ₂, same-last, needs)
 
--- the entries from j on decide
-pub find-start : (T : List Set) (S : Set) → index same S T ≡ 0 + index same S (drop 0 T)
-find-start T S = omega arith
-
+-- the entries of a table from j on
 pub entries-from : (t : List ℕ) (n j : ℕ) → j < n → drop j (entries t n) ≡ setAt t (4 * j) ∷ drop (j + 1) (entries t n)
 entries-from t n j l = let m : j < length (entries t n) = rw length-entries l in rw (add-one, drop-cons (entries t n) j [], entry-at t n j l)
-
-module _ (t s : List ℕ) (n j : ℕ) (e : index same (setAt s 0) (entries t n) ≡ j + index same (setAt s 0) (drop j (entries t n))) where
-  pub find-here : (b : Bool) → j < n → b ≡ same (setAt s 0) (setAt t (4 * j)) → b ≡ true → j ≡ index same (setAt s 0) (entries t n)
-  unfolding index
-  find-here b l d h = sym (e ∙ ap (λ T. j + index same (setAt s 0) T) (entries-from t n j l) ∙ rw (sym d ∙ h) (omega arith))
-
-  pub find-next : (b : Bool) → j < n → b ≡ same (setAt s 0) (setAt t (4 * j)) → b ≡ false → index same (setAt s 0) (entries t n) ≡ j + 1 + index same (setAt s 0) (drop (j + 1) (entries t n))
-  unfolding index
-  find-next b l d h = e ∙ ap (λ T. j + index same (setAt s 0) T) (entries-from t n j l) ∙ rw (sym d ∙ h) (omega arith)
-
-  pub find-end : j ≤ n → n ≤ j → n ≡ index same (setAt s 0) (entries t n)
-  unfolding index
-  find-end l u = sym (e ∙ rw (drop-of-length-le (entries t n) {i = j} (rw length-entries u)) (omega arith))
-
-pub ruleset findLaws = (find-start, find-here, find-next, find-end, needs)

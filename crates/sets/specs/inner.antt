@@ -3,3 +3,4 @@ pub mod BitSet
 pub mod Rows
 pub mod Words
 pub mod Members
+pub mod Places

@@ -14,7 +14,10 @@ mod closure;
 mod lookup;
 
 pub use closure::warshall;
+pub use lookup::Lookup;
+pub use lookup::add;
 pub use lookup::find;
+pub use lookup::place_first;
 
 // Whether row p has q.
 pub fn has(t: &[u64], p: usize, q: usize) -> bool
