@@ -1,5 +1,5 @@
 //! Inputs within the limits that are made to be slow: many ranges that overlap, many equal
-//! transitions, pairs and names that a simple table would put into one place.
+//! transitions, pairs, names and sets that a simple table would put into one place.
 
 use super::Rng;
 use crate::sheet::{EPSILON, RANGE, Record, Sheet, TEXT_BYTES};
@@ -69,6 +69,15 @@ pub fn one_missing(targets: usize, gaps: usize) -> Sheet {
         records.push([0, RANGE, first, MAX, 1 + target]);
     }
     sheet(2 * targets + 1, 0, records)
+}
+
+/// State 0 leads by the symbols from 1 on to `sets` sets of states that are all looked up from one place on, like the
+/// set of the start: their numbers, the sums of 2^q over their states q, have the remainder 1 by 509.
+pub fn colliding_sets(sets: u32) -> Sheet {
+    let number = |k: u32| 1018 * ((1u64 << (14 + k / 8)) / 1018 + u64::from(k % 8)) + 1528;
+    let states = |k: u32| (0..64).filter(move |q| (number(k) >> q) & 1 == 1);
+    let records = (1..=sets).flat_map(|k| states(k).map(move |q| [0, RANGE, k, k, q]));
+    sheet(64, 0, records.collect())
 }
 
 /// One state with `loops` loops from 0 on.

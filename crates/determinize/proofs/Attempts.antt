@@ -12,7 +12,8 @@ use lib.ListN.{length, getD}
 use Rattle.lists.proofs.Tests.{test}
 use Rattle.automata.specs.Automaton.{Automaton}
 use Rattle.sets.specs.Sets.{Set}
-use Rattle.sets.specs.inner.BitSet.{setAt}
+use Rattle.sets.specs.inner.BitSet.{setAt, entries}
+use Rattle.sets.specs.inner.Places.{Placed}
 use Rattle.sets.specs.inner.Members.{membersFrom, nextMember}
 use Rattle.sets.proofs.BitSet.{at-canon}
 use Rattle.sets.proofs.Members.{visit-start, visit-next, from-end}
@@ -22,6 +23,7 @@ use Rattle.determinize.specs.declared.Progress.{Progress}
 use Rattle.determinize.specs.declared.Progress.the-variants.{Sets, Over}
 use Rattle.determinize.specs.declared.Exploration.{Exploration}
 use Rattle.determinize.specs.declared.Exploration.the-variants.{Finished, Unfinished}
+use Rattle.determinize.specs.inner.Memory.{ProgressPlaced, ExplorationPlaced}
 use Rattle.determinize.specs.inner.Notes.{SpansResult, TableResult}
 use Rattle.determinize.specs.inner.Attempts.{runLength, runLengths, SpansExploration, TableResultWithRoom, TableExploration}
 
@@ -94,6 +96,23 @@ module _ (lower upper : ℕ) (A : Automaton) (S : Set) (T : List Set) (j : ℕ) 
     unfolding SpansExploration
     tried-start e f = subst (SpansExploration lower upper A S T j before k t u r) e p ∙ f
 
+-- the places after a part of the pass
+over-sets : (n m : ℕ) → Over ≡ Sets n m → ⊥
+over-sets n m e = let z : _≡_ {A = ℕ} 0 1 = cc in omega arith
+
+module _ (places t : List ℕ) where
+  pub placed-over : ProgressPlaced places t Over
+  placed-over = record { placed = λ n k e. absurd (over-sets n k e) }
+
+  pub placed-sets : (n k : ℕ) → Placed places (entries t n) → ProgressPlaced places t (Sets n k)
+  placed-sets n k p = record { placed = λ m j e. let z : n ≡ m = cc in subst (λ x. Placed places (entries t x)) z p }
+
+  pub placed-unfinished : ExplorationPlaced places t Unfinished
+  placed-unfinished = record { placed = λ y e. let z : _≡_ {A = ℕ} 0 1 = cc in absurd (omega arith) }
+
+  pub placed-finished : (x : Progress) → ProgressPlaced places t x → ExplorationPlaced places t (Finished x)
+  placed-finished x p = record { placed = λ y e. let z : x ≡ y = cc in subst (ProgressPlaced places t) z p }
+
 -- `is_full`
 pub full-never : (l k : ℕ) → 10240 ≤ l → false ≡ (ltb l 10240 && ltb l k)
 full-never l k h = rw (le-ltb _ _ h)
@@ -111,10 +130,7 @@ module _ (lower upper : ℕ) (A : Automaton) (t r : List ℕ) where
 
   pub attempt-over : (before : List ℕ) → TableResult lower upper A before t r Over → TableExploration lower upper A t r (Finished Over)
   unfolding TableExploration
-  attempt-over before p = record { before = before; explored = p; room = λ n m e. absurd (other n m e) }
-    where
-      other : (n m : ℕ) → Over ≡ Sets n m → ⊥
-      other n m e = let z : _≡_ {A = ℕ} 0 1 = cc in omega arith
+  attempt-over before p = record { before = before; explored = p; room = λ n m e. absurd (over-sets n m e) }
 
   pub attempt-done : (before : List ℕ) (n m : ℕ) → TableResult lower upper A before t r (Sets n m) → length r ≡ length before → (b : Bool)
       → b ≡ (ltb (length r) 10240 && ltb (length r) (5 * m)) → b ≡ false → TableExploration lower upper A t r (Finished (Sets n m))

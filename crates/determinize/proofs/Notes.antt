@@ -16,7 +16,7 @@ use Rattle.lists.proofs.Tests.{test}
 use Rattle.automata.specs.Automaton.{Automaton, InBounds}
 use Rattle.automata.specs.WellFormed.{mostStates}
 use Rattle.lists.specs.Index.{index, same}
-use Rattle.lists.proofs.Index.{index-before, index-behind, index-lt, same-decides}
+use Rattle.lists.proofs.Index.{index-before, index-lt, same-decides}
 use Rattle.sets.specs.Sets.{Set}
 use Rattle.sets.proofs.Tables.{In, at-index}
 use Rattle.words.specs.Simulation.{outgoing, step}
@@ -34,10 +34,6 @@ use Rattle.determinize.proofs.Sink.{cut-nothing}
 -- a set that a table has keeps its number while the table grows
 index-later : (R : Set) (T more : List Set) → R ∈ T → index same R (T ++ more) ≡ index same R T
 index-later R T more m = index-before same R T more (index-lt same same-decides R m)
-
--- a set behind a table that lacks it
-pub index-end : (R : Set) (T : List Set) → length T ≤ index same R T → index same R (T ++ R ∷ []) ≡ length T
-index-end R T h = index-behind same R R T h ∙ ap (λ b. cond b (length T) (suc (length T))) (same-decides .same-self R)
 
 pub number-later : (R : Set) (T more : List Set) → In T R → setNumber R (T ++ more) ≡ setNumber R T
 unfolding setNumber

@@ -17,17 +17,18 @@ use Rattle.automata.specs.Automaton.{Transition}
 use Rattle.automata.specs.Records.{writeRecords}
 use Rattle.automata.specs.WellFormed.{mostStates}
 use Rattle.lists.specs.Index.{index, same}
+use Rattle.lists.proofs.Index.{index-le}
 use Rattle.sets.specs.Sets.{Set, isEmpty}
 use Rattle.sets.specs.inner.BitSet.{setAt, entries}
 use Rattle.sets.specs.inner.Words.{putAt}
 use Rattle.sets.proofs.Sets.{empty-yes, empty-no}
 use Rattle.sets.proofs.BitSet.{length-entries}
+use Rattle.sets.proofs.Tables.{index-end}
 use Rattle.sets.proofs.Stores.{entries-put}
 use Rattle.ranges.specs.Cuts.{nextCut}
 use Rattle.ranges.proofs.Cuts.{next-le, next-gt}
 use Rattle.determinize.specs.inner.Notes.{setNumber, sinkNotes, SetPlaced, addSet}
 use Rattle.determinize.proofs.Tables.{add-empty, add-known, add-new}
-use Rattle.determinize.proofs.Notes.{index-end}
 
 -- a note past the end of the memory is not stored
 sets-past : (l : List ℕ) (i : ℕ) (vs : List ℕ) → length l ≤ i → sets l i vs ≡ l
@@ -78,6 +79,10 @@ module _ (t set : List ℕ) (n : ℕ) (few : n < 256) where
     some : setAt set 0 ≡ [] → ⊥
     some = empty-no (setAt set 0) (sym e ∙ h)
 
+    -- a look-up that answers n has not found the set
+    pub place-absent : n ≤ j → n ≡ index same (setAt set 0) (entries t n)
+    place-absent l = omega (arith, i, length-entries t n, index-le same (setAt set 0) (entries t n))
+
     pub place-known : j < n → SetPlaced (setAt set 0) (entries t n) t n j
     place-known l =
         record {
@@ -97,8 +102,6 @@ module _ (t set : List ℕ) (n : ℕ) (few : n < 256) where
           named = sym (sym (number-some R (entries u (n + 1)) some) ∙ ap (index same R) a ∙ index-end R T far ∙ length-entries t n);
           few = omega arith;
         }
-
-pub ruleset placeLaws = (place-empty, place-known, place-new, needs)
 
 -- the bounds of the next cut
 module _ (a top c : ℕ) (es : List Transition) (e : c ≡ nextCut a top es) where

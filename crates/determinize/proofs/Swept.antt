@@ -1,17 +1,18 @@
 -- The laws by which the spans of a long set are visited.
-use Prim.Native.Nat.{ℕ, _+_, _-_, _*_, _≤_, _<_}
-use mathlib.Core.Bool.{Bool, true, false, _&&_}
+use Prim.Native.Nat.{ℕ, _+_, _*_, _≤_, _<_}
+use mathlib.Core.Bool.{Bool, true, false, cond, _&&_}
 use mathlib.Core.List.{List, [], _∷_}
+use mathlib.Core.Logic.{⊎-elim}
 use mathlib.Core.Path.{_≡_, refl, sym, _∙_, ap, subst}
 use native.Mathlib.Omega.{arith}
 use borrow.Author.Needs.{needs}
-use borrow.Author.Tests.{lt-ltb, le-ltb, ltb-true}
-use lib.Dec.{ltb}
+use borrow.Author.Tests.{lt-ltb, le-ltb, ltb-true, eq-eqb, ne-eqb, eqb-true}
+use lib.Dec.{eqb, ltb}
 use lib.ListN.{getD, replicate}
 use Rattle.lists.specs.Index.{index, same}
 use Rattle.stores.specs.Written.{Written}
-use Rattle.lists.proofs.Index.{same-decides, same-equal, index-at, index-in}
-use Rattle.lists.proofs.Tests.{and-parts}
+use Rattle.lists.proofs.Index.{same-decides, same-equal, index-at, index-in, index-lt}
+use Rattle.lists.proofs.Tests.{test, and-parts}
 use Rattle.automata.specs.Automaton.{Transition}
 use Rattle.ranges.specs.Cuts.{nextCut}
 use Rattle.ranges.proofs.Cuts.{next-gt}
@@ -19,11 +20,12 @@ use Rattle.sets.specs.Sets.{Set}
 use Rattle.sets.specs.inner.BitSet.{setAt, entries}
 use Rattle.sets.specs.inner.Words.{putAt}
 use Rattle.sets.proofs.BitSet.{entry-at, length-entries}
+use Rattle.sets.proofs.Tables.{In}
 use Rattle.sweep.specs.inner.Passing.{Passing}
 use Rattle.sweep.proofs.Turns.{passing-later}
 use Rattle.determinize.specs.inner.Notes.{setNumber, SetPlaced, SpanVisited}
 use Rattle.determinize.specs.inner.Attempts.{SetNumbered}
-use Rattle.determinize.proofs.Tables.{add-known}
+use Rattle.determinize.proofs.Tables.{add-empty, add-in, add-known}
 use Rattle.determinize.proofs.Queued.{row-at}
 use Rattle.determinize.proofs.Visits.{visit-placed, visit-done}
 
@@ -53,12 +55,10 @@ near-known t set n j b few k e h =
     let s = number-some (setAt set 0) (entries t n) (omega arith) in
     record { added = sym (add-known (setAt set 0) (entries t n) (s .0) (omega (arith, s .1, length-entries t n))); named = sym g; few = omega arith }
 
-pub ruleset nearLaws = (near-known, needs)
-
 pub numbered-none : (t : List ℕ) (n : ℕ) → n < 256 → SetNumbered (entries t n) 256
 numbered-none t n h = record { found = λ l. absurd (omega (arith, length-entries t n)) }
 
-pub numbered-placed : (R : Set) (T : List Set) (t : List ℕ) (n j : ℕ) → SetPlaced R T t n j → SetNumbered (entries t n) j
+numbered-placed : (R : Set) (T : List Set) (t : List ℕ) (n j : ℕ) → SetPlaced R T t n j → SetNumbered (entries t n) j
 numbered-placed R T t n j p =
     record {
       found = λ l.
@@ -68,6 +68,30 @@ numbered-placed R T t n j p =
           ap (λ k. getD (entries t n) k []) (sym i) ∙ index-at same same-decides [] R (entries t n) (index-in same same-decides R (entries t n) (omega arith)) in
           ap (λ S. setNumber S (entries t n)) g ∙ sym (p .named);
     }
+
+-- the empty set changes nothing
+pub numbered-next : (R : Set) (T : List Set) (t : List ℕ) (n j k m : ℕ) → SetPlaced R T t n j → SetNumbered T k → m ≡ cond (eqb j 256) k j → SetNumbered (entries t n) m
+unfolding setNumber
+numbered-next R T t n j k m p h e =
+    ⊎-elim (λ (c : eqb j 256 ≡ true). subst (SetNumbered (entries t n)) (sym (e ∙ rw c)) (empty R p (eqb-true j 256 c)))
+    (λ (c : eqb j 256 ≡ false). subst (SetNumbered (entries t n)) (sym (e ∙ rw c)) (numbered-placed R T t n j p))
+    (test (eqb j 256))
+  where
+    empty : (R : Set) → SetPlaced R T t n j → j ≡ 256 → SetNumbered (entries t n) k
+    empty [] p z = subst (λ U. SetNumbered U k) (sym (p .added ∙ add-empty T)) h
+    empty (q ∷ S) p z =
+        ⊎-elim (λ (c : q ∷ S ≡ []). let y : _≡_ {A = ℕ} 0 1 = cc in absurd (omega arith))
+        (λ c. let l = index-lt same same-decides (q ∷ S) c in absurd (omega (arith, l, z, p .named, p .few, length-entries t n)))
+        (subst (λ U. In U (q ∷ S)) (sym (p .added)) (add-in (q ∷ S) T))
+
+-- `next_near`
+pub near-kept : (k j : ℕ) → j ≡ 256 → k ≡ cond (eqb j 256) k j
+near-kept k j h = sym (rw (eq-eqb j 256 h))
+
+pub near-new : (k j : ℕ) → (j ≡ 256 → ⊥) → j ≡ cond (eqb j 256) k j
+near-new k j h = sym (rw (ne-eqb j 256 h))
+
+pub ruleset nextLaws = (near-kept, near-new, needs)
 
 -- `visit_swept`
 pub visit-swept-done : (T : List Set) (tree next t r v : List ℕ) (m j first last k to : ℕ) → next ≡ putAt (replicate 4 0) 0 tree (4 * 1)

@@ -1,6 +1,8 @@
 // The first pass: the table of the nonempty sets that words reach, in the order in which a queue meets them, and a note of each transition.
 // The entries of the table are the queue. Each span between cuts costs one reading of the runs of the set's members up to the first range behind it,
-// and one look-up. Where the members have over 64 records the pass gives up, and `sweeping` takes its place.
+// and one look-up, which starts at a place that the set's bits give (`sets::find`). Where the members have over 64 records the pass gives up, and
+// `sweeping` takes its place.
+// The sets that look-ups compare are added up in `compared`, modulo 2^64. No answer depends on the sum: contracts leave it free, and it is there to be printed.
 ghost use mathlib.Core.Path.{_≡_};
 ghost use mathlib.Core.Bool.{_&&_};
 ghost use mathlib.Core.List.{[], _∷_};
@@ -10,12 +12,13 @@ ghost use lib.ListN.{length, getD};
 ghost use Rattle.stores.specs.Written.{Written};
 ghost use Rattle.automata.specs.Records.{writeRecords};
 ghost use Rattle.sets.specs.inner.BitSet.{setAt, entries};
+ghost use Rattle.sets.specs.inner.Places.{Placed};
 ghost use Rattle.sheets.specs.Sheet.{read};
 ghost use Rattle.words.specs.Simulation.{outgoing, step};
 ghost use Rattle.words.specs.inner.Gather.{Tables};
 ghost use Rattle.ranges.specs.Cuts.{nextCut};
 ghost use Rattle.determinize.specs.inner.Notes.{sinkNotes, SetPlaced, SpansResult};
-ghost use Rattle.determinize.specs.inner.Memory.{StateSet, TableAndNotes, StartTable};
+ghost use Rattle.determinize.specs.inner.Memory.{StateSet, TableAndNotes, StartTable, ProgressPlaced, ExplorationPlaced};
 ghost use Rattle.determinize.specs.inner.Attempts.{runLength, runLengths, SpansExploration, TableExploration};
 use crate::Exploration;
 use crate::Progress;
@@ -41,9 +44,16 @@ pub struct SpanEnd {
 }
 
 // The number of a set in the table of n sets. A nonempty set that the table lacks goes to its end; the empty set has the number 256.
-pub fn place(table: &mut [u64], n: usize, set: &[u64]) -> SetEntry
-    requires { ⌜ (n < 256) × (length (now table) ≡ 1024) × (4 ≤ length (now set)) ⌝ }
-    ensures { λ r. ⌜ SetPlaced (setAt (now (set .entry)) 0) (entries (now (table .entry)) n) (now (table .exit)) (r .sets) (r .number) ⌝ }
+pub fn place(
+    table: &mut [u64],
+    n: usize,
+    places: &mut [u32],
+    set: &[u64],
+    compared: &mut u64,
+) -> SetEntry
+    requires { ⌜ (n < 256) × (length (now table) ≡ 1024) × (4 ≤ length (now set)) × Placed (now places) (entries (now table) n) ⌝ }
+    ensures number { λ r. ⌜ SetPlaced (setAt (now (set .entry)) 0) (entries (now (table .entry)) n) (now (table .exit)) (r .sets) (r .number) ⌝ }
+    ensures places { λ r. ⌜ Placed (now (places .exit)) (entries (now (table .exit)) (r .sets)) ⌝ }
 {
     if sets::is_empty(set) {
         return SetEntry {
@@ -51,14 +61,15 @@ pub fn place(table: &mut [u64], n: usize, set: &[u64]) -> SetEntry
             sets: n,
         };
     }
-    let j = sets::find(table, n, set);
-    if j < n {
+    let found = sets::find(table, n, places, set);
+    *compared = std::num::wrapping_add_u64(*compared, found.compared);
+    if found.number < n {
         return SetEntry {
-            number: j as u32,
+            number: found.number as u32,
             sets: n,
         };
     }
-    sets::put_row(table, n, set);
+    sets::add(table, n, places, set, found);
     SetEntry {
         number: n as u32,
         sets: n + 1,
@@ -86,15 +97,18 @@ fn visit(
     top: u64,
     table: &mut [u64],
     n: usize,
+    places: &mut [u32],
+    compared: &mut u64,
 ) -> SpanEnd
     requires { ⌜ Tables (now s) (now starts) (now closures) × StateSet (now s) (now set) × (first < top) × (top ≤ 4294967296) ⌝ }
-    requires { ⌜ (n < 256) × (length (now table) ≡ 1024) ⌝ }
+    requires { ⌜ (n < 256) × (length (now table) ≡ 1024) × Placed (now places) (entries (now table) n) ⌝ }
     ensures cut { λ r. ⌜ r .cut ≡ nextCut first top (outgoing (read (now (s .entry))) (setAt (now (set .entry)) 0)) ⌝ }
-    ensures placed { λ r. ⌜ SetPlaced (step (read (now (s .entry))) (setAt (now (set .entry)) 0) first) (entries (now (table .entry)) n) (now (table .exit)) (r .sets) (r .number) ⌝ }
+    ensures number { λ r. ⌜ SetPlaced (step (read (now (s .entry))) (setAt (now (set .entry)) 0) first) (entries (now (table .entry)) n) (now (table .exit)) (r .sets) (r .number) ⌝ }
+    ensures places { λ r. ⌜ Placed (now (places .exit)) (entries (now (table .exit)) (r .sets)) ⌝ }
 {
     let mut next = [0u64; 4];
     let cut = words::step(s, starts, closures, set, first, &mut next, top);
-    let placed = place(table, n, &next);
+    let placed = place(table, n, places, &next, compared);
     SpanEnd {
         cut,
         number: placed.number,
@@ -112,13 +126,16 @@ pub fn visit_spans(
     set: &[u64],
     from: u32,
     table: &mut [u64],
+    places: &mut [u32],
     notes: &mut [u32],
     counts: SetCounts,
+    compared: &mut u64,
 ) -> Progress
     requires { ⌜ Tables (now s) (now starts) (now closures) × StateSet (now s) (now set) ⌝ }
-    requires { ⌜ TableAndNotes (now s) (now table) (now notes) (counts .sets) (counts .notes) ⌝ }
-    ensures { λ r. ⌜ SpansResult (symbols .lower) (symbols .upper) (read (now (s .entry))) (setAt (now (set .entry)) 0) (entries (now (table .entry)) (counts .sets))
+    requires { ⌜ TableAndNotes (now s) (now table) (now notes) (counts .sets) (counts .notes) × Placed (now places) (entries (now table) (counts .sets)) ⌝ }
+    ensures visited { λ r. ⌜ SpansResult (symbols .lower) (symbols .upper) (read (now (s .entry))) (setAt (now (set .entry)) 0) (entries (now (table .entry)) (counts .sets))
         from (now (notes .entry)) (counts .notes) (now (table .exit)) (now (notes .exit)) r ⌝ }
+    ensures places { λ r. ⌜ ProgressPlaced (now (places .exit)) (now (table .exit)) r ⌝ }
 {
     let upper = symbols.upper;
     let top = upper as u64 + 1;
@@ -127,7 +144,18 @@ pub fn visit_spans(
     let mut count = counts.notes;
     while a < top {
         let first = a as u32;
-        let visited = visit(s, starts, closures, set, first, top, table, n);
+        let visited = visit(
+            s,
+            starts,
+            closures,
+            set,
+            first,
+            top,
+            table,
+            n,
+            places,
+            compared,
+        );
         let last = (visited.cut - 1) as u32;
         note(notes, count, from, first, last, visited.number);
         n = visited.sets;
@@ -206,13 +234,16 @@ fn try_spans(
     set: &[u64],
     from: u32,
     table: &mut [u64],
+    places: &mut [u32],
     notes: &mut [u32],
     counts: SetCounts,
+    compared: &mut u64,
 ) -> Exploration
     requires { ⌜ Tables (now s) (now starts) (now closures) × StateSet (now s) (now set) ⌝ }
-    requires { ⌜ TableAndNotes (now s) (now table) (now notes) (counts .sets) (counts .notes) × (0 < counts .sets) ⌝ }
-    ensures { λ r. ⌜ SpansExploration (symbols .lower) (symbols .upper) (read (now (s .entry))) (setAt (now (set .entry)) 0) (entries (now (table .entry)) (counts .sets))
+    requires { ⌜ TableAndNotes (now s) (now table) (now notes) (counts .sets) (counts .notes) × (0 < counts .sets) × Placed (now places) (entries (now table) (counts .sets)) ⌝ }
+    ensures visited { λ r. ⌜ SpansExploration (symbols .lower) (symbols .upper) (read (now (s .entry))) (setAt (now (set .entry)) 0) (entries (now (table .entry)) (counts .sets))
         from (now (notes .entry)) (counts .notes) (now (table .entry)) (now (table .exit)) (now (notes .exit)) r ⌝ }
+    ensures places { λ r. ⌜ ExplorationPlaced (now (places .exit)) (now (table .exit)) r ⌝ }
 {
     let upper = symbols.upper;
     let top = upper as u64 + 1;
@@ -222,7 +253,18 @@ fn try_spans(
     let mut count = noted;
     while a < top {
         let first = a as u32;
-        let visited = visit(s, starts, closures, set, first, top, table, n);
+        let visited = visit(
+            s,
+            starts,
+            closures,
+            set,
+            first,
+            top,
+            table,
+            n,
+            places,
+            compared,
+        );
         let last = (visited.cut - 1) as u32;
         note(notes, count, from, first, last, visited.number);
         n = visited.sets;
@@ -246,12 +288,16 @@ fn visit_set(
     symbols: Ends,
     i: usize,
     table: &mut [u64],
+    places: &mut [u32],
     notes: &mut [u32],
     counts: SetCounts,
+    compared: &mut u64,
 ) -> Exploration
     requires { ⌜ Tables (now s) (now starts) (now closures) × TableAndNotes (now s) (now table) (now notes) (counts .sets) (counts .notes) × (i < counts .sets) ⌝ }
-    ensures { λ r. ⌜ SpansExploration (symbols .lower) (symbols .upper) (read (now (s .entry))) (getD (entries (now (table .entry)) (counts .sets)) i [])
+    requires { ⌜ Placed (now places) (entries (now table) (counts .sets)) ⌝ }
+    ensures visited { λ r. ⌜ SpansExploration (symbols .lower) (symbols .upper) (read (now (s .entry))) (getD (entries (now (table .entry)) (counts .sets)) i [])
         (entries (now (table .entry)) (counts .sets)) i (now (notes .entry)) (counts .notes) (now (table .entry)) (now (table .exit)) (now (notes .exit)) r ⌝ }
+    ensures places { λ r. ⌜ ExplorationPlaced (now (places .exit)) (now (table .exit)) r ⌝ }
 {
     let mut set = [0u64; 4];
     sets::copy_row(&mut set, table, i);
@@ -263,8 +309,10 @@ fn visit_set(
         &set,
         i as u32,
         table,
+        places,
         notes,
         counts,
+        compared,
     )
 }
 
@@ -288,10 +336,13 @@ pub fn explore(
     symbols: Ends,
     table: &mut [u64],
     notes: &mut [u32],
+    compared: &mut u64,
 ) -> Exploration
     requires { ⌜ StartTable (now s) (now starts) (now closures) (now table) × (length (now notes) % 5 ≡ 0) ⌝ }
     ensures { λ r. ⌜ TableExploration (symbols .lower) (symbols .upper) (read (now (s .entry))) (now (table .exit)) (now (notes .exit)) r ⌝ }
 {
+    let mut places = [0u32; 509];
+    sets::place_first(&mut places, table);
     let mut n: usize = 1;
     let mut count: usize = 0;
     let mut i: usize = 0;
@@ -303,7 +354,18 @@ pub fn explore(
             sets: n,
             notes: count,
         };
-        match visit_set(s, starts, closures, symbols, i, table, notes, counts) {
+        match visit_set(
+            s,
+            starts,
+            closures,
+            symbols,
+            i,
+            table,
+            &mut places,
+            notes,
+            counts,
+            compared,
+        ) {
             Exploration::Finished(progress) => match progress {
                 Progress::Sets(sets, noted) => {
                     n = sets;

@@ -72,12 +72,13 @@ fn determinize_large(
     symbols: Ends,
     table: &mut [u64],
     out: &mut [u32],
+    compared: &mut u64,
 ) -> Determinized
     requires { ⌜ StartTable (now s) (now starts) (now closures) (now table) × (sheetSize ≤ length (now out)) ⌝ }
     ensures { λ r. ⌜ determinizedOf r (now (out .exit)) ≡ sheetOutput (now (out .entry)) (determinize (symbols .lower) (symbols .upper) (read (now (s .entry)))) ⌝ }
 {
     let mut notes = [0u32; 10240];
-    match exploring::explore(s, starts, closures, symbols, table, &mut notes) {
+    match exploring::explore(s, starts, closures, symbols, table, &mut notes, compared) {
         Exploration::Finished(progress) => finish(s, symbols, table, &notes, progress, out),
         Exploration::Unfinished => {
             let progress = sweeping::explore_by_events(
@@ -87,6 +88,7 @@ fn determinize_large(
                 symbols,
                 table,
                 &mut notes,
+                compared,
             );
             finish(s, symbols, table, &notes, progress, out)
         }
@@ -101,19 +103,34 @@ fn determinize_small(
     symbols: Ends,
     table: &mut [u64],
     out: &mut [u32],
+    compared: &mut u64,
 ) -> Determinized
     requires { ⌜ StartTable (now s) (now starts) (now closures) (now table) × (sheetSize ≤ length (now out)) ⌝ }
     ensures { λ r. ⌜ determinizedOf r (now (out .exit)) ≡ sheetOutput (now (out .entry)) (determinize (symbols .lower) (symbols .upper) (read (now (s .entry)))) ⌝ }
 {
     let mut notes = [0u32; 640];
-    match exploring::explore(s, starts, closures, symbols, table, &mut notes) {
+    match exploring::explore(s, starts, closures, symbols, table, &mut notes, compared) {
         Exploration::Finished(progress) => finish(s, symbols, table, &notes, progress, out),
-        Exploration::Unfinished => determinize_large(s, starts, closures, symbols, table, out),
+        Exploration::Unfinished => determinize_large(
+            s,
+            starts,
+            closures,
+            symbols,
+            table,
+            out,
+            compared,
+        ),
     }
 }
 
-// Determinizes an accepted sheet over the symbols from lower to upper, without labels.
-pub fn determinize_accepted(s: &[u32], lower: u32, upper: u32, out: &mut [u32]) -> Determinized
+// Determinizes an accepted sheet over the symbols from lower to upper, without labels. How many sets were compared is added to `compared`.
+pub fn determinize_counted(
+    s: &[u32],
+    lower: u32,
+    upper: u32,
+    out: &mut [u32],
+    compared: &mut u64,
+) -> Determinized
     requires { ⌜ Accepted (now s) × (sheetSize ≤ length (now out)) ⌝ }
     ensures { λ r. ⌜ determinizedOf r (now (out .exit)) ≡ sheetOutput (now (out .entry)) (determinize lower upper (read (now (s .entry)))) ⌝ }
 {
@@ -123,9 +140,18 @@ pub fn determinize_accepted(s: &[u32], lower: u32, upper: u32, out: &mut [u32]) 
     words::begin(s, &mut starts, &mut closures, &mut table);
     let symbols = Ends { lower, upper };
     if 40 < s.len() {
-        return determinize_large(s, &starts, &closures, symbols, &mut table, out);
+        return determinize_large(s, &starts, &closures, symbols, &mut table, out, compared);
     }
-    determinize_small(s, &starts, &closures, symbols, &mut table, out)
+    determinize_small(s, &starts, &closures, symbols, &mut table, out, compared)
+}
+
+// Determinizes an accepted sheet like `determinize_counted`, and lets the count go.
+pub fn determinize_accepted(s: &[u32], lower: u32, upper: u32, out: &mut [u32]) -> Determinized
+    requires { ⌜ Accepted (now s) × (sheetSize ≤ length (now out)) ⌝ }
+    ensures { λ r. ⌜ determinizedOf r (now (out .exit)) ≡ sheetOutput (now (out .entry)) (determinize lower upper (read (now (s .entry)))) ⌝ }
+{
+    let mut compared: u64 = 0;
+    determinize_counted(s, lower, upper, out, &mut compared)
 }
 
 // Determinizes a sheet: the result at the front of out, its labels D0, D1 and so on at the front of names.

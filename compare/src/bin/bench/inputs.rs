@@ -47,6 +47,7 @@ fn determinizing() {
     calls::determinize("7th from the end, 128 sets", &sheets::from_the_end(7));
     calls::determinize("chain of 255", &sheets::chain(255, false));
     calls::determinize("1,000 points", &sheets::comb(1, 1000));
+    calls::determinize("200 states, 8 ranges each", &sheets::total(&mut Rng::new(7), 200, 8));
 }
 
 fn products() {

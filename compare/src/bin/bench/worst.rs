@@ -59,6 +59,10 @@ fn determinizing() {
         let sheet = hostile::one_missing(127, n);
         calls::determinize(&format!("127 targets, one missing at each of {n} symbols"), &sheet);
     }
+    for n in doubling(254) {
+        let sheet = hostile::colliding_sets(n as u32);
+        calls::determinize(&format!("{} sets that start at one place", n + 1), &sheet);
+    }
     for n in doubling(2040) {
         calls::determinize(&format!("{n} loops from 0"), &hostile::from_zero(n));
     }

@@ -12,7 +12,7 @@ determinize-large-spec =
     (λ c κs.
     let at-progress = c .before .before .before .before in
     let at-explore = at-progress .before .before .before .before .before in
-    let at-pre = at-explore .before .before .before .before .before .before .before .before in (
+    let at-pre = at-explore .before .before .before .before .before .before .before .before .before in (
       at-pre .pre .0 .tables .accepted,
       attempt-finished _ _ _ _ _ _ (at-explore .explore .ensures) _ (at-progress .progress .given .1),
       omega (arith, at-pre .pre .0 .long),
@@ -20,9 +20,9 @@ determinize-large-spec =
     ))
     (λ c. search needs) (λ c. search needs)
     (λ c κs.
-    let at-enum-told = c .before .before in
+    let at-enum-told = c .before .before .before in
     let at-explore = at-enum-told .before .before .before .before .before in
-    let at-pre = at-explore .before .before .before .before .before .before .before .before in (
+    let at-pre = at-explore .before .before .before .before .before .before .before .before .before in (
       record {
         tables = at-pre .pre .0 .tables;
         start = attempt-start _ _ _ _ _ _ (at-explore .explore .ensures) (at-enum-told .enum-told .given .1);
@@ -33,6 +33,6 @@ determinize-large-spec =
     (λ c. search needs)
     (λ c κs.
     let at-explore-by-events = c .before .before .before .before .before .before in
-    let at-pre = at-explore-by-events .before .before .before .before .before .before .before .before .before .before .before .before .before .before .before .before in
+    let at-pre = at-explore-by-events .before .before .before .before .before .before .before .before .before .before .before .before .before .before .before .before .before .before in
     (at-pre .pre .0 .tables .accepted, at-explore-by-events .explore-by-events .ensures, omega (arith, at-pre .pre .0 .long), at-pre .pre .1))
     (λ c. search needs) (λ c. search needs) (λ c. search needs) (λ c. search needs) (λ c. search needs) (λ c. search needs))

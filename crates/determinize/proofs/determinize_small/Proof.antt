@@ -12,7 +12,7 @@ determinize-small-spec =
     (λ c κs.
     let at-progress = c .before .before .before .before in
     let at-explore = at-progress .before .before .before .before .before in
-    let at-pre = at-explore .before .before .before .before .before .before .before .before in (
+    let at-pre = at-explore .before .before .before .before .before .before .before .before .before in (
       at-pre .pre .0 .tables .accepted,
       attempt-finished _ _ _ _ _ _ (at-explore .explore .ensures) _ (at-progress .progress .given .1),
       omega (arith, at-pre .pre .0 .long),
@@ -20,9 +20,9 @@ determinize-small-spec =
     ))
     (λ c. search needs)
     (λ c κs.
-    let at-enum-told = c .before .before in
+    let at-enum-told = c .before .before .before in
     let at-explore = at-enum-told .before .before .before .before .before in
-    let at-pre = at-explore .before .before .before .before .before .before .before .before in (
+    let at-pre = at-explore .before .before .before .before .before .before .before .before .before in (
       record {
         tables = at-pre .pre .0 .tables;
         start = attempt-start _ _ _ _ _ _ (at-explore .explore .ensures) (at-enum-told .enum-told .given .1);

@@ -5,9 +5,14 @@ use mathlib.Core.Path.{_≡_}
 use lib.ListN.{length}
 use Rattle.sets.specs.inner.Members.{Canon}
 use Rattle.sets.specs.inner.BitSet.{setAt, entries}
+use Rattle.sets.specs.inner.Places.{Placed}
 use Rattle.sheets.specs.Sheet.{stateCount, read}
 use Rattle.words.specs.Simulation.{startSet}
 use Rattle.words.specs.inner.Gather.{Tables}
+use Rattle.determinize.specs.declared.Progress.{Progress}
+use Rattle.determinize.specs.declared.Progress.the-variants.{Sets}
+use Rattle.determinize.specs.declared.Exploration.{Exploration}
+use Rattle.determinize.specs.declared.Exploration.the-variants.{Finished}
 use Rattle.determinize.specs.inner.Notes.{Canonical}
 
 -- the words of `set` are a set of states of the sheet s
@@ -28,3 +33,10 @@ pub record StartTable (s starts closures t : List ℕ) : Type 0 where
   pub tables : Tables s starts closures
   pub start : setAt t 0 ≡ startSet (read s)
   pub long : length t ≡ 1024
+
+-- the places lead to the sets of the table if the answer says how many these are; else they are free
+pub record ProgressPlaced (places t : List ℕ) (x : Progress) : Type 0 where
+  pub placed : (n k : ℕ) → x ≡ Sets n k → Placed places (entries t n)
+
+pub record ExplorationPlaced (places t : List ℕ) (x : Exploration) : Type 0 where
+  pub placed : (y : Progress) → x ≡ Finished y → ProgressPlaced places t y

@@ -7,6 +7,7 @@ use lib.ListN.{length}
 use Rattle.words.specs.Simulation.{startSet}
 use Rattle.sheets.specs.Sheet.{stateCount, read}
 use Rattle.sets.specs.inner.BitSet.{setAt, entries}
+use Rattle.sets.specs.inner.Places.{Placed}
 use Rattle.determinize.proofs.Attempts.{tried-visited, tried-start, attempt-unfinished, attempt-over, attempt-done}
 use Rattle.determinize.proofs.Placing.{sink-count}
 use Rattle.determinize.proofs.Queued.{QueueInvariant, explore-begins, start-canonical, explore-few, explore-bounded, explore-canonical, explore-start, explore-next, explore-over, explore-ended}
@@ -15,54 +16,85 @@ use Rattle.determinize.proofs.exploring.explore.Statement.{statement}
 use Rattle.determinize.proofs.exploring.explore.Tie as tie
 
 abbrev Inv-loop : tie.InvT-loop
-Inv-loop s starts closures symbols table₀ notes₀ n₀ count₀ i₀ table notes n count i =
+Inv-loop s starts closures symbols table₀ notes₀ compared₀ places₀ n₀ count₀ i₀ table notes compared places n count i =
     (length table ≡ 1024) × (length notes % 5 ≡ 0) × (length notes ≡ length notes₀) × (n < 256) × (i < 256) × (count ≤ 4294967296 * i)
     × Canonical (stateCount s) (entries table n) × QueueInvariant (symbols .lower) (symbols .upper) (read s) notes₀ table notes n count i × (setAt table 0 ≡ startSet (read s))
+    × Placed places (entries table n)
 
 abbrev μ-loop : tie.MeasureT-loop
-μ-loop s starts closures symbols table₀ notes₀ n₀ count₀ i₀ table notes n count i = 256 - i
+μ-loop s starts closures symbols table₀ notes₀ compared₀ places₀ n₀ count₀ i₀ table notes compared places n count i = 256 - i
 
 pub explore-spec : {M : Type 1} → statement M
 explore-spec =
     tie.close
-    (tie.spec Inv-loop μ-loop (λ c. search (explore-begins, start-canonical, needs)) (λ c κs. search needs) (λ c. search needs) (λ c. search needs)
+    (tie.spec Inv-loop μ-loop (λ c. search needs) (λ c κs. search needs)
+    (λ c.
+    let at-pre = c .before .before .before .before .before .before .before .before .before in (
+      at-pre .pre .0 .long,
+      at-pre .pre .1,
+      search needs,
+      search needs,
+      search needs,
+      search needs,
+      start-canonical _ _ _ _ (at-pre .pre .0 .tables) (at-pre .pre .0 .start),
+      explore-begins _ _ _ _ _ (at-pre .pre .0 .start),
+      at-pre .pre .0 .start,
+      c .before .place-first .ensures .1,
+    ))
+    (λ c κs. search needs) (λ c. search needs) (λ c. search needs)
     (λ c. search (attempt-unfinished, needs))
-    (λ c κs. (
-      search needs,
-      record { few = search needs; long = search needs; canonical = search needs; whole = search needs; bounded = search needs },
-      search needs,
+    (λ c. search needs)
+    (λ c κs.
+    let at-loop-test = c .before .before .before .before .before .before .before in
+    let at-loop = at-loop-test .before in
+    let at-pre = at-loop .before .before .before .before .before .before .before .before .before .before in (
+      (
+        at-pre .pre .0 .tables,
+        record {
+          few = at-loop .loop .inv .3;
+          long = at-loop .loop .inv .0;
+          canonical = at-loop .loop .inv .6;
+          whole = at-loop .loop .inv .1;
+          bounded = omega (arith, at-loop .loop .inv .5, at-loop .loop .inv .4);
+        },
+        at-loop-test .loop-test .taken,
+      ),
+      at-loop .loop .inv .9,
     ))
     (λ c. search needs) (λ c. search needs) (λ c. search needs) (λ c. search needs)
     (λ c.
     let at-progress = c .before in
     let at-progress′ = at-progress .before .before .before in
-    let at-visit-set = at-progress′ .before .before .before .before .before .before in
-    let at-loop-test = at-visit-set .before .before .before .before .before .before in
+    let at-visit-set = at-progress′ .before .before .before .before .before .before .before in
+    let at-loop-test = at-visit-set .before .before .before .before .before .before .before .before in
     let at-loop = at-loop-test .before in
-    let visited = tried-visited _ _ _ _ _ _ _ _ _ _ _ _ (at-visit-set .visit-set .ensures) _ (at-progress′ .progress .given .1) in (
-      search needs,
-      search needs,
-      search needs,
+    let visited = tried-visited _ _ _ _ _ _ _ _ _ _ _ _ (at-visit-set .visit-set .ensures .0) _ (at-progress′ .progress .given .1) in
+    let at-table = c .before .before .before .before .before .before .before .before .before .before in
+    let at-notes = c .before .before .before .before .before .before .before in (
+      omega (arith, at-table .table .given, at-loop .loop .inv .0),
+      omega (arith, at-notes .notes .given, at-loop .loop .inv .1),
+      omega (arith, at-notes .notes .given, at-loop .loop .inv .2),
       explore-few _ _ _ _ _ _ _ _ _ (at-loop .loop .inv .7) (at-loop .loop .inv .4) (at-loop-test .loop-test .taken) _ _ _ visited _ _ (at-progress .progress2 .given .1),
       search needs,
       explore-bounded _ _ _ _ _ _ _ _ _ (at-loop .loop .inv .7) (at-loop .loop .inv .4) (at-loop-test .loop-test .taken) _ _ _ visited _ _ (at-progress .progress2 .given .1) (at-loop .loop .inv .5),
       explore-canonical _ _ _ _ _ _ _ _ _ (at-loop .loop .inv .7) (at-loop .loop .inv .4) (at-loop-test .loop-test .taken) _ _ _ visited _ _ (at-progress .progress2 .given .1),
       explore-next _ _ _ _ _ _ _ _ _ (at-loop .loop .inv .7) (at-loop .loop .inv .4) (at-loop-test .loop-test .taken) _ _ _ visited _ _ (at-progress .progress2 .given .1),
       explore-start _ _ _ _ _ _ _ _ _ (at-loop .loop .inv .7) (at-loop .loop .inv .4) (at-loop-test .loop-test .taken) _ _ _ visited _ _ (at-progress .progress2 .given .1) (at-loop .loop .inv .8),
+      at-visit-set .visit-set .ensures .1 .placed _ (at-progress′ .progress .given .1) .placed _ _ (at-progress .progress2 .given .1),
     ))
     (λ c. search needs) (λ c. search needs) (λ c. search needs)
     (λ c.
     let at-progress = c .before .before .before in
-    let at-visit-set = at-progress .before .before .before .before .before .before in
-    let at-loop-test = at-visit-set .before .before .before .before .before .before in
+    let at-visit-set = at-progress .before .before .before .before .before .before .before in
+    let at-loop-test = at-visit-set .before .before .before .before .before .before .before .before in
     let at-loop = at-loop-test .before in
-    let visited = tried-visited _ _ _ _ _ _ _ _ _ _ _ _ (at-visit-set .visit-set .ensures) _ (at-progress .progress .given .1) in
+    let visited = tried-visited _ _ _ _ _ _ _ _ _ _ _ _ (at-visit-set .visit-set .ensures .0) _ (at-progress .progress .given .1) in
     attempt-over _ _ _ _ _ _ (explore-over _ _ _ _ _ _ _ _ _ (at-loop .loop .inv .7) (at-loop .loop .inv .4) (at-loop-test .loop-test .taken) _ _ _ visited (c .enum-told .given .1)))
     (λ c. search needs) (λ c. search needs) (λ c. search needs)
     (λ c.
-    let at-visit-set = c .before .before .before .before .before .before in
-    let at-loop = at-visit-set .before .before .before .before .before .before .before in
-    attempt-unfinished _ _ _ _ _ (tried-start _ _ _ _ _ _ _ _ _ _ _ _ (at-visit-set .visit-set .ensures) (c .enum-told2 .given .1) (at-loop .loop .inv .8)))
+    let at-visit-set = c .before .before .before .before .before .before .before in
+    let at-loop = at-visit-set .before .before .before .before .before .before .before .before .before in
+    attempt-unfinished _ _ _ _ _ (tried-start _ _ _ _ _ _ _ _ _ _ _ _ (at-visit-set .visit-set .ensures .0) (c .enum-told2 .given .1) (at-loop .loop .inv .8)))
     (λ c. search needs) (λ c κs. search needs) (λ c κs. omega (arith, sink-count _ _ _ _ _ _ _ (c .before .before .before .note-sink .ensures)))
     (λ c. search needs) (λ c. search needs) (λ c. search (attempt-unfinished, needs)) (λ c. search needs) (λ c. search needs)
     (λ c.

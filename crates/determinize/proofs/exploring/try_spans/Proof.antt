@@ -6,7 +6,8 @@ use native.Mathlib.Omega.{arith}
 use lib.ListN.{length}
 use Rattle.sheets.specs.Sheet.{stateCount, read}
 use Rattle.sets.specs.inner.BitSet.{setAt, entries}
-use Rattle.determinize.proofs.Attempts.{try-unfinished, try-finished}
+use Rattle.sets.specs.inner.Places.{Placed}
+use Rattle.determinize.proofs.Attempts.{try-unfinished, try-finished, placed-over, placed-sets, placed-unfinished, placed-finished}
 use Rattle.determinize.proofs.Visits.{SpansInvariant, visitLaws, visit-done, visit-begins, visit-next, visit-over, visit-ended, canonical-next, first-some, first-kept}
 use Rattle.determinize.proofs.Placing.{cut-less, cut-counts, cut-most}
 use Rattle.determinize.specs.inner.Notes.{Canonical}
@@ -14,57 +15,77 @@ use Rattle.determinize.proofs.exploring.try_spans.Statement.{statement}
 use Rattle.determinize.proofs.exploring.try_spans.Tie as tie
 
 abbrev Inv-loop : tie.InvT-loop
-Inv-loop s starts closures set from table₀ notes₀ upper top noted a₀ n₀ count₀ table notes a n count =
+Inv-loop s starts closures set from table₀ places₀ notes₀ compared₀ upper top noted a₀ n₀ count₀ table places notes compared a n count =
     (top ≤ 4294967296) × (length table ≡ 1024) × (length notes % 5 ≡ 0) × (length notes ≡ length notes₀) × (0 < n) × (n < 256) × (a ≤ 4294967296)
     × (noted ≤ count) × (count + a₀ ≤ noted + a) × (setAt table 0 ≡ setAt table₀ 0) × Canonical (stateCount s) (entries table n)
     × SpansInvariant a₀ upper (read s) (setAt set 0) (entries table₀ n₀) from notes₀ noted table notes n count a
+    × (length places ≡ length places₀) × Placed places (entries table n)
 
 abbrev μ-loop : tie.MeasureT-loop
-μ-loop s starts closures set from table₀ notes₀ upper top noted a₀ n₀ count₀ table notes a n count = top - a
+μ-loop s starts closures set from table₀ places₀ notes₀ compared₀ upper top noted a₀ n₀ count₀ table places notes compared a n count = top - a
 
 pub try-spans-spec : {M : Type 1} → statement M
 try-spans-spec =
     tie.close
-    (tie.spec Inv-loop μ-loop (λ c. search needs) (λ c. search needs) (λ c. search needs) (λ c. search (visit-begins, needs)) (λ c. search needs) (λ c κs. search needs) (λ c. search visitLaws)
-    (λ c. search visitLaws) (λ c κs. search needs)
-    (λ c.
-    let at-table = c .before .before .before .before .before .before .before in
-    let at-loop = at-table .before .before .before .before in
-    let at-pre = at-loop .before .before .before .before .before .before .before .before in
-    omega (arith, at-table .table .given, at-loop .loop .inv .1, at-pre .pre .1 .0 .long))
-    (λ c. search needs)
-    (λ c.
-    let at-note = c .before .before .before in
-    let at-visit = at-note .before .before .before .before .before in
-    let at-loop-test = at-visit .before .before in
-    let at-loop = at-loop-test .before in
-    try-finished _ _ _ _ _ _ _ _ _ _ _ _
-    (visit-over _ _ _ _ _ _ _ _ _ _ _ _ _ (at-loop .loop .inv .11) (at-loop-test .loop-test .taken) _ (at-visit .visit .ensures .0) _ _ _ (visit-done _ _ _ _ _ _ _ _ _ _ _ (at-visit .visit .ensures .1) (at-note .note .ensures)) (c .if1 .taken)))
-    (λ c.
-    let at-loop = c .before .before .before .before .before .before .before .before .before .before .before in
-    let at-pre = at-loop .before .before .before .before .before .before .before .before in
-    omega (arith, at-loop .loop .inv .8, at-loop .loop .inv .6, at-pre .pre .1 .0 .bounded))
-    (λ c. search needs) (λ c κs. let at-pre = c .before .before .before .before .before .before .before .before .before .before .before .before .before .before .before .before .before .before .before in at-pre .pre .0 .1 .long)
+    (tie.spec Inv-loop μ-loop (λ c. search needs) (λ c. search needs) (λ c. search needs) (λ c. search (visit-begins, needs)) (λ c. search needs)
+    (λ c κs.
+    let at-test = c .before .before .before in
+    let at-loop = at-test .before in
+    let at-pre = at-loop .before .before .before .before .before .before .before .before .before in (
+      (at-pre .pre .0 .0, at-pre .pre .0 .1, at-test .loop-test .taken, at-loop .loop .inv .0),
+      (at-loop .loop .inv .5, at-loop .loop .inv .1, at-loop .loop .inv .13),
+    ))
+    (λ c. search visitLaws) (λ c. search visitLaws) (λ c κs. search needs)
     (λ c.
     let at-table = c .before .before .before .before .before .before .before .before .before in
-    let at-loop = at-table .before .before .before .before in
-    let at-pre = at-loop .before .before .before .before .before .before .before .before in
+    let at-loop = at-table .before .before .before .before .before .before in
+    let at-pre = at-loop .before .before .before .before .before .before .before .before .before in
     omega (arith, at-table .table .given, at-loop .loop .inv .1, at-pre .pre .1 .0 .long))
+    (λ c. search needs) (λ c. search needs)
+    (λ c.
+    let at-note = c .before .before .before in
+    let at-visit = at-note .before .before .before .before .before .before .before in
+    let at-loop-test = at-visit .before .before .before .before in
+    let at-loop = at-loop-test .before in (
+      try-finished _ _ _ _ _ _ _ _ _ _ _ _
+          (visit-over _ _ _ _ _ _ _ _ _ _ _ _ _ (at-loop .loop .inv .11) (at-loop-test .loop-test .taken) _ (at-visit .visit .ensures .0) _ _ _
+          (visit-done _ _ _ _ _ _ _ _ _ _ _ (at-visit .visit .ensures .1 .0) (at-note .note .ensures)) (c .if1 .taken)),
+      placed-finished _ _ _ (placed-over _ _),
+    ))
+    (λ c.
+    let at-loop = c .before .before .before .before .before .before .before .before .before .before .before .before .before .before .before in
+    let at-pre = at-loop .before .before .before .before .before .before .before .before .before in
+    omega (arith, at-loop .loop .inv .8, at-loop .loop .inv .6, at-pre .pre .1 .0 .bounded))
     (λ c. search needs)
+    (λ c κs.
+    let at-note = c .before .before .before .before in
+    let at-loop = at-note .before .before .before .before .before .before .before .before .before .before .before in
+    let at-pre = at-loop .before .before .before .before .before .before .before .before .before in
+    at-pre .pre .0 .1 .long)
+    (λ c.
+    let at-table = c .before .before .before .before .before .before .before .before .before .before .before in
+    let at-loop = at-table .before .before .before .before .before .before in
+    let at-pre = at-loop .before .before .before .before .before .before .before .before .before in
+    omega (arith, at-table .table .given, at-loop .loop .inv .1, at-pre .pre .1 .0 .long))
+    (λ c. search needs) (λ c. search needs)
     (λ c.
     let at-note = c .before .before .before .before .before in
-    let at-visit = at-note .before .before .before .before .before in
-    let at-loop = at-visit .before .before .before in
-    try-unfinished _ _ _ _ _ _ _ _ _ _ _ (first-kept _ _ _ _ _ _ _ _ _ _ _ (visit-done _ _ _ _ _ _ _ _ _ _ _ (at-visit .visit .ensures .1) (at-note .note .ensures)) (at-loop .loop .inv .4) _ (at-loop .loop .inv .9)))
+    let at-visit = at-note .before .before .before .before .before .before .before in
+    let at-loop = at-visit .before .before .before .before .before in (
+      try-unfinished _ _ _ _ _ _ _ _ _ _ _
+          (first-kept _ _ _ _ _ _ _ _ _ _ _ (visit-done _ _ _ _ _ _ _ _ _ _ _ (at-visit .visit .ensures .1 .0) (at-note .note .ensures)) (at-loop .loop .inv .4) _ (at-loop .loop .inv .9)),
+      placed-unfinished _ _,
+    ))
     (λ c. search (cut-less, needs))
     (λ c.
     let at-note = c .before .before .before .before .before in
-    let at-visit = at-note .before .before .before .before .before in
-    let at-loop-test = at-visit .before .before in
+    let at-visit = at-note .before .before .before .before .before .before .before in
+    let at-loop-test = at-visit .before .before .before .before in
     let at-loop = at-loop-test .before in
-    let at-pre = at-loop .before .before .before .before .before .before .before .before in
-    let at-table = at-note .before .before .before .before in
-    let visited = visit-done _ _ _ _ _ _ _ _ _ _ _ (at-visit .visit .ensures .1) (at-note .note .ensures) in (
+    let at-pre = at-loop .before .before .before .before .before .before .before .before .before in
+    let at-table = at-note .before .before .before .before .before .before in
+    let at-places = at-note .before .before .before .before in
+    let visited = visit-done _ _ _ _ _ _ _ _ _ _ _ (at-visit .visit .ensures .1 .0) (at-note .note .ensures) in (
       search needs,
       omega (arith, at-table .table .given, at-loop .loop .inv .1),
       search needs,
@@ -77,9 +98,13 @@ try-spans-spec =
       first-kept _ _ _ _ _ _ _ _ _ _ _ visited (at-loop .loop .inv .4) _ (at-loop .loop .inv .9),
       canonical-next _ (at-pre .pre .0 .0 .accepted) _ _ _ _ _ _ _ _ _ _ (at-loop .loop .inv .10) visited,
       visit-next _ _ _ _ _ _ _ _ _ _ _ _ _ (at-loop .loop .inv .11) (at-loop-test .loop-test .taken) _ (at-visit .visit .ensures .0) _ _ _ visited,
+      omega (arith, at-places .places .given, at-loop .loop .inv .12),
+      at-visit .visit .ensures .1 .1,
     ))
-    (λ c. search needs) (λ c. search needs)
+    (λ c. search needs) (λ c. search needs) (λ c. search needs)
     (λ c.
-    let at-loop = c .before in
-    try-finished _ _ _ _ _ _ _ _ _ _ _ _
-    (visit-ended _ _ _ _ _ _ _ _ _ _ _ _ _ (at-loop .loop .inv .11) (c .loop-test .left) (at-loop .loop .inv .5) (at-loop .loop .inv .10) (at-loop .loop .inv .8) (at-loop .loop .inv .6))))
+    let at-loop = c .before in (
+      try-finished _ _ _ _ _ _ _ _ _ _ _ _
+          (visit-ended _ _ _ _ _ _ _ _ _ _ _ _ _ (at-loop .loop .inv .11) (c .loop-test .left) (at-loop .loop .inv .5) (at-loop .loop .inv .10) (at-loop .loop .inv .8) (at-loop .loop .inv .6)),
+      placed-finished _ _ _ (placed-sets _ _ _ _ (at-loop .loop .inv .13)),
+    )))

@@ -15,7 +15,7 @@ explore-by-events-spec =
     (at-pre .pre .0 .tables .accepted, search needs, omega (arith, at-pre .pre .1)))
     (λ c. search needs) (λ c. search needs) (λ c. search needs) (λ c. search needs) (λ c. search needs) (λ c. search needs)
     (λ c κs.
-    let at-order-events = c .before .before .before .before .before .before .before .before .before in
+    let at-order-events = c .before .before .before .before .before .before .before .before .before .before in
     let at-order-events′ = at-order-events .before .before .before .before .before .before in
     let at-pre = at-order-events′ .before .before .before .before .before .before .before .before in (
       at-pre .pre .0,
@@ -25,9 +25,8 @@ explore-by-events-spec =
     ))
     (λ c. search needs) (λ c. search needs)
     (λ c.
-    complete-all _ _ _ _ _ _ _ (c .before .before .before .before .explore-swept .ensures)
-    (omega (
-      arith,
-      c .before .before .before .before .before .before .before .before .before .before .before .before .before .before
-          .before .before .before .before .before .before .before .before .before .before .before .before .before .before .pre .1,
-    ))))
+    let at-explore-swept = c .before .before .before .before in
+    let at-notes = at-explore-swept .before .before .before .before .before .before .before .before .before in
+    let at-notes′ = at-notes .before .before .before .before .before .before in
+    let at-pre = at-notes′ .before .before .before .before .before .before .before .before .before .before in
+    complete-all _ _ _ _ _ _ _ (at-explore-swept .explore-swept .ensures) (omega (arith, at-notes .notes2 .given, at-notes′ .notes .given, at-pre .pre .1))))

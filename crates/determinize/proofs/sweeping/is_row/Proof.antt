@@ -6,4 +6,4 @@ use Rattle.determinize.proofs.sweeping.is_row.Tie as tie
 pub is-row-spec : {M : Type 1} → statement M
 is-row-spec =
     tie.close
-    (tie.spec (λ c. search isRowLaws) (λ c κs. search isRowLaws) (λ c. search isRowLaws))
+    (tie.spec (λ c. search isRowLaws) (λ c κs. search isRowLaws) (λ c κs. search isRowLaws) (λ c. search isRowLaws))

@@ -1,0 +1,2 @@
+-- Laws of the sheets that the program makes.
+pub mod Sheets
