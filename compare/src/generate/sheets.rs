@@ -271,9 +271,10 @@ pub fn faulty(rng: &mut Rng) -> Vec<u32> {
 
 /// Few states with many ranges, so that one set of states has over 64 of them.
 pub fn wide(rng: &mut Rng) -> Sheet {
-    match rng.below(4) {
+    match rng.below(5) {
         0 => hostile::overlapping(rng.within(60, 120), rng.within(1, 120), &[2, 3], rng.one_in(2)),
         1 => hostile::one_missing(rng.within(2, 20), rng.within(40, 120)),
+        2 => hostile::colliding_sets(rng.within(8, 255) as u32),
         _ => {
             let (states, records) = (rng.within(1, 5), rng.within(60, 250));
             let epsilons = *rng.pick(&[0, 20]);
