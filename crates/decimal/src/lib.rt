@@ -1,4 +1,6 @@
 // Decimal digits: written into lent memory, and read one by one.
+#![tactic(auto)]
+
 ghost use Rattle.std.specs.Prelude.{true, ◌≡◌, ◌+◌, ◌^◌, ◌≤◌, ◌<◌, length};
 ghost use Rattle.decimal.specs.Decimal.{digits, is_digit, with_digit};
 ghost use Rattle.stores.specs.Written.{Written};

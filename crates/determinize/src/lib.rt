@@ -1,5 +1,7 @@
 // Determinizing (document 01, "Determinizing"), in two passes: the table of the sets that words reach, with a note of each transition; then,
 // once every refusal is ruled out, the sheet.
+#![tactic(auto)]
+
 ghost use Rattle.std.specs.Prelude.{◌≡◌, ◌≤◌, length};
 ghost use Rattle.sheets.specs.inner.Accepted.{Accepted};
 ghost use Rattle.sheets.specs.Sheet.{read};

@@ -1,4 +1,6 @@
 // Join sets, by value and on lent arrays: each element's parent, the size of its class, and the number of elements.
+#![tactic(auto)]
+
 ghost use Rattle.std.specs.Prelude.{◌≡◌, List, ℕ, ◌<◌};
 ghost use Rattle.dsu.specs.declared.Found.{Found};
 ghost use Rattle.dsu.specs.Sets.{way, After, join, union_in, new_of, find_of, union_of};

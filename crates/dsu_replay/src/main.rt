@@ -3,6 +3,8 @@
 // The list on standard input was made by `compare`, binary `dsu_runs`, from the original dsu.rs: random runs, in which
 // a line of ten bytes is a letter and two numbers of three digits. n a: fresh sets of a. f a b: `find` of a answered b.
 // u a b: `union` of a and b. After a run, r a b: the parent of a is b; s a b: the size at a is b.
+#![tactic(auto)]
+
 ghost use Rattle.std.specs.Prelude.{◌≡◌, ◌≤◌};
 ghost use Rattle.dsu_replay.specs.Values.{chain_to, with_one};
 ghost use Rattle.dsu_replay.specs.Replay.{digit_of, three_digits, line_read, Readable, tallied_run, after_find, after_change, has_at, after_line};

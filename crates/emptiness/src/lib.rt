@@ -1,6 +1,8 @@
 // Emptiness: whether a state that accepts is reached from the start. The records ascend by the states that they leave, so one pass over them follows all
 // transitions that lead upward, and one from the last back to the first all that lead downward. Where neither pass decides, a search does: it marks each
 // state that it meets, follows its transitions once, and ends at the first state that accepts.
+#![tactic(auto)]
+
 ghost use Rattle.std.specs.Prelude.{◌≤◌, ◌<◌, [], ◌≡◌, length, drop};
 ghost use Rattle.automata.specs.Records.{read_records};
 ghost use Rattle.refusal.specs.Decision.{decision_of};

@@ -1,6 +1,8 @@
 // Epsilon elimination: each state gets the ranges and the acceptance of its closure. Closures and runs are found once. The ranges of a closure are
 // gathered and put in order by themselves, once for states in a row that have the same closure, and then those of all states one behind the other, in
 // local memory; nothing is written to an output before it is known that they are few enough.
+#![tactic(auto)]
+
 ghost use mathlib.Core.List.{[], ◌∷◌, ◌++◌, flat_map};
 ghost use Rattle.std.specs.Prelude.{◌≡◌, ◌+◌, ◌≤◌, ◌<◌, length};
 ghost use Rattle.stores.specs.Written.{Written};

@@ -1,4 +1,6 @@
 // Exact equality (document 01, "Equality"): both sheets are determinized, and the pairs of states of the two determinizations are walked.
+#![tactic(auto)]
+
 ghost use Rattle.std.specs.Prelude.{◌≤◌, length};
 ghost use Rattle.sheets.specs.inner.Accepted.{Accepted};
 ghost use Rattle.sheets.specs.Sheet.{read};

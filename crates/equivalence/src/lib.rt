@@ -1,6 +1,8 @@
 // `is_equivalent` (document 01, "Equality"): the starts of two automata are joined, and pairs of states are walked over their equal
 // triggers. Each pair joins two classes of states, so that there are fewer pairs than states. Two runs are in the order of their
 // triggers: one pass over both finds equal triggers, the first record of each, and a trigger that one of them lacks.
+#![tactic(auto)]
+
 ghost use Rattle.std.specs.Prelude.{◌≡◌, ◌+◌, ◌-◌, ◌≤◌, ◌<◌, length};
 ghost use Rattle.automata.specs.Records.{read_records};
 ghost use Rattle.automata.specs.inner.Records.{record_at};

@@ -1,5 +1,7 @@
 // The grammar of patterns: each piece is read at a cursor and answers the cursor behind it, or nothing. The next piece
 // starts only from a cursor.
+#![tactic(auto)]
+
 mod bytes;
 mod pieces;
 mod ranges;

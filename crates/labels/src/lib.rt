@@ -1,4 +1,6 @@
 // Label lists: the check, and reading labels one after the other. `writing` writes lists of labels.
+#![tactic(auto)]
+
 ghost use Rattle.std.specs.Prelude.{◌≡◌, ◌+◌, ◌≤◌, ◌<◌, length, get_or, take, drop};
 ghost use Rattle.labels.specs.Labels.{entries_ok, labels_fault, sameLabel};
 ghost use Rattle.labels.specs.Checked.{checked_number};

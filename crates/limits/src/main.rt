@@ -1,4 +1,6 @@
 // Prints document 01's sample on limits: the fault of sheets with the most states and transitions, and with one more.
+#![tactic(auto)]
+
 ghost use Rattle.std.specs.Prelude.{◌≡◌, ◌+◌, ◌*◌, ◌≤◌, ◌∷◌, length};
 ghost use Rattle.std.proofs.lemmas.List.Edits.{sets};
 ghost use Rattle.sheets.specs.Fault.{fault};

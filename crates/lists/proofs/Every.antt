@@ -23,6 +23,7 @@ all_cons f x l b e = rw e
 
 pub all_out : {A : Type 0} (f : A → Bool) {x : A} {l : List A} → x ∈ l → all f l ≡ true → f x ≡ true
 unfolding all
+all_out {A = A} f {l = []} x6 h = elim x6 [ ]
 all_out f {l = y ∷ l} (Memᴰ.head e) h = ap f e ∙ (and_parts (f y) (all f l) h).0
 all_out f {l = y ∷ l} (Memᴰ.tail m) h = all_out f m (and_parts (f y) (all f l) h).1
 
@@ -46,6 +47,7 @@ all_ext f g (x ∷ l) h = rw (h x (Memᴰ.head refl), all_ext f g l (λ y m. h y
 -- the members of lists one behind the other
 pub flat_in : {X Y : Type 0} (f : X → List Y) {x : X} {y : Y} {l : List X} → x ∈ l → y ∈ f x → y ∈ flat_map f l
 unfolding flat_map
+flat_in {X = X} {Y = Y} f {y = y} {l = []} x6 m = elim x6 [ ]
 flat_in f {y} {l = z ∷ l} (Memᴰ.head e) m = Memᴰ.append_left (flat_map f l) (subst (λ a. y ∈ f a) e m)
 flat_in f {l = z ∷ l} (Memᴰ.tail n) m = Memᴰ.append_right (f z) (flat_in f n m)
 

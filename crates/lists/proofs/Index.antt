@@ -85,6 +85,7 @@ module _ {X : Type 0} (same : X → X → Bool) (ok : Decides same) where
 
   pub index_lt : (x : X) {T : List X} → x ∈ T → index same x T < length T
   unfolding index
+  index_lt x {T = []} x3 = elim x3 [ ]
   index_lt x {T = y ∷ T} (Memᴰ.head e) = rw (same_yes x y e) (omega arith)
   index_lt x {T = y ∷ T} (Memᴰ.tail m) = go (same x y) (index_lt x m)
     where

@@ -19,6 +19,7 @@ any_out f (x ∷ l) h =
 
 pub any_in : {A : Type 0} (f : A → Bool) {x : A} {l : List A} → x ∈ l → f x ≡ true → any f l ≡ true
 unfolding any
+any_in {A = A} f {l = []} x6 h = elim x6 [ ]
 any_in f {l = y ∷ l} (Memᴰ.head e) h = or_left _ _ (ap f (sym e) ∙ h)
 any_in f {l = y ∷ l} (Memᴰ.tail m) h = or_right (f y) _ (any_in f m h)
 
@@ -35,6 +36,7 @@ map_at f (x ∷ l) (suc k) d e h = map_at f l k d e (omega arith)
 
 pub filter_in : {A : Type 0} (f : A → Bool) {x : A} {l : List A} → x ∈ l → f x ≡ true → x ∈ filter f l
 unfolding filter
+filter_in {A = A} f {x = x} {l = []} x6 h = elim x6 [ ]
 filter_in f {l = y ∷ l} (Memᴰ.head e) h = rw (ap f (sym e) ∙ h) (Memᴰ.head e)
 filter_in f {x} {l = y ∷ l} (Memᴰ.tail m) h = skip (f y) (filter_in f m h)
   where

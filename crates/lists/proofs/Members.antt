@@ -41,6 +41,7 @@ module _ {X : Type 0} where
 
   -- a list without one of its members
   unfoldable pub without : {x : X} {l : List X} → x ∈ l → List X
+  without {l = []} x3 = elim x3 [ ]
   without {l = y ∷ l} (Memᴰ.head e) = l
   without {l = y ∷ l} (Memᴰ.tail m) = y ∷ without m
 
@@ -52,6 +53,7 @@ module _ {X : Type 0} where
   pub without_in : {x : X} {l : List X} (m : x ∈ l) (y : X) → y ∈ l → (y ≡ x → ⊥) → y ∈ without m
   unfolding without
   without_in {l = z ∷ l} (Memᴰ.head e) y k n = ⊎_elim (λ (q : y ≡ z). absurd (n (q ∙ sym e))) (λ k. k) (Memᴰ.cases_cons k)
+  without_in {l = []} m y k n = elim m [ ]
   without_in {l = z ∷ l} (Memᴰ.tail m) y k n = ⊎_elim (λ q. Memᴰ.head q) (λ k. Memᴰ.tail (without_in m y k n)) (Memᴰ.cases_cons k)
 
   -- distinct elements that are all members of a list are no more than its elements
@@ -145,6 +147,7 @@ abbrev pub Place : {X : Type 0} → X → List X → Type 0
 Place {X} x l = (j : ℕ) × (j < length l) × (r : List X) × (drop j l ≡ x ∷ r)
 
 pub place : {X : Type 0} {x : X} {l : List X} → x ∈ l → Place x l
+place {X = X} {l = []} x3 = elim x3 [ ]
 place {l = y ∷ l} (Memᴰ.head e) = (0, omega arith, l, ap (λ z. z ∷ l) (sym e))
 place {l = y ∷ l} (Memᴰ.tail m) = let p = place m in (suc p.0, omega (arith, p.1), p.2, p.3)
 

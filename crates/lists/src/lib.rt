@@ -1,1 +1,2 @@
 // Lists: the definitions and laws on tests and lists that the other crates share, in specs/ and proofs/.
+#![tactic(auto)]

@@ -1,5 +1,7 @@
 // Prints how many sets determinizing compares in its look-ups: on the chain of 255 states, where they are at most 4,096, and on a pattern with 255 sets that all start at the same place.
 // What counts is the code of every determinization.
+#![tactic(auto)]
+
 ghost use Rattle.std.specs.Prelude.{◌≡◌, ◌+◌, ◌*◌, ◌≤◌, [], ◌∷◌, ◌++◌, length, take};
 ghost use Rattle.stores.specs.Written.{Written};
 ghost use Rattle.lookups.specs.Lookups.{links, chain, number, to_state, to_set, to_sets, colliding};

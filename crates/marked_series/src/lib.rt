@@ -1,5 +1,7 @@
 // A ring series with an outer mark (document 02, M-103): 0 says that its last ring is whole, 1 that it is unfinished, as in a tree felled in summer. An
 // unfinished ring is no measurement and is left off before the series is matched. Nothing is copied: the whole rings are a part of the slice.
+#![tactic(auto)]
+
 ghost use Rattle.std.specs.Prelude.{◌≡◌};
 ghost use Rattle.words.specs.Acceptance.{acceptance_of};
 ghost use Rattle.marked_series.specs.Series.{whole_rings, accepts_series_answer};

@@ -1,4 +1,6 @@
 // `is_nfa`: epsilons, overlaps and holes of the states of a sheet. Each record is read once: the holes of a state are found in one pass over its run.
+#![tactic(auto)]
+
 ghost use Rattle.std.specs.Prelude.{◌≡◌, ◌+◌, ◌*◌, ◌≤◌, ◌<◌, length};
 ghost use Rattle.automata.specs.Automaton.{states, ranges_of};
 ghost use Rattle.automata.specs.Records.{read_records};

@@ -1,4 +1,6 @@
 // The outputs of operations: a sheet into a lent buffer of at least 10,500 words, its labels into one of at least 16,642 bytes.
+#![tactic(auto)]
+
 ghost use Rattle.std.specs.Prelude.{◌||◌, [], ◌∷◌, ◌≡◌, ◌+◌, ◌≤◌, ltb, length};
 ghost use Rattle.stores.specs.Written.{Written};
 ghost use Rattle.output.specs.Output.{labels_size, sheet_size};

@@ -1,5 +1,7 @@
 // A queue of pairs of states of two automata, and the join sets of the states of both. The states of the second automaton are counted
 // behind the n1 states of the first. Each pair in the queue made two classes of states one, so that there are fewer pairs than states.
+#![tactic(auto)]
+
 ghost use Rattle.pairs.specs.inner.Pairs.{pairs_of, PairFits, PairJoined};
 
 // The states p and q are joined; where they were not joined before, the pair is put behind the others. How many pairs there are then.

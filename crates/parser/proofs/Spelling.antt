@@ -1,6 +1,6 @@
 -- Laws of the accepting names: whether all are states, by the table of the states or by tables of accepting names.
 use Prim.Native.Nat.{ℕ, ◌+◌, ◌≤◌, ◌<◌}
-use mathlib.Core.Bool.{Bool, true, false, cond, not, ◌&&◌, ◌||◌, and-true, and_assoc, or_false}
+use mathlib.Core.Bool.{Bool, true, false, cond, not, ◌&&◌, ◌||◌, and-true, and_assoc, or-false}
 use mathlib.Core.List.{List, [], ◌∷◌, map, flat_map}
 use mathlib.Core.Path.{◌≡◌, refl, sym, ◌∙◌, ap, ap₂}
 use native.Mathlib.Omega.{arith}
@@ -130,7 +130,7 @@ unfolding all_names spans_from any
 among_all t x at l =
     ap (λ (ns : List (List ℕ)). any (sameLabel l) (spelled t x ∷ ns)) (spans_names t (transitions t at).items)
     ∙ sym (meet_any sameLabel same_decides (sameLabel l) (names_of (moves_at t at)) (spelled t x ∷ [])
-    ∙ ap (λ b. b || any (sameLabel l) (names_of (moves_at t at))) (or_false (sameLabel l (spelled t x))))
+    ∙ ap (λ b. b || any (sameLabel l) (names_of (moves_at t at))) (or-false (sameLabel l (spelled t x))))
 
 -- the words of a table's names are marked by the states' names
 module _ (t b : List ℕ) (n : ℕ) (k : SpeltTable t b n) (x : TextSpan) (at : ℕ) (us vs ws : List ℕ) (z : Zeros 256 us) (q : vs ≡ mark_one t (names_in t b n) us x)

@@ -1,4 +1,6 @@
 // Reading a pattern from its text: its parts in order, with the states and the transitions on the way, and only then the outputs.
+#![tactic(auto)]
+
 ghost use Rattle.std.specs.Prelude.{cond, [], ◌∷◌, ◌++◌, map, ◌≡◌, ◌+◌, ◌/◌, ◌≤◌, ◌<◌, length};
 ghost use Rattle.grammar.specs.Places.{spelled};
 ghost use Rattle.grammar.specs.inner.Parts.{told_from};

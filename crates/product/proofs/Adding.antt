@@ -1,6 +1,6 @@
 -- Gathering the transitions of the pairs: the laws by which these loops are proved.
 use Prim.Native.Nat.{ℕ, suc, ◌+◌, ◌-◌, ◌/◌, ◌%◌, ◌≤◌, ◌<◌}
-use mathlib.Core.List.{List, [], ◌∷◌, ◌++◌, map, map_append}
+use mathlib.Core.List.{List, [], ◌∷◌, ◌++◌, map, map-append}
 use mathlib.Core.Path.{◌≡◌, sym, ◌∙◌, ap, ap₂, subst}
 use native.Mathlib.Numerals.{add-one}
 use native.Mathlib.Omega.{arith}
@@ -69,11 +69,11 @@ module _ (T : List Pair) (i : ℕ) where
 
   links_left : (d : Transition) (ds es : List Transition) → links T i (d ∷ ds) es ≡ links T i (d ∷ []) es ++ links T i ds es
   unfolding links
-  links_left d ds es = ap (map (transition_of_joint (place_in T) i)) (joints_left d ds es) ∙ map_append (transition_of_joint (place_in T) i) (joints_of (d ∷ []) es) (joints_of ds es)
+  links_left d ds es = ap (map (transition_of_joint (place_in T) i)) (joints_left d ds es) ∙ map-append (transition_of_joint (place_in T) i) (joints_of (d ∷ []) es) (joints_of ds es)
 
   links_right : (d e : Transition) (es : List Transition) → links T i (d ∷ []) (e ∷ es) ≡ links T i (d ∷ []) (e ∷ []) ++ links T i (d ∷ []) es
   unfolding links
-  links_right d e es = ap (map (transition_of_joint (place_in T) i)) (joints_right d e es) ∙ map_append (transition_of_joint (place_in T) i) (joints_of (d ∷ []) (e ∷ [])) (joints_of (d ∷ []) es)
+  links_right d e es = ap (map (transition_of_joint (place_in T) i)) (joints_right d e es) ∙ map-append (transition_of_joint (place_in T) i) (joints_of (d ∷ []) (e ∷ [])) (joints_of (d ∷ []) es)
 
 -- a record with those of a run, which are left from a place on
 pub run_begins : (buf : List ℕ) (sorted end : ℕ) (T : List Pair) (i : ℕ) (d run : List ℕ) → Open buf sorted end

@@ -1,6 +1,6 @@
 -- Meeting the pairs to which records lead: the laws by which the loops over two runs are proved.
 use Prim.Native.Nat.{ℕ, ◌+◌, ◌-◌, ◌≤◌, ◌<◌}
-use mathlib.Core.List.{List, [], ◌∷◌, ◌++◌, map, map_append}
+use mathlib.Core.List.{List, [], ◌∷◌, ◌++◌, map, map-append}
 use mathlib.Core.Path.{◌≡◌, refl, sym, ◌∙◌, ap, subst}
 use borrow.Author.Rules.{rules}
 use lib.ListN.{get_or, length, take, drop}
@@ -59,11 +59,11 @@ targets_none_right ds = targets_none ds [] (joints_none_right ds)
 
 targets_left : (d : Transition) (ds es : List Transition) → joint_targets (d ∷ ds) es ≡ joint_targets (d ∷ []) es ++ joint_targets ds es
 unfolding joint_targets
-targets_left d ds es = ap (map (λ j. j.to)) (joints_left d ds es) ∙ map_append (λ (j : Joint). j.to) (joints_of (d ∷ []) es) (joints_of ds es)
+targets_left d ds es = ap (map (λ j. j.to)) (joints_left d ds es) ∙ map-append (λ (j : Joint). j.to) (joints_of (d ∷ []) es) (joints_of ds es)
 
 targets_right : (d e : Transition) (es : List Transition) → joint_targets (d ∷ []) (e ∷ es) ≡ joint_targets (d ∷ []) (e ∷ []) ++ joint_targets (d ∷ []) es
 unfolding joint_targets
-targets_right d e es = ap (map (λ j. j.to)) (joints_right d e es) ∙ map_append (λ (j : Joint). j.to) (joints_of (d ∷ []) (e ∷ [])) (joints_of (d ∷ []) es)
+targets_right d e es = ap (map (λ j. j.to)) (joints_right d e es) ∙ map-append (λ (j : Joint). j.to) (joints_of (d ∷ []) (e ∷ [])) (joints_of (d ∷ []) es)
 
 -- a record with those of a run, which are left from a place on
 module _ (d run queue₀ : List ℕ) (n₀ : ℕ) (queue t : List ℕ) (n at : ℕ) (k : Queued queue t n)

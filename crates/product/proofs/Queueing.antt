@@ -1,7 +1,7 @@
 -- A queue of pairs and the table of their numbers: what one pair more changes, and what is left to be met.
 use Prim.Native.Nat.{ℕ, ◌+◌, ◌*◌, ◌/◌, ◌%◌, ◌≤◌, ◌<◌}
 use mathlib.Core.Bool.{true, false}
-use mathlib.Core.List.{List, [], ◌∷◌, ◌++◌, map, map_append}
+use mathlib.Core.List.{List, [], ◌∷◌, ◌++◌, map, map-append}
 use mathlib.Core.Logic.{⊎_elim}
 use mathlib.Core.Path.{◌≡◌, refl, sym, ◌∙◌, ap, subst}
 use native.Mathlib.Numerals.{add-one}
@@ -82,7 +82,7 @@ module _ (queue t : List ℕ) (n p q : ℕ) (k : Queued queue t n) (hq : q < 256
 
       grown : table_of (set queue n (p * 256 + q)) (n + 1) ≡ table_of queue n ++ record { left = p; right = q } ∷ []
       unfolding table_of
-      grown = ap (map pair_of) taken ∙ map_append pair_of (take n queue) _ ∙ ap (λ x. map pair_of (take n queue) ++ x ∷ []) (word_pair p q hq)
+      grown = ap (map pair_of) taken ∙ map-append pair_of (take n queue) _ ∙ ap (λ x. map pair_of (take n queue) ++ x ∷ []) (word_pair p q hq)
 
       met : (u : List ℕ) → length u ≡ length t → (n + 1 ≤ 256 → (i : ℕ) → i < n + 1 → get_or u (get_or (set queue n (p * 256 + q)) i 0) 0 ≡ i)
           → PairsMet (table_of queue n) (record { left = p; right = q } ∷ []) (set queue n (p * 256 + q)) u (n + 1)

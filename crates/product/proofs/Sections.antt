@@ -2,7 +2,7 @@
 use Prim.Native.Nat.{ℕ, ◌+◌, ◌/◌, ◌%◌, ◌≤◌, ◌<◌}
 use mathlib.Core.Bool.{cond}
 use mathlib.Core.List.Memᴰ
-use mathlib.Core.List.{List, [], ◌∷◌, ◌++◌, map, map_append}
+use mathlib.Core.List.{List, [], ◌∷◌, ◌++◌, map, map-append}
 use mathlib.Core.Path.{◌≡◌, refl, sym, ◌∙◌, ap, ap₂, subst}
 use native.Mathlib.Nat.{le_antisymm}
 use native.Mathlib.Omega.{arith}
@@ -27,7 +27,7 @@ use Rattle.product.proofs.Queueing.{length_table}
 -- one entry more
 table_more : (words : List ℕ) (i : ℕ) → i < length words → table_of words (i + 1) ≡ table_of words i ++ pair_of (get_or words i 0) ∷ []
 unfolding table_of
-table_more words i h = ap (map pair_of) (take_more words i h) ∙ map_append pair_of (take i words) (get_or words i 0 ∷ [])
+table_more words i h = ap (map pair_of) (take_more words i h) ∙ map-append pair_of (take i words) (get_or words i 0 ∷ [])
 
 pub accept_pair : (a b : List ℕ) (c x : ℕ) → (pair_of c).left < state_count a → (pair_of c).right < state_count b → x ≡ cond (eqb (get_or b (c % 256 + 3) 0) 0) 0 (get_or a (c / 256 + 3) 0)
     → x ≡ pair_accept (read a) (read b) (pair_of c)
@@ -43,7 +43,7 @@ module _ (a b words : List ℕ) (n i : ℕ) (out₀ out : List ℕ) (at end : �
   pub words_next : i < n → (x : ℕ) → x ≡ pair_accept (read a) (read b) (pair_of (get_or words i 0)) → Written out₀ at (map (pair_accept (read a) (read b)) (table_of words (i + 1))) (set out end x) (end + 1)
   words_next h x e =
       let m : map (pair_accept (read a) (read b)) (table_of words (i + 1)) ≡ map (pair_accept (read a) (read b)) (table_of words i) ++ x ∷ [] =
-      ap (map (pair_accept (read a) (read b))) (table_more words i (omega arith)) ∙ map_append (pair_accept (read a) (read b)) (table_of words i) _
+      ap (map (pair_accept (read a) (read b))) (table_more words i (omega arith)) ∙ map-append (pair_accept (read a) (read b)) (table_of words i) _
       ∙ ap (λ y. map (pair_accept (read a) (read b)) (table_of words i) ++ y ∷ []) (sym e) in
       rw m (written_more out₀ out _ at end x w)
 
@@ -89,7 +89,7 @@ within_front words n i l h w = record { states = λ p m. w.states p (front m) }
     cut = sym (take-append-drop i (take n words)) ∙ ap (λ x. x ++ drop i (take n words)) (take-take i n words h)
 
     front : {p : Pair} → p ∈ map pair_of (take i words) → p ∈ map pair_of (take n words)
-    front {p} m = subst (λ (x : List Pair). p ∈ x) (sym (ap (map pair_of) cut ∙ map_append pair_of (take i words) (drop i (take n words)))) (Memᴰ.append_left (map pair_of (drop i (take n words))) m)
+    front {p} m = subst (λ (x : List Pair). p ∈ x) (sym (ap (map pair_of) cut ∙ map-append pair_of (take i words) (drop i (take n words)))) (Memᴰ.append_left (map pair_of (drop i (take n words))) m)
 
 pub labels_begin : (words m : List ℕ) (at : ℕ) → Written m at (write_entries (map pair_label_of (table_of words 0))) m at
 unfolding table_of
@@ -106,7 +106,7 @@ module _ (words : List ℕ) (n i : ℕ) (names m o : List ℕ) (first at : ℕ) 
 
   pub labels_next : i < n → (s : List ℕ) (r : ℕ) → Written o at (entry (pair_label_of (pair_of (get_or words i 0)))) s r → Written m first (write_entries (map pair_label_of (table_of words (i + 1)))) s r
   labels_next h s r v =
-      rw (table_more words i (omega arith), map_append pair_label_of (table_of words i) (pair_of (get_or words i 0) ∷ [])) (list_next m o s (pair_label_of (pair_of (get_or words i 0))) (map pair_label_of (table_of words i)) first at r w v)
+      rw (table_more words i (omega arith), map-append pair_label_of (table_of words i) (pair_of (get_or words i 0) ∷ [])) (list_next m o s (pair_label_of (pair_of (get_or words i 0))) (map pair_label_of (table_of words i)) first at r w v)
 
   pub labels_ended : n ≤ i → i ≤ n → Written names 0 (write_labels (map pair_label_of (table_of words n))) o at
   labels_ended h k =

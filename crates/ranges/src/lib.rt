@@ -1,5 +1,7 @@
 // Ranges of symbols: what two ranges share, whether the ranges of a run of records overlap, and the symbols that none of them holds.
 // Each function on a run reads each of its records once.
+#![tactic(auto)]
+
 ghost use Rattle.std.specs.Prelude.{◌≡◌, ◌+◌, ◌*◌, ◌≤◌, min, max, length};
 ghost use Rattle.std.proofs.lemmas.List.Edits.{sets};
 ghost use Rattle.automata.specs.Automaton.{ranges_of};

@@ -1,5 +1,7 @@
 // The refusals: those that come from the input (1 to 10 of document 01, 30 to 34 of document 02), those that come from the state (20 to 24),
 // and either.
+#![tactic(auto)]
+
 ghost use Rattle.std.specs.Prelude.{◌≡◌};
 ghost use Rattle.refusal.specs.Number.{input_number, state_number, number_of};
 

@@ -1,4 +1,6 @@
 // Test support: reads lines of decimal numbers, takes the lists of a case apart, and counts the cases that agreed.
+#![tactic(auto)]
+
 ghost use Rattle.std.specs.Prelude.{true, [], ◌≡◌, ◌+◌, ◌^◌, ◌<◌, length, take};
 ghost use Rattle.std.proofs.lemmas.List.Edits.{sets};
 ghost use Rattle.io.specs.Counts.{IsPrefixLen};

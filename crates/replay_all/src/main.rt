@@ -20,6 +20,8 @@
 // compare --emit parse --seed 1 --count 200
 // compare --emit write --seed 1 --count 200
 // compare --emit equality --seed 1 --count 200
+#![tactic(auto)]
+
 ghost use Rattle.std.specs.Prelude.{◌≡◌, ◌<◌};
 ghost use Rattle.replay.specs.Counting.{Bounded};
 ghost use Rattle.replay_all.specs.Agreement.{Agrees, Counted, Turned};

@@ -1,5 +1,7 @@
 // The public face for other languages: one C function for each public call. A slice is a pointer and a length. The result is 0, or
 // the refusal's number, and then nothing else was written.
+#![tactic(auto)]
+
 ghost use Rattle.std.specs.Prelude.{◌≡◌, List, ℕ};
 ghost use Rattle.output.specs.Made.{output_of};
 ghost use Rattle.parser.specs.Parsed.{parsed_of};

@@ -3,6 +3,8 @@
 //
 // Unreadable is input over 65,536 bytes or over 10,500 numbers on the first line, input with another byte than digits, blanks and the line
 // feeds that end the two lines, and a number over 4294967295. The second line may be empty; where it is not, its line feed may be missing.
+#![tactic(auto)]
+
 mod tested;
 
 use libc::STDOUT_FILENO;

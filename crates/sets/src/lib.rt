@@ -1,5 +1,7 @@
 // Sets of states: rows of four 64-bit words in a flat table, state q being bit q % 64 of word q / 64.
 // A set alone is a table of one row.
+#![tactic(auto)]
+
 ghost use Rattle.std.specs.Prelude.{◌≡◌, ◌+◌, ◌*◌, ◌≤◌, ◌<◌, length};
 ghost use Rattle.std.specs.Int.Count.{count_trailing_zeros};
 ghost use Rattle.lists.specs.Index.{same};

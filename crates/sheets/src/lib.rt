@@ -1,5 +1,7 @@
 // The sheet: an automaton as a list of words. The check goes through the words once, and through the records twice where one of them leaves a state that the
 // sheet does not have; `reading` reads accepted sheets.
+#![tactic(auto)]
+
 ghost use Rattle.std.specs.Prelude.{◌≡◌, false, [], ◌+◌, ◌-◌, ◌*◌, ◌≤◌, eqb, length};
 ghost use Rattle.automata.specs.Ordered.{less};
 ghost use Rattle.automata.specs.Records.{read_records};

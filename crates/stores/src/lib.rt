@@ -1,4 +1,6 @@
 // Stores: bytes and words into lent memory. Each function answers the place behind what it wrote.
+#![tactic(auto)]
+
 ghost use Rattle.std.specs.Prelude.{[], ◌∷◌, ◌+◌, ◌≤◌, ◌<◌, length};
 ghost use Rattle.stores.specs.Written.{Written};
 

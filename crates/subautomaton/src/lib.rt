@@ -1,5 +1,7 @@
 // Whether an automaton is a subautomaton of another, by the labels of their states. The different labels of the second automaton are put in order;
 // each state has the number of its label among them, found by binary search, and a transition is sought only in the runs of states of its number.
+#![tactic(auto)]
+
 ghost use Rattle.std.specs.Prelude.{◌≡◌, ◌≤◌, ◌<◌, length, drop};
 ghost use Rattle.output.specs.Output.{read_pattern};
 ghost use Rattle.lists.specs.Lists.{any, all};

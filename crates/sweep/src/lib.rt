@@ -2,6 +2,8 @@
 // are put in order once, in two lists of the numbers of its ranges. For each target the pass keeps its reach, the end of the longest range to it that
 // has opened: the target is live while its reach is above the symbol. The closures of the live targets are the leaves of a tree of unions, so that a
 // target that begins or ceases to be live costs one way from its leaf to the root, and the root is what the symbol leads to.
+#![tactic(auto)]
+
 ghost use Rattle.std.specs.Prelude.{◌≡◌, ◌+◌, ◌*◌, ◌≤◌, ◌<◌, length};
 ghost use Rattle.sets.specs.Sets.{has};
 ghost use Rattle.sets.specs.inner.BitSet.{set_at};

@@ -1,7 +1,7 @@
 -- The laws of writing whole sheets: accept words, the front of a sheet, the totalized sheet and the flipped copy.
 use Prim.Native.Nat.{ℕ, ◌+◌, ◌-◌, ◌*◌, ◌≤◌, ◌<◌}
 use mathlib.Core.Bool.{Bool, true, false}
-use mathlib.Core.List.{List, [], ◌∷◌, ◌++◌, map, map_append, map-id, append_assoc}
+use mathlib.Core.List.{List, [], ◌∷◌, ◌++◌, map, map-append, map-id, append_assoc}
 use mathlib.Core.Path.{◌≡◌, refl, sym, ◌∙◌}
 use native.Mathlib.Omega.{arith}
 use borrow.Author.Rules.{rules}
@@ -41,7 +41,7 @@ accepts_none o words at b = written_none o at
 
 module _ (o₀ o words : List ℕ) (at end i : ℕ) (b : Bool) (w : Written o₀ at (map (flipped_word_if b) (take i words)) o end) where
   pub accepts_next : i < length words → (x : ℕ) → x ≡ flipped_word_if b (get_or words i 0) → Written o₀ at (map (flipped_word_if b) (take (i + 1) words)) (set o end x) (end + 1)
-  accepts_next h x e = rw (take_more words i h, e, map_append (flipped_word_if b) (take i words)) (written_more o₀ o _ at end (flipped_word_if b (get_or words i 0)) w)
+  accepts_next h x e = rw (take_more words i h, e, map-append (flipped_word_if b) (take i words)) (written_more o₀ o _ at end (flipped_word_if b (get_or words i 0)) w)
 
   pub accepts_done : length words ≤ i → Written o₀ at (map (flipped_word_if b) words) o end
   accepts_done h = rw (take_all i words h) at w
@@ -125,7 +125,7 @@ module _ (s starts holes : List ℕ) (inputs : HolesInputs s starts holes) (lowe
           let m : length (F ++ l ∷ []) ≡ count = length_totalized lower upper (read s) (read_well s inputs.accepted) ∙ sym small.counted in
           let all = written_append o o₂ o₃ _ _ 0 e₂ e₃ (written_append o o₁ o₂ _ _ 0 e₁ e₂ front filled) last in
           let e : write (flipped_if b (totalized lower upper (read s))) ≡ (front_words b s count ++ write_records F) ++ write_records (l ∷ []) =
-          write_flipped_if b (totalized lower upper (read s)) ∙ rw (map_append (flipped_word_if b) (read s).accept (0 ∷ []), m, write_append F (l ∷ [])) (simp append_assoc refl) in
+          write_flipped_if b (totalized lower upper (read s)) ∙ rw (map-append (flipped_word_if b) (read s).accept (0 ∷ []), m, write_append F (l ∷ [])) (simp append_assoc refl) in
           rw e all
 
 pub ruleset total_laws = (total_few, rows_room, loop_room, total_written, rules)

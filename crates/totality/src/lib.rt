@@ -1,4 +1,6 @@
 // `totalize` and `complement`: the checks, the limits and the answers. `total` writes the totalized sheet.
+#![tactic(auto)]
+
 ghost use Rattle.std.specs.Prelude.{◌≡◌, ◌+◌, ◌≤◌, ◌<◌, length};
 ghost use Rattle.labels.specs.Checked.{checked_number};
 ghost use Rattle.labels.specs.Labels.{labels_fault, read_labels};

@@ -1,4 +1,6 @@
 // UTF-8 after RFC 3629: what stands at a place of a text, and whether a text is wellformed.
+#![tactic(auto)]
+
 ghost use Rattle.std.specs.Prelude.{◌≡◌, ◌+◌, ◌*◌, ◌%◌, ◌^◌, ◌<◌, length, get_or, drop};
 ghost use Rattle.utf8.specs.Utf8.{sequence_length, is_continuation, is_improper, least_value, scalar_of, sequence};
 ghost use Rattle.utf8.specs.inner.Steps.{placed, step_at, wellformed};

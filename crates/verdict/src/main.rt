@@ -1,5 +1,7 @@
 // Whether two patterns accept the same series: standard input has their texts, with optional space between and after. Prints `same` and the
 // joins, `differ` and the symbols of a word that exactly one accepts, or `refused` and the refusal's number (document 01, program `verdict`).
+#![tactic(auto)]
+
 use libc::STDOUT_FILENO;
 
 fn main() {

@@ -1,4 +1,6 @@
 // The line that the program `verdict` prints: whether the patterns of two texts accept the same words.
+#![tactic(auto)]
+
 ghost use Rattle.std.specs.Prelude.{◌≡◌, ◌≤◌, length};
 ghost use Rattle.automata.specs.WellFormed.{last_symbol};
 ghost use Rattle.sheets.specs.Fault.{fault};

@@ -1,6 +1,8 @@
 // Prints the lines of the program `verdict` for the two samples of document 01 and for inputs at the edges of its rules: the empty word, no
 // space between the texts, space after the second, the refusals of what is not two texts, and those of an accepting name that is no state: in the
 // second text, in the first, and before a second that is outside the grammar.
+#![tactic(auto)]
+
 use libc::STDOUT_FILENO;
 
 fn say(input: &[u8]) {

@@ -1,6 +1,6 @@
 -- The laws by which a step is proved: gathering record by record, and member by member.
 use Prim.Native.Nat.{ℕ, ◌+◌, ◌-◌, ◌*◌, ◌≤◌, ◌<◌}
-use mathlib.Core.Bool.{Bool, true, false, ◌&&◌, ◌||◌, or_false}
+use mathlib.Core.Bool.{Bool, true, false, ◌&&◌, ◌||◌, or-false}
 use mathlib.Core.List.{List, [], ◌∷◌}
 use mathlib.Core.Logic.{⊎_elim}
 use mathlib.Core.Path.{◌≡◌, refl, sym, ◌∙◌, ap, subst}
@@ -40,7 +40,7 @@ any_false (x ∷ xs) = any_false xs
 module _ {X : Type 0} (f : ℕ → X → Bool) where
   pub all_none : (S : Set) → Canon 256 S → with_all S f [] ≡ S
   unfolding with_all any
-  all_none S c = pick_ext 0 256 _ _ (λ q l. or_false (has q S)) ∙ c
+  all_none S c = pick_ext 0 256 _ _ (λ q l. or-false (has q S)) ∙ c
 
   pub all_cons : (S : Set) (x : X) (xs : List X) → with_all S f (x ∷ xs) ≡ with_all (with_all S f (x ∷ [])) f xs
   unfolding with_all any
@@ -48,15 +48,15 @@ module _ {X : Type 0} (f : ℕ → X → Bool) where
       pick_ext 0 256 _ _
       (λ q l.
       or_assoc (has q S) (f q x) (any (f q) xs)
-      ∙ ap (λ b. b || any (f q) xs) (ap (λ b. has q S || b) (sym (or_false (f q x))) ∙ sym (has_pick 256 _ q (omega arith))))
+      ∙ ap (λ b. b || any (f q) xs) (ap (λ b. has q S || b) (sym (or-false (f q x))) ∙ sym (has_pick 256 _ q (omega arith))))
 
   pub all_skip : (S : Set) (x : X) → Canon 256 S → ((q : ℕ) → f q x ≡ false) → with_all S f (x ∷ []) ≡ S
   unfolding with_all any
-  all_skip S x c h = pick_ext 0 256 _ _ (λ q l. ap (λ b. has q S || (b || false)) (h q) ∙ or_false (has q S)) ∙ c
+  all_skip S x c h = pick_ext 0 256 _ _ (λ q l. ap (λ b. has q S || (b || false)) (h q) ∙ or-false (has q S)) ∙ c
 
   pub all_one : (S : Set) (x : X) → with_all S f (x ∷ []) ≡ pick 256 (λ q. has q S || f q x)
   unfolding with_all any
-  all_one S x = pick_ext 0 256 _ _ (λ q l. ap (λ b. has q S || b) (or_false (f q x)))
+  all_one S x = pick_ext 0 256 _ _ (λ q l. ap (λ b. has q S || b) (or-false (f q x)))
 
   all_nothing : (S : Set) (xs : List X) → ((q : ℕ) (x : X) → x ∈ xs → f q x ≡ false) → with_all S f [] ≡ with_all S f xs
   unfolding with_all any

@@ -1,6 +1,8 @@
 // Closures, steps and acceptance: the states that a word leads to are kept as a set of bits, and each symbol leads to the
 // union of the closures of all targets whose range holds it. Closures are made once; a symbol costs at most the records of
 // the sheet.
+#![tactic(auto)]
+
 ghost use Rattle.std.specs.Prelude.{true, ◌≡◌, [], ◌∷◌, ◌+◌, ◌*◌, ◌≤◌, ◌<◌, length, get_or};
 ghost use Rattle.automata.specs.Automaton.{ranges_of};
 ghost use Rattle.automata.specs.Records.{read_records};

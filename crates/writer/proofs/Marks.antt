@@ -1,6 +1,6 @@
 -- The marks of the written states: those that the records so far name are marked, and the records left name the others.
 use Prim.Native.Nat.{ℕ, ◌+◌, ◌-◌, ◌≤◌, ◌<◌}
-use mathlib.Core.Bool.{Bool, true, false, cond, ◌||◌, or_false}
+use mathlib.Core.Bool.{Bool, true, false, cond, ◌||◌, or-false}
 use mathlib.Core.List.Memᴰ
 use mathlib.Core.List.{List}
 use mathlib.Core.Logic.{⊎_elim}
@@ -73,7 +73,7 @@ module _ (s m : List ℕ) where
   begun : Accepted s → Zeros 256 m → (q : ℕ) → eqb (get_or (set m (get_or s 1 0) 1) q 0) 1 ≡ eqb q (get_or s 1 0)
   begun a u q =
       mark_at m (get_or s 1 0) q (start_marks a u) (eqb q (get_or s 1 0)) (λ e. sym (eqb-true q (get_or s 1 0) e)) (λ e z. eqb-false q (get_or s 1 0) e (sym z))
-      ∙ ap (λ (x : ℕ). eqb q (get_or s 1 0) || eqb x 1) (u.zero q) ∙ or_false (eqb q (get_or s 1 0))
+      ∙ ap (λ (x : ℕ). eqb q (get_or s 1 0) || eqb x 1) (u.zero q) ∙ or-false (eqb q (get_or s 1 0))
 
   pub marks_begin : Accepted s → Zeros 256 m → MarksLeft s (set m (get_or s 1 0) 1) (get_or s 2 0 + 4)
   unfolding is_written
@@ -89,7 +89,7 @@ module _ (s m : List ℕ) where
     ended : (q : ℕ) → eqb (get_or m q 0) 1 ≡ is_written (read s) q
     unfolding any
     ended q =
-        sym (or_false (eqb (get_or m q 0) 1)) ∙ ap (λ (es : List Transition). eqb (get_or m q 0) 1 || any (names q) es) (sym (records_end s at h)) ∙ i.left q
+        sym (or-false (eqb (get_or m q 0) 1)) ∙ ap (λ (es : List Transition). eqb (get_or m q 0) 1 || any (names q) es) (sym (records_end s at h)) ∙ i.left q
 
     pub marks_end : m ≡ written_marks (read s)
     unfolding written_marks

@@ -1,4 +1,6 @@
 // Writing: the text of a sheet and its labels, in the grammar. Nothing is written before it is known that nothing is refused.
+#![tactic(auto)]
+
 ghost use Rattle.std.specs.Prelude.{◌≡◌, ◌≤◌, length};
 ghost use Rattle.labels.specs.Labels.{labels_fault};
 ghost use Rattle.output.specs.Output.{read_pattern, labels_first};
