@@ -7,18 +7,18 @@ use Rattle.stores.proofs.Copying.{copy_laws}
 use Rattle.stores.proofs.put_words.Statement.{statement}
 use Rattle.stores.proofs.put_words.Tie as tie
 
-abbrev invariant-loop : tie.invariant-loop
-invariant-loop out₀ at words end₀ i₀ out end i = (i ≤ length words) × (end ≡ at + i) × (length out ≡ length out₀) × Written out₀ at (take i words) out end
+abbrev invariant-loop-i : tie.invariant-loop-i
+invariant-loop-i out₀ at words end₀ i₀ out end i = (i ≤ length words) × (end ≡ at + i) × (length out ≡ length out₀) × Written out₀ at (take i words) out end
 
-abbrev decreases-loop : tie.decreases-loop
-decreases-loop out₀ at words end₀ i₀ out end i = length words - i
+abbrev decreases-loop-i : tie.decreases-loop-i
+decreases-loop-i out₀ at words end₀ i₀ out end i = length words - i
 
-pub put-words-spec : {M : Type 1} → statement M
-put-words-spec =
+pub put_words_spec : {M : Type 1} → statement M
+put_words_spec =
     tie.close
     (tie.spec
-    invariant-loop
-    decreases-loop
+    invariant-loop-i
+    decreases-loop-i
     (λ c. search copy_laws)
     (λ c. search copy_laws)
     (λ c. search copy_laws)
