@@ -47,6 +47,7 @@ below_found end {es = d ∷ es} (Memᴰ.tail m) h = or_right (leb d.first end) _
 
 below_shared : (end : ℕ) {es : List Transition} → Shared es → overlaps_from end es ≡ true
 unfolding overlaps_from
+below_shared end {es = []} x'' = elim x'' [ ]
 below_shared end {es = d ∷ es} (Shared.first e x m p q) =
     or_right (leb d.first end) _ (below_found (max end d.last) m (omega (arith, (holds_ends x d p).1, (holds_ends x e q).0)))
 below_shared end {es = d ∷ es} (Shared.later s) = or_right (leb d.first end) _ (below_shared (max end d.last) s)
@@ -73,6 +74,7 @@ found_below end (d ∷ es) p h =
 -- sorted ranges overlap exactly when two different ones hold the same symbol
 pub overlap_shared : (es : List Transition) → SortedRanges es → (overlapping es ≡ true) ↔ Shared es
 unfolding overlapping
+into [] x' = elim x' [ ]
 overlap_shared es p = (out es p, into es)
   where
     out : (es : List Transition) → SortedRanges es → overlapping es ≡ true → Shared es
@@ -99,6 +101,7 @@ held_once x (d ∷ es) n h =
 -- a symbol that two transitions hold
 shared_twice : {es : List Transition} → Shared es → (x : ℕ) × ((e : Transition) × e ∈ es × (holds x e ≡ true)) × (1 < length (filter (holds x) es))
 unfolding filter
+shared_twice {es = []} x'' = elim x'' [ ]
 shared_twice {es = d ∷ es} (Shared.first e x m p q) = (x, (d, Memᴰ.head refl, p), rw p (more (filter_in (holds x) m q)))
   where
     more : {l : List Transition} → e ∈ l → 1 < suc (length l)

@@ -16,6 +16,7 @@ use Rattle.sets.specs.inner.Members.{Canon}
 
 pub mem_has : {q : ℕ} {S : Set} → q ∈ S → has q S ≡ true
 unfolding has
+mem_has {q = q} {S = []} x'' = elim x'' [ ]
 mem_has {q} {S = x ∷ S} (Memᴰ.head e) = or_left _ _ (eq-eqb q x e)
 mem_has {q} {S = x ∷ S} (Memᴰ.tail m) = or_right (eqb q x) _ (mem_has m)
 

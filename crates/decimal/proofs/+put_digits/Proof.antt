@@ -20,8 +20,8 @@ at-measure t = and 1 put-digits-kinds.ps (is 1 put-digits-kinds.ps μ-put-digits
 abbrev below-measure : ℕ → In 1 put-digits-kinds.ps
 below-measure t = and 1 put-digits-kinds.ps (falls 1 put-digits-kinds.ps ◌<◌ μ-put-digits t) put-digits.Pre
 
-pub +put-digits-spec : {M : Type 1} → statement M
-+put-digits-spec =
+pub +put_digits_spec : {M : Type 1} → statement M
++put_digits_spec =
     close μ-put-digits
     (λ t.
     lts.spec (put_byte.Asked, put_byte.Learnt, below-measure t, put-digits.Post) (at-measure t) put-digits.Post

@@ -22,15 +22,15 @@ find-in-at t = and 2 find-in-kinds.ps (is 2 find-in-kinds.ps μ-find-in t) find-
 abbrev find-in-below : ℕ → In 2 find-in-kinds.ps
 find-in-below t = and 2 find-in-kinds.ps (falls 2 find-in-kinds.ps ◌<◌ μ-find-in t) find-in.Pre
 
-pub +find-in-spec : {M : Type 1} → statement M
-+find-in-spec =
+pub +find_in_spec : {M : Type 1} → statement M
++find_in_spec =
     close μ-find-in
     (λ t.
     find-in-lts.spec (wide-reads.Asked, wide-reads.Learnt, find-in-below t, find-in.Post) (find-in-at t) find-in.Post
     (λ c. search finding) (λ c. search finding) (λ c κs. search finding) (λ c. search finding) (λ c. search finding)
     (λ c. search finding) (λ c. search finding) (λ c. search finding) (λ c. search finding) (λ c. search finding)
     (λ c κs. search finding)
-    (λ c. in_over _ _ _ _ c.before.before.before.before.before.before.before.before.before.requires.1 c.before.before.before.before.before.before.before.wide.result
+    (λ c. in_over _ _ _ _ c.requires.1 c.wide-p.result
     (omega arith) (omega arith) (omega arith) (omega arith) (omega arith))
     (λ c κs. search finding) (λ c. search finding) (λ c. search finding) (λ c. search finding) (λ c. search finding)
     (λ c. search finding) (λ c. search finding))

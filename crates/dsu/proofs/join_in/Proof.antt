@@ -4,8 +4,8 @@ use Rattle.dsu.proofs.Lent.{join_apart, join_together, join_refused}
 use Rattle.dsu.proofs.join_in.Statement.{statement}
 use Rattle.dsu.proofs.join_in.Tie as tie
 
-pub join-in-spec : {M : Type 1} → statement M
-join-in-spec =
+pub join_in_spec : {M : Type 1} → statement M
+join_in_spec =
     tie.close
     (tie.spec
     (λ c κs. search rules) (λ c. search rules) (λ c. search rules) (λ c. search rules)

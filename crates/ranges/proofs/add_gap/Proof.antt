@@ -29,8 +29,8 @@ module _ (h : List ℕ) (n a b : ℕ) where
 
 ruleset laws = (one_more, none_more, written, kept, rules)
 
-pub add-gap-spec : {M : Type 1} → statement M
-add-gap-spec =
+pub add_gap_spec : {M : Type 1} → statement M
+add_gap_spec =
     tie.close
     (tie.spec (λ c. search laws) (λ c. search laws) (λ c. search laws) (λ c. search laws) (λ c. search laws)
     (λ c. search laws) (λ c. search laws) (λ c. search laws) (λ c. search laws) (λ c. simp length-set (omega arith))

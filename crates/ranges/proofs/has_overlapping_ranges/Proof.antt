@@ -8,16 +8,16 @@ use Rattle.ranges.proofs.Runs.{ranges_in, overlap_ended, overlap_skip, overlap_f
 use Rattle.ranges.proofs.has_overlapping_ranges.Statement.{statement}
 use Rattle.ranges.proofs.has_overlapping_ranges.Tie as tie
 
-abbrev invariant-loop : tie.invariant-loop
-invariant-loop run at₀ at = (at ≤ length run) × (overlapping (ranges_in run) ≡ overlapping (ranges_in (drop at run)))
+abbrev invariant-loop-at : tie.invariant-loop-at
+invariant-loop-at run at₀ at = (at ≤ length run) × (overlapping (ranges_in run) ≡ overlapping (ranges_in (drop at run)))
 
-abbrev decreases-loop : tie.decreases-loop
-decreases-loop run at₀ at = length run - at
+abbrev decreases-loop-at : tie.decreases-loop-at
+decreases-loop-at run at₀ at = length run - at
 
-pub has-overlapping-ranges-spec : {M : Type 1} → statement M
-has-overlapping-ranges-spec =
+pub has_overlapping_ranges_spec : {M : Type 1} → statement M
+has_overlapping_ranges_spec =
     tie.close
-    (tie.spec invariant-loop decreases-loop (λ c. search rules) (λ c. search rules) (λ c. search rules) (λ c. search rules)
+    (tie.spec invariant-loop-at decreases-loop-at (λ c. search rules) (λ c. search rules) (λ c. search rules) (λ c. search rules)
     (λ c. search rules) (λ c. search rules) (λ c. search rules) (λ c. search rules) (λ c. search rules) (λ c. search rules)
     (λ c. search rules) (λ c. search rules) (λ c. search rules) (λ c κs. search rules) (λ c. search overlap_first)
     (λ c. search rules) (λ c. (search rules, search overlap_skip)) (λ c. search overlap_ended))

@@ -19,6 +19,6 @@ module _ (s t : Span) (first last : ℕ) (f : first ≡ max s.first t.first) (l 
 
 ruleset laws = (shared, apart, rules)
 
-pub intersect-ranges-spec : {M : Type 1} → statement M
-intersect-ranges-spec =
+pub intersect_ranges_spec : {M : Type 1} → statement M
+intersect_ranges_spec =
     tie.close (tie.spec (λ c κs. search laws) (λ c κs. search laws) (λ c. search laws) (λ c. search laws))

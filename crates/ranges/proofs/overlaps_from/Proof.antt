@@ -9,25 +9,25 @@ use Rattle.ranges.proofs.Runs.{ranges_in, below_ended, below_skip, below_stopped
 use Rattle.ranges.proofs.overlaps_from.Statement.{statement}
 use Rattle.ranges.proofs.overlaps_from.Tie as tie
 
-abbrev invariant-loop : tie.invariant-loop
-invariant-loop run end largest₀ at₀ largest at = (at ≤ length run) × (overlaps_from end (ranges_in run) ≡ overlaps_from largest (ranges_in (drop at run)))
+abbrev invariant-loop-at : tie.invariant-loop-at
+invariant-loop-at run end largest₀ at₀ largest at = (at ≤ length run) × (overlaps_from end (ranges_in run) ≡ overlaps_from largest (ranges_in (drop at run)))
 
-abbrev decreases-loop : tie.decreases-loop
-decreases-loop run end largest₀ at₀ largest at = length run - at
+abbrev decreases-loop-at : tie.decreases-loop-at
+decreases-loop-at run end largest₀ at₀ largest at = length run - at
 
-stopped : tie.Need-returns invariant-loop decreases-loop
-stopped c = let l = c.before.before.before.before.before.before.loop in below_stopped _ _ _ l.at l.invariant.1 (omega arith) (omega arith) (omega arith)
+returns-then-first-largest : tie.Need-returns-then-first-largest invariant-loop-at decreases-loop-at
+returns-then-first-largest c = let l = c.before.before.before.before.before.before.loop-at in below_stopped _ _ _ l.at l.invariant.1 (omega arith) (omega arith) (omega arith)
 
-next : tie.Need-loop-preserved invariant-loop decreases-loop
-next c =
-    let l = c.before.before.before.before.before.before.before.loop in
+loop-at-preserved-then-kind-eq1 : tie.Need-loop-at-preserved-then-kind-eq1 invariant-loop-at decreases-loop-at
+loop-at-preserved-then-kind-eq1 c =
+    let l = c.before.before.before.before.before.before.before.loop-at in
     (search rules, below_next _ _ _ l.at l.invariant.1 (omega arith) (omega arith) (omega arith) _ (search))
 
-pub overlaps-from-spec : {M : Type 1} → statement M
-overlaps-from-spec =
+pub overlaps_from_spec : {M : Type 1} → statement M
+overlaps_from_spec =
     tie.close
-    (tie.spec invariant-loop decreases-loop (λ c. search rules) (λ c. search rules) (λ c. search rules) (λ c. search rules)
+    (tie.spec invariant-loop-at decreases-loop-at (λ c. search rules) (λ c. search rules) (λ c. search rules) (λ c. search rules)
     (λ c. search rules) (λ c. search rules) (λ c. search rules) (λ c. search rules) (λ c. search rules) (λ c. search rules)
-    (λ c. search rules) (λ c. search rules) stopped (λ c κs. search rules)
-    (λ c. search rules) next (λ c. search rules) (λ c. (search rules, search below_skip))
+    (λ c. search rules) (λ c. search rules) returns-then-first-largest (λ c κs. search rules)
+    (λ c. search rules) loop-at-preserved-then-kind-eq1 (λ c. search rules) (λ c. (search rules, search below_skip))
     (λ c. search below_ended))

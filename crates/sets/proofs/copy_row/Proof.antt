@@ -4,9 +4,9 @@ use Rattle.sets.specs.inner.Words.{put_at}
 use Rattle.sets.proofs.copy_row.Statement.{statement}
 use Rattle.sets.proofs.copy_row.Tie as tie
 
-pub copy-row-spec : {M : Type 1} → statement M
+pub copy_row_spec : {M : Type 1} → statement M
 unfolding put_at
-copy-row-spec =
+copy_row_spec =
     tie.close
     (tie.spec (λ c. search rules) (λ c. search rules) (λ c. search rules) (λ c. search rules) (λ c. search rules)
     (λ c. search rules) (λ c. search rules) (λ c. search rules) (λ c. search rules) (λ c. search rules)

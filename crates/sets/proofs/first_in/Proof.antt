@@ -7,15 +7,15 @@ use Rattle.sets.proofs.Scan.{scan_laws}
 use Rattle.sets.proofs.first_in.Statement.{statement}
 use Rattle.sets.proofs.first_in.Tie as tie
 
-abbrev invariant-loop : tie.invariant-loop
-invariant-loop s i j₀ j = (j ≤ 4) × (next_member (set_at s 0) (64 * j) ≡ next_member (set_at s 0) (64 * i))
+abbrev invariant-loop-j : tie.invariant-loop-j
+invariant-loop-j s i j₀ j = (j ≤ 4) × (next_member (set_at s 0) (64 * j) ≡ next_member (set_at s 0) (64 * i))
 
-abbrev decreases-loop : tie.decreases-loop
-decreases-loop s i j₀ j = 4 - j
+abbrev decreases-loop-j : tie.decreases-loop-j
+decreases-loop-j s i j₀ j = 4 - j
 
-pub first-in-spec : {M : Type 1} → statement M
-first-in-spec =
+pub first_in_spec : {M : Type 1} → statement M
+first_in_spec =
     tie.close
-    (tie.spec invariant-loop decreases-loop (λ c. search scan_laws) (λ c. search scan_laws) (λ c. search scan_laws) (λ c. search scan_laws)
+    (tie.spec invariant-loop-j decreases-loop-j (λ c. search scan_laws) (λ c. search scan_laws) (λ c. search scan_laws) (λ c. search scan_laws)
     (λ c κs. search scan_laws) (λ c. search scan_laws) (λ c. search scan_laws) (λ c. search scan_laws) (λ c. search scan_laws)
     (λ c. search scan_laws) (λ c. search scan_laws))

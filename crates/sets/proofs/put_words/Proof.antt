@@ -5,8 +5,8 @@ use lib.ListN.{length-set}
 use Rattle.sets.proofs.put_words.Statement.{statement}
 use Rattle.sets.proofs.put_words.Tie as tie
 
-pub put-words-spec : {M : Type 1} → statement M
-put-words-spec =
+pub put_words_spec : {M : Type 1} → statement M
+put_words_spec =
     tie.close
     (tie.spec (λ c. search rules) (λ c. search rules) (λ c. search rules) (λ c. search rules)
     (λ c. simp length-set (omega arith)) (λ c. search rules) (λ c. search rules) (λ c. simp length-set (omega arith))

@@ -4,9 +4,9 @@ use Rattle.sets.specs.inner.Words.{union_at}
 use Rattle.sets.proofs.union_row.Statement.{statement}
 use Rattle.sets.proofs.union_row.Tie as tie
 
-pub union-row-spec : {M : Type 1} → statement M
+pub union_row_spec : {M : Type 1} → statement M
 unfolding union_at
-union-row-spec =
+union_row_spec =
     tie.close
     (tie.spec (λ c. search rules) (λ c. search rules) (λ c. search rules) (λ c. search rules) (λ c. search rules)
     (λ c. search rules) (λ c. search rules) (λ c. search rules) (λ c. search rules) (λ c. search rules)

@@ -4,13 +4,13 @@ use Rattle.utf8.specs.Utf8.{is_continuation}
 use Rattle.utf8.proofs.is_continuation.Statement.{statement}
 use Rattle.utf8.proofs.is_continuation.Tie as tie
 
+returns-then-b-lt128 : tie.Need-returns-then-b-lt128
+unfolding is_continuation
+returns-then-b-lt128 c = search tests
+
 returns : tie.Need-returns
 unfolding is_continuation
 returns c = search tests
 
-returns-2 : tie.Need-returns-2
-unfolding is_continuation
-returns-2 c = search tests
-
-pub is-continuation-spec : {M : Type 1} → statement M
-is-continuation-spec = tie.close (tie.spec returns returns-2)
+pub is_continuation_spec : {M : Type 1} → statement M
+is_continuation_spec = tie.close (tie.spec returns-then-b-lt128 returns)

@@ -28,7 +28,7 @@ module _ (least x : ℕ) where
   unfolding is_improper is_surrogate
   surrogate m h l k g = rw (le-ltb x least h, le-ltb 0x10_FFFF x (omega arith), le-leb 0xD800 x g)
 
-pub is-improper-spec : {M : Type 1} → statement M
-is-improper-spec =
+pub is_improper_spec : {M : Type 1} → statement M
+is_improper_spec =
     tie.close
     (tie.spec (λ c. search (overlong, rules)) (λ c. search (over_last, rules)) (λ c. search (proper, rules)) (λ c. search (surrogate, rules)))

@@ -8,15 +8,15 @@ use Rattle.utf8.proofs.Wellformed.{wellformed_loop}
 use Rattle.utf8.proofs.is_wellformed.Statement.{statement}
 use Rattle.utf8.proofs.is_wellformed.Tie as tie
 
-abbrev invariant-loop : tie.invariant-loop
-invariant-loop text at₀ at = (at ≤ length text) × (wellformed text ≡ wellformed (drop at text))
+abbrev invariant-loop-to : tie.invariant-loop-to
+invariant-loop-to text at₀ at = (at ≤ length text) × (wellformed text ≡ wellformed (drop at text))
 
-abbrev decreases-loop : tie.decreases-loop
-decreases-loop text at₀ at = length text - at
+abbrev decreases-loop-to : tie.decreases-loop-to
+decreases-loop-to text at₀ at = length text - at
 
-pub is-wellformed-spec : {M : Type 1} → statement M
-is-wellformed-spec =
+pub is_wellformed_spec : {M : Type 1} → statement M
+is_wellformed_spec =
     tie.close
     (tie.spec
-    invariant-loop decreases-loop (λ c. search rules) (λ c κs. search rules) (λ c. search rules) (λ c. search wellformed_loop) (λ c. search wellformed_loop)
+    invariant-loop-to decreases-loop-to (λ c. search rules) (λ c κs. search rules) (λ c. search rules) (λ c. search wellformed_loop) (λ c. search wellformed_loop)
     (λ c. search rules) (λ c. search wellformed_loop) (λ c. search rules) (λ c. search wellformed_loop))

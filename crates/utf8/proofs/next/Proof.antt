@@ -4,15 +4,15 @@ use Rattle.utf8.proofs.Front.{next_end, next_one, next_sequence, next_none}
 use Rattle.utf8.proofs.next.Statement.{statement}
 use Rattle.utf8.proofs.next.Tie as tie
 
-returns-6 : tie.Need-returns-6
-returns-6 c =
-    let r = c.match.rest in
-    next_none _ _ _ c.before.before.before.if1.false c.before.sequence-length.ensures r.0.0.0.1 r.0.0.1 r.0.1 r.1
+returns-in_default : tie.Need-returns-in_default
+returns-in_default c =
+    let r = c.in_default.in_default-own.rest in
+    next_none _ _ _ c.if-text-at.false c.sequence_length-n.ensures r.0.0.0.1 r.0.0.1 r.0.1 r.1
 
-pub next-spec : {M : Type 1} → statement M
-next-spec =
+pub next_spec : {M : Type 1} → statement M
+next_spec =
     tie.close
     (tie.spec
     (λ c. search next_end) (λ c. search rules) (λ c κs. search rules) (λ c κs. search rules) (λ c. search rules) (λ c κs. search rules)
     (λ c κs. search rules) (λ c κs. search rules) (λ c. search next_one) (λ c. search next_sequence) (λ c. search next_sequence)
-    (λ c. search next_sequence) returns-6)
+    (λ c. search next_sequence) returns-in_default)

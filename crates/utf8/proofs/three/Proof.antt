@@ -4,8 +4,8 @@ use Rattle.utf8.proofs.Sequence.{faults, whole_3}
 use Rattle.utf8.proofs.three.Statement.{statement}
 use Rattle.utf8.proofs.three.Tie as tie
 
-pub three-spec : {M : Type 1} → statement M
-three-spec =
+pub three_spec : {M : Type 1} → statement M
+three_spec =
     tie.close
     (tie.spec
     (λ c. search rules) (λ c. search faults) (λ c. search rules) (λ c. search rules) (λ c κs. search rules) (λ c. search faults) (λ c. search rules)

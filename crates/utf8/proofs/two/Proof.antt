@@ -4,8 +4,8 @@ use Rattle.utf8.proofs.Sequence.{faults, whole_2}
 use Rattle.utf8.proofs.two.Statement.{statement}
 use Rattle.utf8.proofs.two.Tie as tie
 
-pub two-spec : {M : Type 1} → statement M
-two-spec =
+pub two_spec : {M : Type 1} → statement M
+two_spec =
     tie.close
     (tie.spec
     (λ c. search rules) (λ c. search faults) (λ c. search rules) (λ c. search rules) (λ c κs. search rules) (λ c. search faults) (λ c. search rules)

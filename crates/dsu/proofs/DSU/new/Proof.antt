@@ -4,15 +4,15 @@ use Rattle.dsu.proofs.Fresh.{Filled, filling}
 use Rattle.dsu.proofs.DSU.new.Statement.{statement}
 use Rattle.dsu.proofs.DSU.new.Tie as tie
 
-abbrev invariant-loop : tie.invariant-loop
-invariant-loop n repr₀ size i₀ repr i = (i ≤ 512) × Filled repr i
+abbrev invariant-loop-i : tie.invariant-loop-i
+invariant-loop-i n repr₀ size i₀ repr i = (i ≤ 512) × Filled repr i
 
-abbrev decreases-loop : tie.decreases-loop
-decreases-loop n repr₀ size i₀ repr i = 512 - i
+abbrev decreases-loop-i : tie.decreases-loop-i
+decreases-loop-i n repr₀ size i₀ repr i = 512 - i
 
 pub new_spec : {M : Type 1} → statement M
 new_spec =
     tie.close
     (tie.spec
-    invariant-loop decreases-loop (λ c. search filling) (λ c κs. search filling) (λ c. search filling) (λ c. search filling) (λ c. search filling)
+    invariant-loop-i decreases-loop-i (λ c. search filling) (λ c κs. search filling) (λ c. search filling) (λ c. search filling) (λ c. search filling)
     (λ c. search filling) (λ c. search filling) (λ c. search filling) (λ c. search filling))

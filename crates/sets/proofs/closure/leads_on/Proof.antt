@@ -3,8 +3,8 @@ use Rattle.sets.proofs.Closing.{lead_laws}
 use Rattle.sets.proofs.closure.leads_on.Statement.{statement}
 use Rattle.sets.proofs.closure.leads_on.Tie as tie
 
-pub leads-on-spec : {M : Type 1} → statement M
-leads-on-spec =
+pub leads_on_spec : {M : Type 1} → statement M
+leads_on_spec =
     tie.close
     (tie.spec (λ c. search lead_laws) (λ c. search lead_laws) (λ c. search lead_laws) (λ c. search lead_laws) (λ c. search lead_laws)
     (λ c. search lead_laws) (λ c κs. search lead_laws) (λ c. search lead_laws) (λ c. search lead_laws) (λ c κs. search lead_laws)

@@ -7,14 +7,14 @@ use Rattle.sets.proofs.Rounds.{round_laws}
 use Rattle.sets.proofs.closure.round.Statement.{statement}
 use Rattle.sets.proofs.closure.round.Tie as tie
 
-abbrev invariant-loop : tie.invariant-loop
-invariant-loop t₀ n k p₀ t p = (p ≤ n) × (length t ≡ length t₀) × (t ≡ visit_rows t₀ k p)
+abbrev invariant-loop-p : tie.invariant-loop-p
+invariant-loop-p t₀ n k p₀ t p = (p ≤ n) × (length t ≡ length t₀) × (t ≡ visit_rows t₀ k p)
 
-abbrev decreases-loop : tie.decreases-loop
-decreases-loop t₀ n k p₀ t p = n - p
+abbrev decreases-loop-p : tie.decreases-loop-p
+decreases-loop-p t₀ n k p₀ t p = n - p
 
-pub round-spec : {M : Type 1} → statement M
-round-spec =
+pub round_spec : {M : Type 1} → statement M
+round_spec =
     tie.close
-    (tie.spec invariant-loop decreases-loop (λ c. search round_laws) (λ c κs. search round_laws) (λ c. search round_laws) (λ c. search round_laws)
+    (tie.spec invariant-loop-p decreases-loop-p (λ c. search round_laws) (λ c κs. search round_laws) (λ c. search round_laws) (λ c. search round_laws)
     (λ c. search round_laws) (λ c. search round_laws) (λ c. search round_laws))

@@ -21,6 +21,6 @@ add_spec =
     (λ c.
     let at-put-row = c.before.before in
     let at_pre = at-put-row.before.before.before.before.before in (
-      (at-put-row.put-row.ensures, refl),
-      add_placed _ _ _ _ _ _ _ _ at_pre.requires.0.0 at_pre.requires.1.1 at_pre.requires.1.0 at_pre.requires.0.2 at-put-row.put-row.ensures refl,
+      (at-put-row.put_row.ensures, refl),
+      add_placed _ _ _ _ _ _ _ _ at_pre.requires.0.0 at_pre.requires.1.1 at_pre.requires.1.0 at_pre.requires.0.2 at-put-row.put_row.ensures refl,
     )))

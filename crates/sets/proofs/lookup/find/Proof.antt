@@ -11,32 +11,32 @@ use Rattle.sets.proofs.Places.{place_below, place_next, held_row, search_begins,
 use Rattle.sets.proofs.lookup.find.Statement.{statement}
 use Rattle.sets.proofs.lookup.find.Tie as tie
 
-abbrev invariant-loop : tie.invariant-loop
-invariant-loop t n places s i₀ held₀ compared₀ i held compared =
+abbrev invariant-loop-held : tie.invariant-loop-held
+invariant-loop-held t n places s i₀ held₀ compared₀ i held compared =
     (i ≡ place_after (set_at s 0) compared) × (held ≡ get_or places i 0) × (compared < 509) × Passed places (entries t n) (set_at s 0) compared
 
-abbrev decreases-loop : tie.decreases-loop
-decreases-loop t n places s i₀ held₀ compared₀ i held compared = 509 - compared
+abbrev decreases-loop-held : tie.decreases-loop-held
+decreases-loop-held t n places s i₀ held₀ compared₀ i held compared = 509 - compared
 
 pub find_spec : {M : Type 1} → statement M
 find_spec =
     tie.close
-    (tie.spec invariant-loop decreases-loop (λ c κs. search rules) (λ c. omega (arith, place_below _ _ _ c.start-place.ensures))
+    (tie.spec invariant-loop-held decreases-loop-held (λ c κs. search rules) (λ c. omega (arith, place_below _ _ _ c.start_place-i.ensures))
     (λ c.
     let at-start = c.before in
     let at_pre = at-start.before.before.before.before in
-    omega (arith, place_below _ _ _ at-start.start-place.ensures, at_pre.requires.0.long))
-    (λ c. (c.before.start-place.ensures, search rules, search rules, search_begins _ _ _))
+    omega (arith, place_below _ _ _ at-start.start_place-i.ensures, at_pre.requires.0.long))
+    (λ c. (c.before.start_place-i.ensures, search rules, search rules, search_begins _ _ _))
     (λ c.
     let at-loop = c.before in
     let at_pre = at-loop.before.before.before.before.before.before in
-    let row = held_row _ _ _ _ _ _ _ at_pre.requires.0 at-loop.loop.invariant.3 at-loop.loop.invariant.0 at-loop.loop.invariant.1 c.loop-test.true in
+    let row = held_row _ _ _ _ _ _ _ at_pre.requires.0 at-loop.loop-held.invariant.3 at-loop.loop-held.invariant.0 at-loop.loop-held.invariant.1 c.loop-held-test.true in
     omega (arith, row, at_pre.requires.1))
-    (λ c. omega (arith, c.loop-test.true))
+    (λ c. omega (arith, c.loop-held-test.true))
     (λ c κs.
     let at-loop = c.before in
     let at_pre = at-loop.before.before.before.before.before.before in
-    let row = held_row _ _ _ _ _ _ _ at_pre.requires.0 at-loop.loop.invariant.3 at-loop.loop.invariant.0 at-loop.loop.invariant.1 c.loop-test.true in
+    let row = held_row _ _ _ _ _ _ _ at_pre.requires.0 at-loop.loop-held.invariant.3 at-loop.loop-held.invariant.0 at-loop.loop-held.invariant.1 c.loop-held-test.true in
     (omega (arith, row, at_pre.requires.2), at_pre.requires.3))
     (λ c. search rules)
     (λ c.
@@ -44,20 +44,20 @@ find_spec =
     let at_test = at_same.before in
     let at-loop = at_test.before in
     let at_pre = at-loop.before.before.before.before.before.before in (
-      search_number _ _ _ _ _ _ _ at_pre.requires.0 at-loop.loop.invariant.3 at-loop.loop.invariant.0 at-loop.loop.invariant.1 at_test.loop-test.true _ at_same.same.ensures c.if1.true,
-      search_found _ _ _ _ _ _ _ at_pre.requires.0 at-loop.loop.invariant.3 at-loop.loop.invariant.0 at-loop.loop.invariant.1 at_test.loop-test.true _ at_same.same.ensures c.if1.true,
+      search_number _ _ _ _ _ _ _ at_pre.requires.0 at-loop.loop-held.invariant.3 at-loop.loop-held.invariant.0 at-loop.loop-held.invariant.1 at_test.loop-held-test.true _ at_same.same.ensures c.if-same.true,
+      search_found _ _ _ _ _ _ _ at_pre.requires.0 at-loop.loop-held.invariant.3 at-loop.loop-held.invariant.0 at-loop.loop-held.invariant.1 at_test.loop-held-test.true _ at_same.same.ensures c.if-same.true,
     ))
-    (λ c. search rules) (λ c. let at-loop = c.before.before.before in omega (arith, place_below _ _ _ at-loop.loop.invariant.0)) (λ c. search rules)
+    (λ c. search rules) (λ c. let at-loop = c.before.before.before in omega (arith, place_below _ _ _ at-loop.loop-held.invariant.0)) (λ c. search rules)
     (λ c. let at_pre = c.before.before.before.before.before.before.before.before.before.before in omega (arith, at_pre.requires.0.long))
-    (λ c. let at-loop = c.before.before.before.before in omega (arith, at-loop.loop.invariant.2))
+    (λ c. let at-loop = c.before.before.before.before in omega (arith, at-loop.loop-held.invariant.2))
     (λ c.
     let at_same = c.before.before in
     let at_test = at_same.before in
     let at-loop = at_test.before in
     let at_pre = at-loop.before.before.before.before.before.before in
-    let passed = search_passed _ _ _ _ _ _ _ at_pre.requires.0 at-loop.loop.invariant.3 at-loop.loop.invariant.0 at-loop.loop.invariant.1 at_test.loop-test.true _
-    at_same.same.ensures c.before.if1.false in (
-      place_next _ _ _ at-loop.loop.invariant.0,
+    let passed = search_passed _ _ _ _ _ _ _ at_pre.requires.0 at-loop.loop-held.invariant.3 at-loop.loop-held.invariant.0 at-loop.loop-held.invariant.1 at_test.loop-held-test.true _
+    at_same.same.ensures c.before.if-same.false in (
+      place_next _ _ _ at-loop.loop-held.invariant.0,
       search rules,
       search_room _ _ at_pre.requires.0 _ _ passed (rw length_entries at_pre.requires.1),
       passed,
@@ -65,6 +65,6 @@ find_spec =
     (λ c.
     let at-loop = c.before in
     let at_pre = at-loop.before.before.before.before.before.before in (
-      search_none _ _ _ _ _ _ _ at_pre.requires.0 at-loop.loop.invariant.3 at-loop.loop.invariant.0 at-loop.loop.invariant.1 c.loop-test.false,
-      search_free _ _ _ _ _ _ _ at_pre.requires.0 at-loop.loop.invariant.3 at-loop.loop.invariant.0 at-loop.loop.invariant.1 c.loop-test.false,
+      search_none _ _ _ _ _ _ _ at_pre.requires.0 at-loop.loop-held.invariant.3 at-loop.loop-held.invariant.0 at-loop.loop-held.invariant.1 c.loop-held-test.false,
+      search_free _ _ _ _ _ _ _ at_pre.requires.0 at-loop.loop-held.invariant.3 at-loop.loop-held.invariant.0 at-loop.loop-held.invariant.1 c.loop-held-test.false,
     )))

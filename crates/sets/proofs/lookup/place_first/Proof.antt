@@ -7,13 +7,13 @@ use Rattle.sets.proofs.Places.{place_below, first_placed}
 use Rattle.sets.proofs.lookup.place_first.Statement.{statement}
 use Rattle.sets.proofs.lookup.place_first.Tie as tie
 
-pub place-first-spec : {M : Type 1} → statement M
-place-first-spec =
+pub place_first_spec : {M : Type 1} → statement M
+place_first_spec =
     tie.close
-    (tie.spec (λ c κs. search rules) (λ c. omega (arith, place_below _ _ _ c.start-place.ensures))
-    (λ c. omega (arith, place_below _ _ _ c.start-place.ensures, ap length c.before.before.before.requires.0))
+    (tie.spec (λ c κs. search rules) (λ c. omega (arith, place_below _ _ _ c.start_place.ensures))
+    (λ c. omega (arith, place_below _ _ _ c.start_place.ensures, ap length c.before.before.before.requires.0))
     (λ c. search rules)
     (λ c. (
-      ap (λ i. set c.before.before.before.args.places.now i 1) c.start-place.ensures,
-      first_placed _ _ _ c.before.before.before.requires.0 c.start-place.ensures,
+      ap (λ i. set c.before.before.before.args.places.now i 1) c.start_place.ensures,
+      first_placed _ _ _ c.before.before.before.requires.0 c.start_place.ensures,
     )))
