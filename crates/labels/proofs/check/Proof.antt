@@ -3,8 +3,8 @@ use Rattle.labels.proofs.Checking.{fault_laws}
 use Rattle.labels.proofs.check.Statement.{statement}
 use Rattle.labels.proofs.check.Tie as tie
 
-pub check-spec : {M : Type 1} → statement M
-check-spec =
+pub check_spec : {M : Type 1} → statement M
+check_spec =
     tie.close
     (tie.spec
     (λ c. search fault_laws)

@@ -6,18 +6,18 @@ use Rattle.labels.proofs.Checking.{entries_laws}
 use Rattle.labels.proofs.entries_ok.Statement.{statement}
 use Rattle.labels.proofs.entries_ok.Tie as tie
 
-abbrev invariant-loop : tie.invariant-loop
-invariant-loop n b k₀ at₀ k at = entries_ok n (drop 2 b) ≡ entries_ok k (drop at b)
+abbrev invariant-loop-k : tie.invariant-loop-k
+invariant-loop-k n b k₀ at₀ k at = entries_ok n (drop 2 b) ≡ entries_ok k (drop at b)
 
-abbrev decreases-loop : tie.decreases-loop
-decreases-loop n b k₀ at₀ k at = k
+abbrev decreases-loop-k : tie.decreases-loop-k
+decreases-loop-k n b k₀ at₀ k at = k
 
-pub entries-ok-spec : {M : Type 1} → statement M
-entries-ok-spec =
+pub entries_ok_spec : {M : Type 1} → statement M
+entries_ok_spec =
     tie.close
     (tie.spec
-    invariant-loop
-    decreases-loop
+    invariant-loop-k
+    decreases-loop-k
     (λ c. search entries_laws)
     (λ c. search entries_laws)
     (λ c. search entries_laws)

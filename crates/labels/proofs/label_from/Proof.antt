@@ -3,8 +3,8 @@ use Rattle.labels.proofs.Places.{place_laws}
 use Rattle.labels.proofs.label_from.Statement.{statement}
 use Rattle.labels.proofs.label_from.Tie as tie
 
-pub label-from-spec : {M : Type 1} → statement M
-label-from-spec =
+pub label_from_spec : {M : Type 1} → statement M
+label_from_spec =
     tie.close
     (tie.spec
     (λ c. search place_laws)

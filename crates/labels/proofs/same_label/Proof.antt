@@ -7,18 +7,18 @@ use Rattle.labels.proofs.Same.{same_laws}
 use Rattle.labels.proofs.same_label.Statement.{statement}
 use Rattle.labels.proofs.same_label.Tie as tie
 
-abbrev invariant-loop : tie.invariant-loop
-invariant-loop a b i₀ i = sameLabel a b ≡ sameLabel (drop i a) (drop i b)
+abbrev invariant-loop-i : tie.invariant-loop-i
+invariant-loop-i a b i₀ i = sameLabel a b ≡ sameLabel (drop i a) (drop i b)
 
-abbrev decreases-loop : tie.decreases-loop
-decreases-loop a b i₀ i = length a - i
+abbrev decreases-loop-i : tie.decreases-loop-i
+decreases-loop-i a b i₀ i = length a - i
 
-pub same-label-spec : {M : Type 1} → statement M
-same-label-spec =
+pub same_label_spec : {M : Type 1} → statement M
+same_label_spec =
     tie.close
     (tie.spec
-    invariant-loop
-    decreases-loop
+    invariant-loop-i
+    decreases-loop-i
     (λ c. search same_laws)
     (λ c. search same_laws)
     (λ c. search same_laws)

@@ -3,5 +3,5 @@ use Rattle.sheets.proofs.Checking.{kind_laws}
 use Rattle.sheets.proofs.breaks_rule.Statement.{statement}
 use Rattle.sheets.proofs.breaks_rule.Tie as tie
 
-pub breaks-rule-spec : {M : Type 1} → statement M
-breaks-rule-spec = tie.close (tie.spec (λ c κs. search kind_laws) (λ c. search kind_laws) (λ c κs. search kind_laws) (λ c. search kind_laws))
+pub breaks_rule_spec : {M : Type 1} → statement M
+breaks_rule_spec = tie.close (tie.spec (λ c κs. search kind_laws) (λ c. search kind_laws) (λ c κs. search kind_laws) (λ c. search kind_laws))

@@ -9,75 +9,75 @@ use Rattle.sheets.proofs.Checking.{records_laws}
 use Rattle.sheets.proofs.check_records.Statement.{statement}
 use Rattle.sheets.proofs.check_records.Tie as tie
 
-abbrev invariant-loop : tie.invariant-loop
-invariant-loop n t prev₀ at₀ prev at = (prev ≤ at) × (at ≤ length t) × (records_fault n [] (read_records t) ≡ records_fault n (take (at - prev) (drop prev t)) (read_records (drop at t)))
+abbrev invariant-loop-at : tie.invariant-loop-at
+invariant-loop-at n t prev₀ at₀ prev at = (prev ≤ at) × (at ≤ length t) × (records_fault n [] (read_records t) ≡ records_fault n (take (at - prev) (drop prev t)) (read_records (drop at t)))
 
-abbrev decreases-loop : tie.decreases-loop
-decreases-loop n t prev₀ at₀ prev at = length t - at
+abbrev decreases-loop-at : tie.decreases-loop-at
+decreases-loop-at n t prev₀ at₀ prev at = length t - at
 
-loop-holds : tie.Need-loop-init invariant-loop decreases-loop
-loop-holds c = search records_laws
+loop-at-init : tie.Need-loop-at-init invariant-loop-at decreases-loop-at
+loop-at-init c = search records_laws
 
-sub-loop : tie.Need-overflow-sub-loop invariant-loop decreases-loop
-sub-loop c = search records_laws
+overflow_sub-t : tie.Need-overflow_sub-t invariant-loop-at decreases-loop-at
+overflow_sub-t c = search records_laws
 
-mul-check-record : tie.Need-overflow-mul-check-record invariant-loop decreases-loop
-mul-check-record c = search records_laws
+offset_bounds-t-prev : tie.Need-offset_bounds-t-prev invariant-loop-at decreases-loop-at
+offset_bounds-t-prev c = search records_laws
 
-sub-check-record : tie.Need-overflow-sub-check-record invariant-loop decreases-loop
-sub-check-record c = search records_laws
+slice_bounds-check_record-count : tie.Need-slice_bounds-check_record-count invariant-loop-at decreases-loop-at
+slice_bounds-check_record-count c = search records_laws
 
-part-check-record-start : tie.Need-slice-bounds-check-record-start invariant-loop decreases-loop
-part-check-record-start c = search records_laws
+slice_bounds-check_record-start : tie.Need-slice_bounds-check_record-start invariant-loop-at decreases-loop-at
+slice_bounds-check_record-start c = search records_laws
 
-part-check-record-end : tie.Need-slice-bounds-check-record-end invariant-loop decreases-loop
-part-check-record-end c = search records_laws
+slice_bounds-check_record-end : tie.Need-slice_bounds-check_record-end invariant-loop-at decreases-loop-at
+slice_bounds-check_record-end c = search records_laws
 
-add-check-record : tie.Need-overflow-add-check-record invariant-loop decreases-loop
-add-check-record c = search records_laws
+overflow_add-at : tie.Need-overflow_add-at invariant-loop-at decreases-loop-at
+overflow_add-at c = search records_laws
 
-mul-check-record-2 : tie.Need-overflow-mul-check-record-2 invariant-loop decreases-loop
-mul-check-record-2 c = search records_laws
+offset_bounds-t-at : tie.Need-offset_bounds-t-at invariant-loop-at decreases-loop-at
+offset_bounds-t-at c = search records_laws
 
-sub-check-record-2 : tie.Need-overflow-sub-check-record-2 invariant-loop decreases-loop
-sub-check-record-2 c = search records_laws
+slice_bounds-check_record-count-in-loop-at : tie.Need-slice_bounds-check_record-count-in-loop-at invariant-loop-at decreases-loop-at
+slice_bounds-check_record-count-in-loop-at c = search records_laws
 
-part-check-record-start-2 : tie.Need-slice-bounds-check-record-start-2 invariant-loop decreases-loop
+part-check-record-start-2 : tie.Need-slice-bounds-check-record-start-2 invariant-loop-at decreases-loop-at
 part-check-record-start-2 c = search records_laws
 
-part-check-record-end-2 : tie.Need-slice-bounds-check-record-end-2 invariant-loop decreases-loop
+part-check-record-end-2 : tie.Need-slice-bounds-check-record-end-2 invariant-loop-at decreases-loop-at
 part-check-record-end-2 c = search records_laws
 
-check-record-requires : tie.Need-check-record-requires invariant-loop decreases-loop
-check-record-requires c κs = search records_laws
+check_record-f-requires : tie.Need-check_record-f-requires invariant-loop-at decreases-loop-at
+check_record-f-requires c κs = search records_laws
 
-enum_told : tie.Need-enum-told invariant-loop decreases-loop
-enum_told c = search records_laws
+enum_told-1 : tie.Need-enum_told-1 invariant-loop-at decreases-loop-at
+enum_told-1 c = search records_laws
 
-enum-told-2 : tie.Need-enum-told-2 invariant-loop decreases-loop
-enum-told-2 c = search records_laws
+enum_told-in_default : tie.Need-enum_told-in_default invariant-loop-at decreases-loop-at
+enum_told-in_default c = search records_laws
 
-returns : tie.Need-returns invariant-loop decreases-loop
+returns-in_default : tie.Need-returns-in_default invariant-loop-at decreases-loop-at
+returns-in_default c = search records_laws
+
+pass_records-prev-requires : tie.Need-pass_records-prev-requires invariant-loop-at decreases-loop-at
+pass_records-prev-requires c κs = search records_laws
+
+overflow_add-at : tie.Need-overflow_add-at invariant-loop-at decreases-loop-at
+overflow_add-at c = search records_laws
+
+loop-at-smaller : tie.Need-loop-at-smaller invariant-loop-at decreases-loop-at
+loop-at-smaller c = search records_laws
+
+loop-at-preserved : tie.Need-loop-at-preserved invariant-loop-at decreases-loop-at
+loop-at-preserved c = search records_laws
+
+returns : tie.Need-returns invariant-loop-at decreases-loop-at
 returns c = search records_laws
 
-pass-records-requires : tie.Need-pass-records-requires invariant-loop decreases-loop
-pass-records-requires c κs = search records_laws
-
-add_at : tie.Need-overflow-add-at invariant-loop decreases-loop
-add_at c = search records_laws
-
-loop-less : tie.Need-loop-smaller invariant-loop decreases-loop
-loop-less c = search records_laws
-
-loop-again : tie.Need-loop-preserved invariant-loop decreases-loop
-loop-again c = search records_laws
-
-returns-2 : tie.Need-returns-2 invariant-loop decreases-loop
-returns-2 c = search records_laws
-
-pub check-records-spec : {M : Type 1} → statement M
-check-records-spec =
+pub check_records_spec : {M : Type 1} → statement M
+check_records_spec =
     tie.close
-    (tie.spec invariant-loop decreases-loop loop-holds sub-loop mul-check-record sub-check-record part-check-record-start part-check-record-end add-check-record
-    mul-check-record-2 sub-check-record-2 part-check-record-start-2 part-check-record-end-2 check-record-requires enum_told enum-told-2 returns
-    pass-records-requires add_at loop-less loop-again returns-2)
+    (tie.spec invariant-loop-at decreases-loop-at loop-at-init overflow_sub-t offset_bounds-t-prev slice_bounds-check_record-count slice_bounds-check_record-start slice_bounds-check_record-end overflow_add-at
+    offset_bounds-t-at slice_bounds-check_record-count-in-loop-at part-check-record-start-2 part-check-record-end-2 check_record-f-requires enum_told-1 enum_told-in_default returns-in_default
+    pass_records-prev-requires overflow_add-at loop-at-smaller loop-at-preserved returns)

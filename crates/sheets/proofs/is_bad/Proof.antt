@@ -4,9 +4,9 @@ use Rattle.sheets.specs.Fault.{is_bad}
 use Rattle.sheets.proofs.is_bad.Statement.{statement}
 use Rattle.sheets.proofs.is_bad.Tie as tie
 
-pub is-bad-spec : {M : Type 1} → statement M
+pub is_bad_spec : {M : Type 1} → statement M
 unfolding is_bad
-is-bad-spec =
+is_bad_spec =
     tie.close
     (tie.spec (λ c. search tests) (λ c. search tests) (λ c. search tests) (λ c. search tests) (λ c. search tests)
     (λ c. search tests) (λ c. search tests) (λ c. search tests))

@@ -8,179 +8,176 @@ use Rattle.sheets.proofs.Passing.{below_laws, below_passed, below_two, pass_keye
 use Rattle.sheets.proofs.pass_ascending.Statement.{statement}
 use Rattle.sheets.proofs.pass_ascending.Tie as tie
 
-abbrev invariant-loop : tie.invariant-loop
-invariant-loop n t from prev₀ before₀ prev before = (before ≡ get_or t prev 0 * 4294967296 + get_or t (prev + 2) 0) × PassedBelow n t from prev
+abbrev invariant-loop-prev : tie.invariant-loop-prev
+invariant-loop-prev n t from prev₀ before₀ prev before = (before ≡ get_or t prev 0 * 4294967296 + get_or t (prev + 2) 0) × PassedBelow n t from prev
 
-abbrev decreases-loop : tie.decreases-loop
-decreases-loop n t from prev₀ before₀ prev before = length t - prev
+abbrev decreases-loop-prev : tie.decreases-loop-prev
+decreases-loop-prev n t from prev₀ before₀ prev before = length t - prev
 
-mul-order-key : tie.Need-overflow-mul-order-key invariant-loop decreases-loop
-mul-order-key c = search below_laws
+offset_bounds-t-from : tie.Need-offset_bounds-t-from invariant-loop-prev decreases-loop-prev
+offset_bounds-t-from c = search below_laws
 
-shared-slice-read-order-key : tie.Need-shared-slice-read-order-key invariant-loop decreases-loop
-shared-slice-read-order-key c = search below_laws
+bounds-t-from : tie.Need-bounds-t-from invariant-loop-prev decreases-loop-prev
+bounds-t-from c = search below_laws
 
-add-order-key : tie.Need-overflow-add-order-key invariant-loop decreases-loop
-add-order-key c = search below_laws
+overflow_add-from : tie.Need-overflow_add-from invariant-loop-prev decreases-loop-prev
+overflow_add-from c = search below_laws
 
-mul-order-key-2 : tie.Need-overflow-mul-order-key-2 invariant-loop decreases-loop
-mul-order-key-2 c = search below_laws
+offset_bounds-t-from-2 : tie.Need-offset_bounds-t-from-2 invariant-loop-prev decreases-loop-prev
+offset_bounds-t-from-2 c = search below_laws
 
-shared-slice-read-order-key-2 : tie.Need-shared-slice-read-order-key-2 invariant-loop decreases-loop
-shared-slice-read-order-key-2 c = search below_laws
+bounds-t-from-2 : tie.Need-bounds-t-from-2 invariant-loop-prev decreases-loop-prev
+bounds-t-from-2 c = search below_laws
 
-order-key-requires : tie.Need-order-key-requires invariant-loop decreases-loop
-order-key-requires c κs = search below_laws
+order_key-before-requires : tie.Need-order_key-before-requires invariant-loop-prev decreases-loop-prev
+order_key-before-requires c κs = search below_laws
 
-loop-holds : tie.Need-loop-init invariant-loop decreases-loop
-loop-holds c = search below_laws
+loop-prev-init : tie.Need-loop-prev-init invariant-loop-prev decreases-loop-prev
+loop-prev-init c = search below_laws
 
-sub-loop : tie.Need-overflow-sub-loop invariant-loop decreases-loop
-sub-loop c = search below_laws
+overflow_sub-t : tie.Need-overflow_sub-t invariant-loop-prev decreases-loop-prev
+overflow_sub-t c = search below_laws
 
-add-range-keys : tie.Need-overflow-add-range-keys invariant-loop decreases-loop
-add-range-keys c = search below_laws
+overflow_add-prev : tie.Need-overflow_add-prev invariant-loop-prev decreases-loop-prev
+overflow_add-prev c = search below_laws
 
-range-keys-requires : tie.Need-range-keys-requires invariant-loop decreases-loop
-range-keys-requires c κs = search below_laws
+range_keys-key-requires : tie.Need-range_keys-key-requires invariant-loop-prev decreases-loop-prev
+range_keys-key-requires c κs = search below_laws
 
-add_at : tie.Need-overflow-add-at invariant-loop decreases-loop
-add_at c = search below_laws
+overflow_add-at : tie.Need-overflow_add-at invariant-loop-prev decreases-loop-prev
+overflow_add-at c = search below_laws
 
-mul-if2 : tie.Need-overflow-mul-if2 invariant-loop decreases-loop
-mul-if2 c = search below_laws
+offset_bounds-t-prev : tie.Need-offset_bounds-t-prev invariant-loop-prev decreases-loop-prev
+offset_bounds-t-prev c = search below_laws
 
-shared-slice-read-if2 : tie.Need-shared-slice-read-if2 invariant-loop decreases-loop
-shared-slice-read-if2 c = search below_laws
+bounds-t-prev : tie.Need-bounds-t-prev invariant-loop-prev decreases-loop-prev
+bounds-t-prev c = search below_laws
 
-returns : tie.Need-returns invariant-loop decreases-loop
-returns c = search below_laws
+returns-then-n-t : tie.Need-returns-then-n-t invariant-loop-prev decreases-loop-prev
+returns-then-n-t c = search below_laws
 
-add-passes : tie.Need-overflow-add-passes invariant-loop decreases-loop
-add-passes c = search below_laws
+overflow_add-prev-then-key-eq0 : tie.Need-overflow_add-prev-then-key-eq0 invariant-loop-prev decreases-loop-prev
+overflow_add-prev-then-key-eq0 c = search below_laws
 
-mul-passes : tie.Need-overflow-mul-passes invariant-loop decreases-loop
-mul-passes c = search below_laws
+offset_bounds-t-prev-then-key-eq0 : tie.Need-offset_bounds-t-prev-then-key-eq0 invariant-loop-prev decreases-loop-prev
+offset_bounds-t-prev-then-key-eq0 c = search below_laws
 
-sub-passes : tie.Need-overflow-sub-passes invariant-loop decreases-loop
-sub-passes c = search below_laws
+slice_bounds-passes-count : tie.Need-slice_bounds-passes-count invariant-loop-prev decreases-loop-prev
+slice_bounds-passes-count c = search below_laws
 
-part-passes-start : tie.Need-slice-bounds-passes-start invariant-loop decreases-loop
-part-passes-start c = search below_laws
+slice_bounds-passes-start : tie.Need-slice_bounds-passes-start invariant-loop-prev decreases-loop-prev
+slice_bounds-passes-start c = search below_laws
 
-part-passes-end : tie.Need-slice-bounds-passes-end invariant-loop decreases-loop
-part-passes-end c = search below_laws
+slice_bounds-passes-end : tie.Need-slice_bounds-passes-end invariant-loop-prev decreases-loop-prev
+slice_bounds-passes-end c = search below_laws
 
-add-passes-2 : tie.Need-overflow-add-passes-2 invariant-loop decreases-loop
-add-passes-2 c = search below_laws
+overflow_add-at-then-key-eq0 : tie.Need-overflow_add-at-then-key-eq0 invariant-loop-prev decreases-loop-prev
+overflow_add-at-then-key-eq0 c = search below_laws
 
-mul-passes-2 : tie.Need-overflow-mul-passes-2 invariant-loop decreases-loop
-mul-passes-2 c = search below_laws
+offset_bounds-t-at : tie.Need-offset_bounds-t-at invariant-loop-prev decreases-loop-prev
+offset_bounds-t-at c = search below_laws
 
-sub-passes-2 : tie.Need-overflow-sub-passes-2 invariant-loop decreases-loop
-sub-passes-2 c = search below_laws
+slice_bounds-passes-count-then-key-eq0 : tie.Need-slice_bounds-passes-count-then-key-eq0 invariant-loop-prev decreases-loop-prev
+slice_bounds-passes-count-then-key-eq0 c = search below_laws
 
-part-passes-start-2 : tie.Need-slice-bounds-passes-start-2 invariant-loop decreases-loop
+part-passes-start-2 : tie.Need-slice-bounds-passes-start-2 invariant-loop-prev decreases-loop-prev
 part-passes-start-2 c = search below_laws
 
-part-passes-end-2 : tie.Need-slice-bounds-passes-end-2 invariant-loop decreases-loop
+part-passes-end-2 : tie.Need-slice-bounds-passes-end-2 invariant-loop-prev decreases-loop-prev
 part-passes-end-2 c = search below_laws
 
-passes-requires : tie.Need-passes-requires invariant-loop decreases-loop
+passes-requires : tie.Need-passes-requires invariant-loop-prev decreases-loop-prev
 passes-requires c κs =
-    let turn = c.before.before.before.before.before.before.before.loop.invariant in
-    let more = c.before.before.before.before.before.before.loop-test.true in
-    let within = c.before.before.if2.false in
+    let turn = c.loop-prev.invariant in
+    let more = c.loop-prev-test.true in
+    let within = c.if-n-t.false in
     let passed = below_passed _ _ _ _ turn.1 within in
     (pass_keyed _ _ _ _ passed (omega (arith, more)) (turn.1.good within) _ turn.0, pass_long _ _ _ _ passed (omega (arith, more)))
 
-returns-2 : tie.Need-returns-2 invariant-loop decreases-loop
-returns-2 c = search below_laws
+returns-then-not-passes : tie.Need-returns-then-not-passes invariant-loop-prev decreases-loop-prev
+returns-then-not-passes c = search below_laws
 
-mul-order-key-3 : tie.Need-overflow-mul-order-key-3 invariant-loop decreases-loop
-mul-order-key-3 c = search below_laws
+offset_bounds-t-at-then-key-eq0 : tie.Need-offset_bounds-t-at-then-key-eq0 invariant-loop-prev decreases-loop-prev
+offset_bounds-t-at-then-key-eq0 c = search below_laws
 
-shared-slice-read-order-key-3 : tie.Need-shared-slice-read-order-key-3 invariant-loop decreases-loop
-shared-slice-read-order-key-3 c = search below_laws
+bounds-t-at : tie.Need-bounds-t-at invariant-loop-prev decreases-loop-prev
+bounds-t-at c = search below_laws
 
-add-order-key-2 : tie.Need-overflow-add-order-key-2 invariant-loop decreases-loop
-add-order-key-2 c = search below_laws
+overflow_add-at-then-key-eq0-2 : tie.Need-overflow_add-at-then-key-eq0-2 invariant-loop-prev decreases-loop-prev
+overflow_add-at-then-key-eq0-2 c = search below_laws
 
-mul-order-key-4 : tie.Need-overflow-mul-order-key-4 invariant-loop decreases-loop
-mul-order-key-4 c = search below_laws
+offset_bounds-t-at-then-key-eq0-2 : tie.Need-offset_bounds-t-at-then-key-eq0-2 invariant-loop-prev decreases-loop-prev
+offset_bounds-t-at-then-key-eq0-2 c = search below_laws
 
-shared-slice-read-order-key-4 : tie.Need-shared-slice-read-order-key-4 invariant-loop decreases-loop
-shared-slice-read-order-key-4 c = search below_laws
+bounds-t-at-then-key-eq0 : tie.Need-bounds-t-at-then-key-eq0 invariant-loop-prev decreases-loop-prev
+bounds-t-at-then-key-eq0 c = search below_laws
 
-order-key-requires-2 : tie.Need-order-key-requires-2 invariant-loop decreases-loop
-order-key-requires-2 c κs = search below_laws
+order_key-before-requires-then-key-eq0 : tie.Need-order_key-before-requires-then-key-eq0 invariant-loop-prev decreases-loop-prev
+order_key-before-requires-then-key-eq0 c κs = search below_laws
 
-loop-less : tie.Need-loop-smaller invariant-loop decreases-loop
-loop-less c = search below_laws
+loop-prev-smaller-then-key-eq0 : tie.Need-loop-prev-smaller-then-key-eq0 invariant-loop-prev decreases-loop-prev
+loop-prev-smaller-then-key-eq0 c = search below_laws
 
-loop-again : tie.Need-loop-preserved invariant-loop decreases-loop
-loop-again c =
-    let passing = c.before.before.before.before in
-    let asked = passing.before.before.before in
-    let turn = asked.before.before.before.before.before in
-    let more = asked.before.before.before.before.loop-test.true in
-    (c.order-key2.ensures, pass_below _ _ _ _ (below_passed _ _ _ _ turn.loop.invariant.1 asked.if2.false) (omega (arith, more)) _ passing.passes.ensures c.before.before.before.if3.false)
+loop-prev-preserved-then-key-eq0 : tie.Need-loop-prev-preserved-then-key-eq0 invariant-loop-prev decreases-loop-prev
+loop-prev-preserved-then-key-eq0 c =
+    let more = c.loop-prev-test.true in
+    (c.order_key-before-then-key-eq0.ensures, pass_below _ _ _ _ (below_passed _ _ _ _ c.loop-prev.invariant.1 c.if-n-t.false) (omega (arith, more)) _ c.passes.ensures c.if-not-passes.false)
 
-add-prev : tie.Need-overflow-add-prev invariant-loop decreases-loop
-add-prev c = search below_laws
+overflow_add-prev : tie.Need-overflow_add-prev invariant-loop-prev decreases-loop-prev
+overflow_add-prev c = search below_laws
 
-loop-less-2 : tie.Need-loop-smaller-2 invariant-loop decreases-loop
-loop-less-2 c = search below_laws
+loop-prev-smaller : tie.Need-loop-prev-smaller invariant-loop-prev decreases-loop-prev
+loop-prev-smaller c = search below_laws
 
-loop-again-2 : tie.Need-loop-preserved-2 invariant-loop decreases-loop
-loop-again-2 c =
-    let turn = c.before.before.before.loop.invariant in
-    below_two _ _ _ _ turn.1 c.before.before.loop-test.true c.before.before.before.before.before.shared-slice-known3.given _ turn.0 _ c.before.range-keys.ensures c.if1.false
+loop-prev-preserved : tie.Need-loop-prev-preserved invariant-loop-prev decreases-loop-prev
+loop-prev-preserved c =
+    let turn = c.loop-prev.invariant in
+    below_two _ _ _ _ turn.1 c.loop-prev-test.true c.shared_slice_known-3-1.given _ turn.0 _ c.range_keys-key.ensures c.if-key-eq0.false
 
-returns-3 : tie.Need-returns-3 invariant-loop decreases-loop
-returns-3 c = search below_laws
+returns : tie.Need-returns invariant-loop-prev decreases-loop-prev
+returns c = search below_laws
 
-pub pass-ascending-spec : {M : Type 1} → statement M
-pass-ascending-spec =
+pub pass_ascending_spec : {M : Type 1} → statement M
+pass_ascending_spec =
     tie.close
     (tie.spec
-    invariant-loop
-    decreases-loop
-    mul-order-key
-    shared-slice-read-order-key
-    add-order-key
-    mul-order-key-2
-    shared-slice-read-order-key-2
-    order-key-requires
-    loop-holds
-    sub-loop
-    add-range-keys
-    range-keys-requires
-    add_at
-    mul-if2
-    shared-slice-read-if2
-    returns
-    add-passes
-    mul-passes
-    sub-passes
-    part-passes-start
-    part-passes-end
-    add-passes-2
-    mul-passes-2
-    sub-passes-2
+    invariant-loop-prev
+    decreases-loop-prev
+    offset_bounds-t-from
+    bounds-t-from
+    overflow_add-from
+    offset_bounds-t-from-2
+    bounds-t-from-2
+    order_key-before-requires
+    loop-prev-init
+    overflow_sub-t
+    overflow_add-prev
+    range_keys-key-requires
+    overflow_add-at
+    offset_bounds-t-prev
+    bounds-t-prev
+    returns-then-n-t
+    overflow_add-prev-then-key-eq0
+    offset_bounds-t-prev-then-key-eq0
+    slice_bounds-passes-count
+    slice_bounds-passes-start
+    slice_bounds-passes-end
+    overflow_add-at-then-key-eq0
+    offset_bounds-t-at
+    slice_bounds-passes-count-then-key-eq0
     part-passes-start-2
     part-passes-end-2
     passes-requires
-    returns-2
-    mul-order-key-3
-    shared-slice-read-order-key-3
-    add-order-key-2
-    mul-order-key-4
-    shared-slice-read-order-key-4
-    order-key-requires-2
-    loop-less
-    loop-again
-    add-prev
-    loop-less-2
-    loop-again-2
-    returns-3)
+    returns-then-not-passes
+    offset_bounds-t-at-then-key-eq0
+    bounds-t-at
+    overflow_add-at-then-key-eq0-2
+    offset_bounds-t-at-then-key-eq0-2
+    bounds-t-at-then-key-eq0
+    order_key-before-requires-then-key-eq0
+    loop-prev-smaller-then-key-eq0
+    loop-prev-preserved-then-key-eq0
+    overflow_add-prev
+    loop-prev-smaller
+    loop-prev-preserved
+    returns)

@@ -3,8 +3,8 @@ use Rattle.sheets.proofs.Passing.{below_laws}
 use Rattle.sheets.proofs.pass_records.Statement.{statement}
 use Rattle.sheets.proofs.pass_records.Tie as tie
 
-pub pass-records-spec : {M : Type 1} → statement M
-pass-records-spec =
+pub pass_records_spec : {M : Type 1} → statement M
+pass_records_spec =
     tie.close
     (tie.spec (λ c κs. search below_laws) (λ c. search below_laws) (λ c. search below_laws) (λ c κs. search below_laws) (λ c. search below_laws)
     (λ c κs. search below_laws) (λ c. search below_laws))

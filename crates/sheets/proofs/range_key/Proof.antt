@@ -5,19 +5,17 @@ use Rattle.sheets.proofs.Passing.{range_not, range_is}
 use Rattle.sheets.proofs.range_key.Statement.{statement}
 use Rattle.sheets.proofs.range_key.Tie as tie
 
-returns-4 : tie.Need-returns-4
-returns-4 c =
-    let kept = c.before.before.before.before in
-    range_not _ _ _ _ _ _ _ kept.before.before.before.before.before.if1.false kept.before.before.if2.false kept.if3.false _ c.before.order-key.ensures c.if4.true
+returns-then-key-before : tie.Need-returns-then-key-before
+returns-then-key-before c =
+    range_not _ _ _ _ _ _ _ c.if-t-at-ne1.false c.if-t-at.false c.if-n-t.false _ c.order_key-key.ensures c.if-key-before.true
 
-returns-5 : tie.Need-returns-5
-returns-5 c =
-    let kept = c.before.before.before.before in
-    range_is _ _ _ _ _ _ _ kept.before.before.before.before.before.if1.false kept.before.before.if2.false kept.if3.false _ c.before.order-key.ensures c.if4.false
+returns : tie.Need-returns
+returns c =
+    range_is _ _ _ _ _ _ _ c.if-t-at-ne1.false c.if-t-at.false c.if-n-t.false _ c.order_key-key.ensures c.if-key-before.false
 
-pub range-key-spec : {M : Type 1} → statement M
+pub range_key_spec : {M : Type 1} → statement M
 unfolding range_key
-range-key-spec =
+range_key_spec =
     tie.close
     (tie.spec
-    (λ c. search tests) (λ c. search tests) (λ c. search tests) (λ c. search tests) (λ c. search tests) (λ c. search tests) (λ c. search tests) (λ c. search tests) (λ c. search tests) (λ c. search tests) (λ c. search tests) (λ c. search tests) (λ c. search tests) (λ c. search tests) (λ c. search tests) (λ c. search tests) (λ c. search tests) (λ c. search tests) (λ c. search tests) (λ c. search tests) (λ c κs. search tests) returns-4 returns-5)
+    (λ c. search tests) (λ c. search tests) (λ c. search tests) (λ c. search tests) (λ c. search tests) (λ c. search tests) (λ c. search tests) (λ c. search tests) (λ c. search tests) (λ c. search tests) (λ c. search tests) (λ c. search tests) (λ c. search tests) (λ c. search tests) (λ c. search tests) (λ c. search tests) (λ c. search tests) (λ c. search tests) (λ c. search tests) (λ c. search tests) (λ c κs. search tests) returns-then-key-before returns)

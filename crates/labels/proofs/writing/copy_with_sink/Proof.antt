@@ -3,8 +3,8 @@ use Rattle.labels.proofs.Whole.{sink_laws}
 use Rattle.labels.proofs.writing.copy_with_sink.Statement.{statement}
 use Rattle.labels.proofs.writing.copy_with_sink.Tie as tie
 
-pub copy-with-sink-spec : {M : Type 1} → statement M
-copy-with-sink-spec =
+pub copy_with_sink_spec : {M : Type 1} → statement M
+copy_with_sink_spec =
     tie.close
     (tie.spec
     (λ c. search sink_laws)

@@ -3,8 +3,8 @@ use Rattle.labels.proofs.Putting.{put_laws}
 use Rattle.labels.proofs.writing.put_copy.Statement.{statement}
 use Rattle.labels.proofs.writing.put_copy.Tie as tie
 
-pub put-copy-spec : {M : Type 1} → statement M
-put-copy-spec =
+pub put_copy_spec : {M : Type 1} → statement M
+put_copy_spec =
     tie.close
     (tie.spec
     (λ c. search put_laws)

@@ -3,8 +3,8 @@ use Rattle.labels.proofs.Putting.{entry_laws}
 use Rattle.labels.proofs.writing.put_number.Statement.{statement}
 use Rattle.labels.proofs.writing.put_number.Tie as tie
 
-pub put-number-spec : {M : Type 1} → statement M
-put-number-spec =
+pub put_number_spec : {M : Type 1} → statement M
+put_number_spec =
     tie.close
     (tie.spec
     (λ c κs. search entry_laws)

@@ -7,18 +7,18 @@ use Rattle.labels.proofs.Whole.{numbered_laws}
 use Rattle.labels.proofs.writing.write_numbered.Statement.{statement}
 use Rattle.labels.proofs.writing.write_numbered.Tie as tie
 
-abbrev invariant-loop : tie.invariant-loop
-invariant-loop out₀ n at₀ k₀ out at k = (k ≤ n) × Written out₀ at₀ (write_entries (numbered_labels k)) out at
+abbrev invariant-loop-k : tie.invariant-loop-k
+invariant-loop-k out₀ n at₀ k₀ out at k = (k ≤ n) × Written out₀ at₀ (write_entries (numbered_labels k)) out at
 
-abbrev decreases-loop : tie.decreases-loop
-decreases-loop out₀ n at₀ k₀ out at k = n - k
+abbrev decreases-loop-k : tie.decreases-loop-k
+decreases-loop-k out₀ n at₀ k₀ out at k = n - k
 
-pub write-numbered-spec : {M : Type 1} → statement M
-write-numbered-spec =
+pub write_numbered_spec : {M : Type 1} → statement M
+write_numbered_spec =
     tie.close
     (tie.spec
-    invariant-loop
-    decreases-loop
+    invariant-loop-k
+    decreases-loop-k
     (λ c κs. search numbered_laws)
     (λ c. search numbered_laws)
     (λ c. search numbered_laws)

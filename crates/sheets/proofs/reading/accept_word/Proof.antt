@@ -3,7 +3,7 @@ use Rattle.sheets.proofs.Words.{accept_laws}
 use Rattle.sheets.proofs.reading.accept_word.Statement.{statement}
 use Rattle.sheets.proofs.reading.accept_word.Tie as tie
 
-pub accept-word-spec : {M : Type 1} → statement M
-accept-word-spec =
+pub accept_word_spec : {M : Type 1} → statement M
+accept_word_spec =
     tie.close
     (tie.spec (λ c. search accept_laws) (λ c. search accept_laws) (λ c. search accept_laws) (λ c. search accept_laws))

@@ -8,15 +8,15 @@ use Rattle.sheets.proofs.Epsilons.{epsilon_laws}
 use Rattle.sheets.proofs.reading.has_epsilon.Statement.{statement}
 use Rattle.sheets.proofs.reading.has_epsilon.Tie as tie
 
-abbrev invariant-loop : tie.invariant-loop
-invariant-loop records at₀ at = (at ≤ length records) × (has_epsilon (read_records records) ≡ has_epsilon (read_records (drop at records)))
+abbrev invariant-loop-at : tie.invariant-loop-at
+invariant-loop-at records at₀ at = (at ≤ length records) × (has_epsilon (read_records records) ≡ has_epsilon (read_records (drop at records)))
 
-abbrev decreases-loop : tie.decreases-loop
-decreases-loop records at₀ at = length records - at
+abbrev decreases-loop-at : tie.decreases-loop-at
+decreases-loop-at records at₀ at = length records - at
 
-pub has-epsilon-spec : {M : Type 1} → statement M
-has-epsilon-spec =
+pub has_epsilon_spec : {M : Type 1} → statement M
+has_epsilon_spec =
     tie.close
-    (tie.spec invariant-loop decreases-loop (λ c. search epsilon_laws) (λ c. search epsilon_laws) (λ c. search epsilon_laws)
+    (tie.spec invariant-loop-at decreases-loop-at (λ c. search epsilon_laws) (λ c. search epsilon_laws) (λ c. search epsilon_laws)
     (λ c. search epsilon_laws) (λ c. search epsilon_laws) (λ c. search epsilon_laws) (λ c. search epsilon_laws)
     (λ c. search epsilon_laws) (λ c. search epsilon_laws) (λ c. search epsilon_laws))

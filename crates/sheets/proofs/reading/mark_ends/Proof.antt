@@ -7,62 +7,62 @@ use Rattle.sheets.proofs.Below.{ends_laws, ends_bound}
 use Rattle.sheets.proofs.reading.mark_ends.Statement.{statement}
 use Rattle.sheets.proofs.reading.mark_ends.Tie as tie
 
-abbrev invariant-loop : tie.invariant-loop
-invariant-loop t ends₀ k₀ ends k = (5 * k ≤ length t) × RunEnds t ends k
+abbrev invariant-loop-k : tie.invariant-loop-k
+invariant-loop-k t ends₀ k₀ ends k = (5 * k ≤ length t) × RunEnds t ends k
 
-abbrev decreases-loop : tie.decreases-loop
-decreases-loop t ends₀ k₀ ends k = length t - 5 * k
+abbrev decreases-loop-k : tie.decreases-loop-k
+decreases-loop-k t ends₀ k₀ ends k = length t - 5 * k
 
-loop-holds : tie.Need-loop-init invariant-loop decreases-loop
-loop-holds c = search ends_laws
+loop-k-init : tie.Need-loop-k-init invariant-loop-k decreases-loop-k
+loop-k-init c = search ends_laws
 
-mul-loop : tie.Need-overflow-mul-loop invariant-loop decreases-loop
-mul-loop c = search ends_laws
+overflow_mul-k : tie.Need-overflow_mul-k invariant-loop-k decreases-loop-k
+overflow_mul-k c = search ends_laws
 
-sub-loop : tie.Need-overflow-sub-loop invariant-loop decreases-loop
-sub-loop c = search ends_laws
+overflow_sub-t : tie.Need-overflow_sub-t invariant-loop-k decreases-loop-k
+overflow_sub-t c = search ends_laws
 
-mul-p : tie.Need-overflow-mul-p invariant-loop decreases-loop
-mul-p c = search ends_laws
+overflow_mul-p : tie.Need-overflow_mul-p invariant-loop-k decreases-loop-k
+overflow_mul-p c = search ends_laws
 
-mul-p-2 : tie.Need-overflow-mul-p-2 invariant-loop decreases-loop
-mul-p-2 c = search ends_laws
+offset_bounds-t-k : tie.Need-offset_bounds-t-k invariant-loop-k decreases-loop-k
+offset_bounds-t-k c = search ends_laws
 
-shared-slice-read-p : tie.Need-shared-slice-read-p invariant-loop decreases-loop
-shared-slice-read-p c = search ends_laws
+bounds-t-k : tie.Need-bounds-t-k invariant-loop-k decreases-loop-k
+bounds-t-k c = search ends_laws
 
-cast-p : tie.Need-overflow-cast-p invariant-loop decreases-loop
-cast-p c = omega (arith, c.shared-slice-known.given (5 * c.before.before.loop.k))
+overflow_cast-p : tie.Need-overflow_cast-p invariant-loop-k decreases-loop-k
+overflow_cast-p c = omega (arith, c.shared_slice_known-1.given (5 * c.loop-k.k))
 
-add-k : tie.Need-overflow-add-k invariant-loop decreases-loop
-add-k c = search ends_laws
+overflow_add-k : tie.Need-overflow_add-k invariant-loop-k decreases-loop-k
+overflow_add-k c = search ends_laws
 
-cast_ends : tie.Need-overflow-cast-ends invariant-loop decreases-loop
-cast_ends c = search ends_laws
+overflow_cast-ends : tie.Need-overflow_cast-ends invariant-loop-k decreases-loop-k
+overflow_cast-ends c = search ends_laws
 
-add-ends : tie.Need-overflow-add-ends invariant-loop decreases-loop
-add-ends c = omega (arith, ends_bound _ _ c.before.before.before.requires.1 c.before.loop-test.true)
+overflow_add-ends : tie.Need-overflow_add-ends invariant-loop-k decreases-loop-k
+overflow_add-ends c = omega (arith, ends_bound _ _ c.requires.1 c.loop-k-test.true)
 
-mul-ends : tie.Need-overflow-mul-ends invariant-loop decreases-loop
-mul-ends c = omega (arith, ends_bound _ _ c.before.before.before.requires.1 c.before.loop-test.true)
+offset_bounds-ends-p : tie.Need-offset_bounds-ends-p invariant-loop-k decreases-loop-k
+offset_bounds-ends-p c = omega (arith, ends_bound _ _ c.requires.1 c.loop-k-test.true)
 
-slice-write-ends : tie.Need-slice-write-ends invariant-loop decreases-loop
-slice-write-ends c = omega (arith, ends_bound _ _ c.before.before.before.requires.1 c.before.loop-test.true, c.before.before.loop.invariant.1.long)
+bounds-ends-p : tie.Need-bounds-ends-p invariant-loop-k decreases-loop-k
+bounds-ends-p c = omega (arith, ends_bound _ _ c.requires.1 c.loop-k-test.true, c.loop-k.invariant.1.long)
 
-loop-less : tie.Need-loop-smaller invariant-loop decreases-loop
-loop-less c = search ends_laws
+loop-k-smaller : tie.Need-loop-k-smaller invariant-loop-k decreases-loop-k
+loop-k-smaller c = search ends_laws
 
-loop-again : tie.Need-loop-preserved invariant-loop decreases-loop
-loop-again c = search ends_laws
+loop-k-preserved : tie.Need-loop-k-preserved invariant-loop-k decreases-loop-k
+loop-k-preserved c = search ends_laws
 
-same_length : tie.Need-same-length invariant-loop decreases-loop
-same_length c = search ends_laws
+shape_of-ends : tie.Need-shape_of-ends invariant-loop-k decreases-loop-k
+shape_of-ends c = search ends_laws
 
-returns : tie.Need-returns invariant-loop decreases-loop
+returns : tie.Need-returns invariant-loop-k decreases-loop-k
 returns c = search ends_laws
 
-pub mark-ends-spec : {M : Type 1} → statement M
-mark-ends-spec =
+pub mark_ends_spec : {M : Type 1} → statement M
+mark_ends_spec =
     tie.close
-    (tie.spec invariant-loop decreases-loop loop-holds mul-loop sub-loop mul-p mul-p-2 shared-slice-read-p cast-p add-k cast_ends add-ends mul-ends
-    slice-write-ends loop-less loop-again same_length returns)
+    (tie.spec invariant-loop-k decreases-loop-k loop-k-init overflow_mul-k overflow_sub-t overflow_mul-p offset_bounds-t-k bounds-t-k overflow_cast-p overflow_add-k overflow_cast-ends overflow_add-ends offset_bounds-ends-p
+    bounds-ends-p loop-k-smaller loop-k-preserved shape_of-ends returns)

@@ -11,218 +11,209 @@ use Rattle.sheets.proofs.Runs.{starts_laws, starts_rising, starts_few, starts_sm
 use Rattle.sheets.proofs.reading.run_starts.Statement.{statement}
 use Rattle.sheets.proofs.reading.run_starts.Tie as tie
 
-abbrev invariant-loop : tie.invariant-loop
-invariant-loop s starts₀ n base first ends q₀ k₀ starts q k =
+abbrev invariant-loop-q : tie.invariant-loop-q
+invariant-loop-q s starts₀ n base first ends q₀ k₀ starts q k =
     (q ≤ state_count s + 1) × (length starts ≡ length starts₀) × (starts ≡ starts_below s starts₀ q) × Greatest (take (length s - records_at s) (drop (records_at s) s)) ends q k
 
-abbrev decreases-loop : tie.decreases-loop
-decreases-loop s starts₀ n base first ends q₀ k₀ starts q k = state_count s + 1 - q
+abbrev decreases-loop-q : tie.decreases-loop-q
+decreases-loop-q s starts₀ n base first ends q₀ k₀ starts q k = state_count s + 1 - q
 
-shared-slice-read-n : tie.Need-shared-slice-read-n invariant-loop decreases-loop
-shared-slice-read-n c = search starts_laws
+bounds-s-2 : tie.Need-bounds-s-2 invariant-loop-q decreases-loop-q
+bounds-s-2 c = search starts_laws
 
-add-base : tie.Need-overflow-add-base invariant-loop decreases-loop
-add-base c = search starts_laws
+overflow_add-base : tie.Need-overflow_add-base invariant-loop-q decreases-loop-q
+overflow_add-base c = search starts_laws
 
-cast-first : tie.Need-overflow-cast-first invariant-loop decreases-loop
-cast-first c = search starts_laws
+overflow_cast-first : tie.Need-overflow_cast-first invariant-loop-q decreases-loop-q
+overflow_cast-first c = search starts_laws
 
-mul-mark-ends : tie.Need-overflow-mul-mark-ends invariant-loop decreases-loop
-mul-mark-ends c = search starts_laws
+offset_bounds-s-first : tie.Need-offset_bounds-s-first invariant-loop-q decreases-loop-q
+offset_bounds-s-first c = search starts_laws
 
-sub-mark-ends : tie.Need-overflow-sub-mark-ends invariant-loop decreases-loop
-sub-mark-ends c = search starts_laws
+slice_bounds-mark_ends-count : tie.Need-slice_bounds-mark_ends-count invariant-loop-q decreases-loop-q
+slice_bounds-mark_ends-count c = search starts_laws
 
-part-mark-ends-start : tie.Need-slice-bounds-mark-ends-start invariant-loop decreases-loop
-part-mark-ends-start c = search starts_laws
+slice_bounds-mark_ends-start : tie.Need-slice_bounds-mark_ends-start invariant-loop-q decreases-loop-q
+slice_bounds-mark_ends-start c = search starts_laws
 
-part-mark-ends-end : tie.Need-slice-bounds-mark-ends-end invariant-loop decreases-loop
-part-mark-ends-end c = search starts_laws
+slice_bounds-mark_ends-end : tie.Need-slice_bounds-mark_ends-end invariant-loop-q decreases-loop-q
+slice_bounds-mark_ends-end c = search starts_laws
 
-slice-aggregate-mark-ends : tie.Need-slice-aggregate-mark-ends invariant-loop decreases-loop
-slice-aggregate-mark-ends c = search starts_laws
+slice_bounds-mark_ends-end-2 : tie.Need-slice_bounds-mark_ends-end-2 invariant-loop-q decreases-loop-q
+slice_bounds-mark_ends-end-2 c = search starts_laws
 
-mark-ends-requires : tie.Need-mark-ends-requires invariant-loop decreases-loop
-mark-ends-requires c κs = let a = c.before.before.before.before.before.requires.0 in (starts_rising _ a, sheet_named _ a, starts_few _ a, ends_begin _)
+mark_ends-requires : tie.Need-mark_ends-requires invariant-loop-q decreases-loop-q
+mark_ends-requires c κs = let a = c.requires.0 in (starts_rising _ a, sheet_named _ a, starts_few _ a, ends_begin _)
 
-loop-holds : tie.Need-loop-init invariant-loop decreases-loop
-loop-holds c = search starts_laws
+loop-q-init : tie.Need-loop-q-init invariant-loop-q decreases-loop-q
+loop-q-init c = search starts_laws
 
-cast-p : tie.Need-overflow-cast-p invariant-loop decreases-loop
-cast-p c = search starts_laws
+overflow_cast-p : tie.Need-overflow_cast-p invariant-loop-q decreases-loop-q
+overflow_cast-p c = search starts_laws
 
-mul-end : tie.Need-overflow-mul-end invariant-loop decreases-loop
-mul-end c = search starts_laws
+offset_bounds-ends-p : tie.Need-offset_bounds-ends-p invariant-loop-q decreases-loop-q
+offset_bounds-ends-p c = search starts_laws
 
-array-read-end : tie.Need-array-read-end invariant-loop decreases-loop
-array-read-end c = search starts_laws
+bounds-ends-p : tie.Need-bounds-ends-p invariant-loop-q decreases-loop-q
+bounds-ends-p c = search starts_laws
 
-add-next : tie.Need-overflow-add-next invariant-loop decreases-loop
-add-next c = search starts_laws
+overflow_add-next : tie.Need-overflow_add-next invariant-loop-q decreases-loop-q
+overflow_add-next c = search starts_laws
 
-mul_next : tie.Need-overflow-mul-next invariant-loop decreases-loop
-mul_next c = search starts_laws
+offset_bounds-ends-p-in-loop-q : tie.Need-offset_bounds-ends-p-in-loop-q invariant-loop-q decreases-loop-q
+offset_bounds-ends-p-in-loop-q c = search starts_laws
 
-array-read-next : tie.Need-array-read-next invariant-loop decreases-loop
-array-read-next c = search starts_laws
+bounds-ends-p-in-loop-q : tie.Need-bounds-ends-p-in-loop-q invariant-loop-q decreases-loop-q
+bounds-ends-p-in-loop-q c = search starts_laws
 
-greater-requires : tie.Need-greater-requires invariant-loop decreases-loop
+greater-requires : tie.Need-greater-requires invariant-loop-q decreases-loop-q
 greater-requires c κs = search starts_laws
 
-mul-starts : tie.Need-overflow-mul-starts invariant-loop decreases-loop
-mul-starts c =
-    let turn = c.before.before in
-    let pre = turn.before.before.before.before.before.before.before.before.requires in
-    omega (arith, pre.0.few_states, starts_small _ pre.0 _ turn.before.before.mark-ends.ensures _ _ turn.loop.invariant.3 _ c.greater.ensures)
+overflow_mul-starts : tie.Need-overflow_mul-starts invariant-loop-q decreases-loop-q
+overflow_mul-starts c =
+    let pre = c.requires in
+    omega (arith, pre.0.few_states, starts_small _ pre.0 _ c.mark_ends.ensures _ _ c.loop-q.invariant.3 _ c.greater.ensures)
 
-add-starts : tie.Need-overflow-add-starts invariant-loop decreases-loop
-add-starts c =
-    let turn = c.before.before in
-    let pre = turn.before.before.before.before.before.before.before.before.requires in
-    omega (arith, pre.0.few_states, starts_small _ pre.0 _ turn.before.before.mark-ends.ensures _ _ turn.loop.invariant.3 _ c.greater.ensures)
+overflow_add-starts : tie.Need-overflow_add-starts invariant-loop-q decreases-loop-q
+overflow_add-starts c =
+    let pre = c.requires in
+    omega (arith, pre.0.few_states, starts_small _ pre.0 _ c.mark_ends.ensures _ _ c.loop-q.invariant.3 _ c.greater.ensures)
 
-mul-starts-2 : tie.Need-overflow-mul-starts-2 invariant-loop decreases-loop
-mul-starts-2 c = search starts_laws
+offset_bounds-starts-p : tie.Need-offset_bounds-starts-p invariant-loop-q decreases-loop-q
+offset_bounds-starts-p c = search starts_laws
 
-slice-write-starts : tie.Need-slice-write-starts invariant-loop decreases-loop
-slice-write-starts c = search starts_laws
+bounds-starts-p : tie.Need-bounds-starts-p invariant-loop-q decreases-loop-q
+bounds-starts-p c = search starts_laws
 
-greater-requires-2 : tie.Need-greater-requires-2 invariant-loop decreases-loop
-greater-requires-2 c κs = search starts_laws
+greater-requires-in-loop-q : tie.Need-greater-requires-in-loop-q invariant-loop-q decreases-loop-q
+greater-requires-in-loop-q c κs = search starts_laws
 
-greater-requires-3 : tie.Need-greater-requires-3 invariant-loop decreases-loop
-greater-requires-3 c κs = search starts_laws
+greater-k-requires : tie.Need-greater-k-requires invariant-loop-q decreases-loop-q
+greater-k-requires c κs = search starts_laws
 
-mul-starts-3 : tie.Need-overflow-mul-starts-3 invariant-loop decreases-loop
-mul-starts-3 c =
-    let turn = c.before.before.before.before in
-    let pre = turn.before.before.before.before.before.before.before.before.requires in
-    omega (arith, pre.0.few_states, starts_small_too _ pre.0 _ turn.before.before.mark-ends.ensures _ _ turn.loop.invariant.3 _ c.before.before.greater.ensures _ c.before.greater2.ensures _ c.greater3.ensures)
+overflow_mul-starts-in-loop-q : tie.Need-overflow_mul-starts-in-loop-q invariant-loop-q decreases-loop-q
+overflow_mul-starts-in-loop-q c =
+    let pre = c.requires in
+    omega (arith, pre.0.few_states, starts_small_too _ pre.0 _ c.mark_ends.ensures _ _ c.loop-q.invariant.3 _ c.greater.ensures _ c.greater-in-loop-q.ensures _ c.greater-k.ensures)
 
-add-starts-2 : tie.Need-overflow-add-starts-2 invariant-loop decreases-loop
-add-starts-2 c =
-    let turn = c.before.before.before.before in
-    let pre = turn.before.before.before.before.before.before.before.before.requires in
-    omega (arith, pre.0.few_states, starts_small_too _ pre.0 _ turn.before.before.mark-ends.ensures _ _ turn.loop.invariant.3 _ c.before.before.greater.ensures _ c.before.greater2.ensures _ c.greater3.ensures)
+overflow_add-starts-in-loop-q : tie.Need-overflow_add-starts-in-loop-q invariant-loop-q decreases-loop-q
+overflow_add-starts-in-loop-q c =
+    let pre = c.requires in
+    omega (arith, pre.0.few_states, starts_small_too _ pre.0 _ c.mark_ends.ensures _ _ c.loop-q.invariant.3 _ c.greater.ensures _ c.greater-in-loop-q.ensures _ c.greater-k.ensures)
 
-add-starts-3 : tie.Need-overflow-add-starts-3 invariant-loop decreases-loop
-add-starts-3 c = search starts_laws
+overflow_add-starts-in-loop-q-2 : tie.Need-overflow_add-starts-in-loop-q-2 invariant-loop-q decreases-loop-q
+overflow_add-starts-in-loop-q-2 c = search starts_laws
 
-mul-starts-4 : tie.Need-overflow-mul-starts-4 invariant-loop decreases-loop
-mul-starts-4 c = search starts_laws
+offset_bounds-starts-p-in-loop-q : tie.Need-offset_bounds-starts-p-in-loop-q invariant-loop-q decreases-loop-q
+offset_bounds-starts-p-in-loop-q c = search starts_laws
 
-slice-write-starts-2 : tie.Need-slice-write-starts-2 invariant-loop decreases-loop
-slice-write-starts-2 c =
-    let turn = c.before.before.before.before in
-    simp length-set (omega (arith, c.before.before.before.loop-test.true, turn.loop.invariant.1, turn.before.before.before.before.before.before.before.before.requires.1))
+bounds-starts-p-in-loop-q : tie.Need-bounds-starts-p-in-loop-q invariant-loop-q decreases-loop-q
+bounds-starts-p-in-loop-q c =
+    simp length-set (omega (arith, c.loop-q-test.true, c.loop-q.invariant.1, c.requires.1))
 
-add-q : tie.Need-overflow-add-q invariant-loop decreases-loop
-add-q c = search starts_laws
+overflow_add-q : tie.Need-overflow_add-q invariant-loop-q decreases-loop-q
+overflow_add-q c = search starts_laws
 
-loop-less : tie.Need-loop-smaller invariant-loop decreases-loop
-loop-less c = search starts_laws
+loop-q-smaller : tie.Need-loop-q-smaller invariant-loop-q decreases-loop-q
+loop-q-smaller c = search starts_laws
 
-loop-again : tie.Need-loop-preserved invariant-loop decreases-loop
-loop-again c =
-    let turn = c.before.before.before.before in
-    let a = turn.before.before.before.before.before.before.before.before.requires.0 in
-    let marked = turn.before.before.mark-ends.ensures in
-    let first = c.before.before.greater.ensures in
-    let both = c.before.greater2.ensures in
-    (omega (arith, c.before.before.before.loop-test.true), search starts_laws, starts_two _ a _ marked _ _ turn.loop.invariant.3 _ first _ both _ c.greater3.ensures _ _ turn.loop.invariant.2, greatest_two _ a _ marked _ _ turn.loop.invariant.3 _ first _ both _ c.greater3.ensures)
+loop-q-preserved : tie.Need-loop-q-preserved invariant-loop-q decreases-loop-q
+loop-q-preserved c =
+    let a = c.requires.0 in
+    let marked = c.mark_ends.ensures in
+    let first = c.greater.ensures in
+    let both = c.greater-in-loop-q.ensures in
+    (omega (arith, c.loop-q-test.true), search starts_laws, starts_two _ a _ marked _ _ c.loop-q.invariant.3 _ first _ both _ c.greater-k.ensures _ _ c.loop-q.invariant.2, greatest_two _ a _ marked _ _ c.loop-q.invariant.3 _ first _ both _ c.greater-k.ensures)
 
-cast-p-2 : tie.Need-overflow-cast-p-2 invariant-loop decreases-loop
-cast-p-2 c = search starts_laws
+overflow_cast-p-then-q-n : tie.Need-overflow_cast-p-then-q-n invariant-loop-q decreases-loop-q
+overflow_cast-p-then-q-n c = search starts_laws
 
-mul-greater : tie.Need-overflow-mul-greater invariant-loop decreases-loop
-mul-greater c = search starts_laws
+offset_bounds-ends-p-then-q-n : tie.Need-offset_bounds-ends-p-then-q-n invariant-loop-q decreases-loop-q
+offset_bounds-ends-p-then-q-n c = search starts_laws
 
-array-read-greater : tie.Need-array-read-greater invariant-loop decreases-loop
-array-read-greater c = search starts_laws
+bounds-ends-p-then-q-n : tie.Need-bounds-ends-p-then-q-n invariant-loop-q decreases-loop-q
+bounds-ends-p-then-q-n c = search starts_laws
 
-greater-requires-4 : tie.Need-greater-requires-4 invariant-loop decreases-loop
-greater-requires-4 c κs = search starts_laws
+greater-requires-then-q-n : tie.Need-greater-requires-then-q-n invariant-loop-q decreases-loop-q
+greater-requires-then-q-n c κs = search starts_laws
 
-mul-starts-5 : tie.Need-overflow-mul-starts-5 invariant-loop decreases-loop
-mul-starts-5 c =
-    let turn = c.before.before.before in
-    let pre = turn.before.before.before.before.before.before.before.before.requires in
-    omega (arith, pre.0.few_states, starts_small _ pre.0 _ turn.before.before.mark-ends.ensures _ _ turn.loop.invariant.3 _ c.greater4.ensures)
+overflow_mul-starts-then-q-n : tie.Need-overflow_mul-starts-then-q-n invariant-loop-q decreases-loop-q
+overflow_mul-starts-then-q-n c =
+    let pre = c.requires in
+    omega (arith, pre.0.few_states, starts_small _ pre.0 _ c.mark_ends.ensures _ _ c.loop-q.invariant.3 _ c.greater-then-q-n.ensures)
 
-add-starts-4 : tie.Need-overflow-add-starts-4 invariant-loop decreases-loop
-add-starts-4 c =
-    let turn = c.before.before.before in
-    let pre = turn.before.before.before.before.before.before.before.before.requires in
-    omega (arith, pre.0.few_states, starts_small _ pre.0 _ turn.before.before.mark-ends.ensures _ _ turn.loop.invariant.3 _ c.greater4.ensures)
+overflow_add-starts-then-q-n : tie.Need-overflow_add-starts-then-q-n invariant-loop-q decreases-loop-q
+overflow_add-starts-then-q-n c =
+    let pre = c.requires in
+    omega (arith, pre.0.few_states, starts_small _ pre.0 _ c.mark_ends.ensures _ _ c.loop-q.invariant.3 _ c.greater-then-q-n.ensures)
 
-mul-starts-6 : tie.Need-overflow-mul-starts-6 invariant-loop decreases-loop
-mul-starts-6 c = search starts_laws
+offset_bounds-starts-p-then-q-n : tie.Need-offset_bounds-starts-p-then-q-n invariant-loop-q decreases-loop-q
+offset_bounds-starts-p-then-q-n c = search starts_laws
 
-slice-write-starts-3 : tie.Need-slice-write-starts-3 invariant-loop decreases-loop
-slice-write-starts-3 c = search starts_laws
+bounds-starts-p-then-q-n : tie.Need-bounds-starts-p-then-q-n invariant-loop-q decreases-loop-q
+bounds-starts-p-then-q-n c = search starts_laws
 
-same_length : tie.Need-same-length invariant-loop decreases-loop
-same_length c = search starts_laws
+shape_of-starts-then-q-n : tie.Need-shape_of-starts-then-q-n invariant-loop-q decreases-loop-q
+shape_of-starts-then-q-n c = search starts_laws
 
-returns : tie.Need-returns invariant-loop decreases-loop
-returns c =
-    let turn = c.before.before.before in
-    starts_last _ turn.before.before.before.before.before.before.before.before.requires.0 _ turn.before.before.mark-ends.ensures _ _ turn.loop.invariant.3 _ c.greater4.ensures _ _ turn.loop.invariant.2 (omega (arith, c.before.if1.true)) (omega (arith, c.before.if1.true))
+returns-then-q-n : tie.Need-returns-then-q-n invariant-loop-q decreases-loop-q
+returns-then-q-n c =
+    starts_last _ c.requires.0 _ c.mark_ends.ensures _ _ c.loop-q.invariant.3 _ c.greater-then-q-n.ensures _ _ c.loop-q.invariant.2 (omega (arith, c.if-q-n.true)) (omega (arith, c.if-q-n.true))
 
-same-length-2 : tie.Need-same-length-2 invariant-loop decreases-loop
-same-length-2 c = search starts_laws
+shape_of-starts-else-q-n : tie.Need-shape_of-starts-else-q-n invariant-loop-q decreases-loop-q
+shape_of-starts-else-q-n c = search starts_laws
 
-returns-2 : tie.Need-returns-2 invariant-loop decreases-loop
-returns-2 c =
-    let turn = c.before.before.loop.invariant in
-    starts_ended _ _ _ _ turn.2 (omega (arith, c.before.loop-test.false, c.if1.false)) turn.0
+returns-else-q-n : tie.Need-returns-else-q-n invariant-loop-q decreases-loop-q
+returns-else-q-n c =
+    let turn = c.loop-q.invariant in
+    starts_ended _ _ _ _ turn.2 (omega (arith, c.loop-q-test.false, c.if-q-n.false)) turn.0
 
-pub run-starts-spec : {M : Type 1} → statement M
-run-starts-spec =
+pub run_starts_spec : {M : Type 1} → statement M
+run_starts_spec =
     tie.close
     (tie.spec
-    invariant-loop
-    decreases-loop
-    shared-slice-read-n
-    add-base
-    cast-first
-    mul-mark-ends
-    sub-mark-ends
-    part-mark-ends-start
-    part-mark-ends-end
-    slice-aggregate-mark-ends
-    mark-ends-requires
-    loop-holds
-    cast-p
-    mul-end
-    array-read-end
-    add-next
-    mul_next
-    array-read-next
+    invariant-loop-q
+    decreases-loop-q
+    bounds-s-2
+    overflow_add-base
+    overflow_cast-first
+    offset_bounds-s-first
+    slice_bounds-mark_ends-count
+    slice_bounds-mark_ends-start
+    slice_bounds-mark_ends-end
+    slice_bounds-mark_ends-end-2
+    mark_ends-requires
+    loop-q-init
+    overflow_cast-p
+    offset_bounds-ends-p
+    bounds-ends-p
+    overflow_add-next
+    offset_bounds-ends-p-in-loop-q
+    bounds-ends-p-in-loop-q
     greater-requires
-    mul-starts
-    add-starts
-    mul-starts-2
-    slice-write-starts
-    greater-requires-2
-    greater-requires-3
-    mul-starts-3
-    add-starts-2
-    add-starts-3
-    mul-starts-4
-    slice-write-starts-2
-    add-q
-    loop-less
-    loop-again
-    cast-p-2
-    mul-greater
-    array-read-greater
-    greater-requires-4
-    mul-starts-5
-    add-starts-4
-    mul-starts-6
-    slice-write-starts-3
-    same_length
-    returns
-    same-length-2
-    returns-2)
+    overflow_mul-starts
+    overflow_add-starts
+    offset_bounds-starts-p
+    bounds-starts-p
+    greater-requires-in-loop-q
+    greater-k-requires
+    overflow_mul-starts-in-loop-q
+    overflow_add-starts-in-loop-q
+    overflow_add-starts-in-loop-q-2
+    offset_bounds-starts-p-in-loop-q
+    bounds-starts-p-in-loop-q
+    overflow_add-q
+    loop-q-smaller
+    loop-q-preserved
+    overflow_cast-p-then-q-n
+    offset_bounds-ends-p-then-q-n
+    bounds-ends-p-then-q-n
+    greater-requires-then-q-n
+    overflow_mul-starts-then-q-n
+    overflow_add-starts-then-q-n
+    offset_bounds-starts-p-then-q-n
+    bounds-starts-p-then-q-n
+    shape_of-starts-then-q-n
+    returns-then-q-n
+    shape_of-starts-else-q-n
+    returns-else-q-n)
