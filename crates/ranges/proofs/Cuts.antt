@@ -71,10 +71,11 @@ module _ (a : ℕ) where
   next_gt top (e ∷ es) h = next_gt (nearest top e) es (nearer_gt a e.first _ (nearer_gt a (suc e.last) _ h))
 
   -- no cut of a range lies between a and the next
-  pub next_cuts : (top : ℕ) {e : Transition} {es : List Transition} → e ∈ es
+  pub next_cuts : {e : Transition} (top : ℕ) {es : List Transition} → e ∈ es
       → ((e.first ≤ a) ⊎ (next_cut a top es ≤ e.first)) × ((suc e.last ≤ a) ⊎ (next_cut a top es ≤ suc e.last))
   unfolding next_cut
-  next_cuts top {e} {es = d ∷ es} (Memᴰ.head q) =
+  next_cuts {e = e} top {es = []} x'' = elim x'' [ ]
+  next_cuts {e} top {es = d ∷ es} (Memᴰ.head q) =
       let b = nearer a (suc d.last) top in
       let n = next_le (nearest top d) es in
       let z = nearer_le a d.first b in

@@ -40,9 +40,10 @@ intersect_exact s t x = go (leb greater_first lesser_last) refl
     go false e = (λ (i, j). omega (arith, leb-false greater_first lesser_last e, i.above, j.above, i.below, j.below), λ i. absurd i)
 
 -- an entry that starts at or below `end` is found
-below_found : (end : ℕ) {e : Transition} {es : List Transition} → e ∈ es → e.first ≤ end → overlaps_from end es ≡ true
+below_found : {e : Transition} (end : ℕ) {es : List Transition} → e ∈ es → e.first ≤ end → overlaps_from end es ≡ true
 unfolding overlaps_from
-below_found end {e} {es = d ∷ es} (Memᴰ.head q) h = rw (le-leb d.first end (rw (ap (λ (t : Transition). t.first) q) at h))
+below_found {e} end {es = d ∷ es} (Memᴰ.head q) h = rw (le-leb d.first end (rw (ap (λ (t : Transition). t.first) q) at h))
+below_found {e = e} end {es = []} x5 h = elim x5 [ ]
 below_found end {es = d ∷ es} (Memᴰ.tail m) h = or_right (leb d.first end) _ (below_found (max end d.last) m (omega arith))
 
 below_shared : (end : ℕ) {es : List Transition} → Shared es → overlaps_from end es ≡ true
@@ -74,7 +75,6 @@ found_below end (d ∷ es) p h =
 -- sorted ranges overlap exactly when two different ones hold the same symbol
 pub overlap_shared : (es : List Transition) → SortedRanges es → (overlapping es ≡ true) ↔ Shared es
 unfolding overlapping
-into [] x' = elim x' [ ]
 overlap_shared es p = (out es p, into es)
   where
     out : (es : List Transition) → SortedRanges es → overlapping es ≡ true → Shared es
@@ -84,6 +84,7 @@ overlap_shared es p = (out es p, into es)
         (found_below d.last es (rest_sorted p) h)
 
     into : (es : List Transition) → Shared es → overlapping es ≡ true
+    into [] x' = elim x' [ ]
     into (d ∷ es) (Shared.first e x m p q) = below_found d.last m (omega (arith, (holds_ends x d p).1, (holds_ends x e q).0))
     into (d ∷ es) (Shared.later s) = below_shared d.last s
 

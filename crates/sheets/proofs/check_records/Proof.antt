@@ -42,11 +42,11 @@ offset_bounds-t-at c = search records_laws
 slice_bounds-check_record-count-in-loop-at : tie.Need-slice_bounds-check_record-count-in-loop-at invariant-loop-at decreases-loop-at
 slice_bounds-check_record-count-in-loop-at c = search records_laws
 
-part-check-record-start-2 : tie.Need-slice-bounds-check-record-start-2 invariant-loop-at decreases-loop-at
-part-check-record-start-2 c = search records_laws
+slice_bounds-check_record-start-in-loop-at : tie.Need-slice_bounds-check_record-start-in-loop-at invariant-loop-at decreases-loop-at
+slice_bounds-check_record-start-in-loop-at c = search records_laws
 
-part-check-record-end-2 : tie.Need-slice-bounds-check-record-end-2 invariant-loop-at decreases-loop-at
-part-check-record-end-2 c = search records_laws
+slice_bounds-check_record-end-in-loop-at : tie.Need-slice_bounds-check_record-end-in-loop-at invariant-loop-at decreases-loop-at
+slice_bounds-check_record-end-in-loop-at c = search records_laws
 
 check_record-f-requires : tie.Need-check_record-f-requires invariant-loop-at decreases-loop-at
 check_record-f-requires c κs = search records_laws
@@ -63,8 +63,8 @@ returns-in_default c = search records_laws
 pass_records-prev-requires : tie.Need-pass_records-prev-requires invariant-loop-at decreases-loop-at
 pass_records-prev-requires c κs = search records_laws
 
-overflow_add-at : tie.Need-overflow_add-at invariant-loop-at decreases-loop-at
-overflow_add-at c = search records_laws
+overflow_add-at-in-loop-at : tie.Need-overflow_add-at-in-loop-at invariant-loop-at decreases-loop-at
+overflow_add-at-in-loop-at c = search records_laws
 
 loop-at-smaller : tie.Need-loop-at-smaller invariant-loop-at decreases-loop-at
 loop-at-smaller c = search records_laws
@@ -79,5 +79,5 @@ pub check_records_spec : {M : Type 1} → statement M
 check_records_spec =
     tie.close
     (tie.spec invariant-loop-at decreases-loop-at loop-at-init overflow_sub-t offset_bounds-t-prev slice_bounds-check_record-count slice_bounds-check_record-start slice_bounds-check_record-end overflow_add-at
-    offset_bounds-t-at slice_bounds-check_record-count-in-loop-at part-check-record-start-2 part-check-record-end-2 check_record-f-requires enum_told-1 enum_told-in_default returns-in_default
-    pass_records-prev-requires overflow_add-at loop-at-smaller loop-at-preserved returns)
+    offset_bounds-t-at slice_bounds-check_record-count-in-loop-at slice_bounds-check_record-start-in-loop-at slice_bounds-check_record-end-in-loop-at check_record-f-requires enum_told-1 enum_told-in_default returns-in_default
+    pass_records-prev-requires overflow_add-at-in-loop-at loop-at-smaller loop-at-preserved returns)

@@ -80,11 +80,11 @@ offset_bounds-t-at c = search below_laws
 slice_bounds-passes-count-then-key-eq0 : tie.Need-slice_bounds-passes-count-then-key-eq0 invariant-loop-prev decreases-loop-prev
 slice_bounds-passes-count-then-key-eq0 c = search below_laws
 
-part-passes-start-2 : tie.Need-slice-bounds-passes-start-2 invariant-loop-prev decreases-loop-prev
-part-passes-start-2 c = search below_laws
+slice_bounds-passes-start-then-key-eq0 : tie.Need-slice_bounds-passes-start-then-key-eq0 invariant-loop-prev decreases-loop-prev
+slice_bounds-passes-start-then-key-eq0 c = search below_laws
 
-part-passes-end-2 : tie.Need-slice-bounds-passes-end-2 invariant-loop-prev decreases-loop-prev
-part-passes-end-2 c = search below_laws
+slice_bounds-passes-end-then-key-eq0 : tie.Need-slice_bounds-passes-end-then-key-eq0 invariant-loop-prev decreases-loop-prev
+slice_bounds-passes-end-then-key-eq0 c = search below_laws
 
 passes-requires : tie.Need-passes-requires invariant-loop-prev decreases-loop-prev
 passes-requires c κs =
@@ -121,10 +121,10 @@ loop-prev-smaller-then-key-eq0 c = search below_laws
 loop-prev-preserved-then-key-eq0 : tie.Need-loop-prev-preserved-then-key-eq0 invariant-loop-prev decreases-loop-prev
 loop-prev-preserved-then-key-eq0 c =
     let more = c.loop-prev-test.true in
-    (c.order_key-before-then-key-eq0.ensures, pass_below _ _ _ _ (below_passed _ _ _ _ c.loop-prev.invariant.1 c.if-n-t.false) (omega (arith, more)) _ c.passes.ensures c.if-not-passes.false)
+    (c.order_key-before-then-key-eq0.ensures, pass_below _ _ _ _ (below_passed _ _ _ _ c.loop-prev.invariant.1 c.if-n-t.false) (omega (arith, more)) _ c.passes.ensures c.if-not-passes.false-raw)
 
-overflow_add-prev : tie.Need-overflow_add-prev invariant-loop-prev decreases-loop-prev
-overflow_add-prev c = search below_laws
+overflow_add-prev-else-key-eq0 : tie.Need-overflow_add-prev-else-key-eq0 invariant-loop-prev decreases-loop-prev
+overflow_add-prev-else-key-eq0 c = search below_laws
 
 loop-prev-smaller : tie.Need-loop-prev-smaller invariant-loop-prev decreases-loop-prev
 loop-prev-smaller c = search below_laws
@@ -165,8 +165,8 @@ pass_ascending_spec =
     overflow_add-at-then-key-eq0
     offset_bounds-t-at
     slice_bounds-passes-count-then-key-eq0
-    part-passes-start-2
-    part-passes-end-2
+    slice_bounds-passes-start-then-key-eq0
+    slice_bounds-passes-end-then-key-eq0
     passes-requires
     returns-then-not-passes
     offset_bounds-t-at-then-key-eq0
@@ -177,7 +177,7 @@ pass_ascending_spec =
     order_key-before-requires-then-key-eq0
     loop-prev-smaller-then-key-eq0
     loop-prev-preserved-then-key-eq0
-    overflow_add-prev
+    overflow_add-prev-else-key-eq0
     loop-prev-smaller
     loop-prev-preserved
     returns)

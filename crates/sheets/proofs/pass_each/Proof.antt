@@ -68,11 +68,11 @@ offset_bounds-t-at c = search pass_laws
 slice_bounds-passes-count-in-loop-prev : tie.Need-slice_bounds-passes-count-in-loop-prev invariant-loop-prev decreases-loop-prev
 slice_bounds-passes-count-in-loop-prev c = search pass_laws
 
-part-passes-start-2 : tie.Need-slice-bounds-passes-start-2 invariant-loop-prev decreases-loop-prev
-part-passes-start-2 c = search pass_laws
+slice_bounds-passes-start-in-loop-prev : tie.Need-slice_bounds-passes-start-in-loop-prev invariant-loop-prev decreases-loop-prev
+slice_bounds-passes-start-in-loop-prev c = search pass_laws
 
-part-passes-end-2 : tie.Need-slice-bounds-passes-end-2 invariant-loop-prev decreases-loop-prev
-part-passes-end-2 c = search pass_laws
+slice_bounds-passes-end-in-loop-prev : tie.Need-slice_bounds-passes-end-in-loop-prev invariant-loop-prev decreases-loop-prev
+slice_bounds-passes-end-in-loop-prev c = search pass_laws
 
 passes-requires : tie.Need-passes-requires invariant-loop-prev decreases-loop-prev
 passes-requires c κs =
@@ -109,7 +109,7 @@ loop-prev-preserved c =
     let turn = c.loop-prev.invariant in
     let more = c.loop-prev-test.true in
     let test = c.passes.ensures in
-    let passed = c.if-not-passes.false in
+    let passed = c.if-not-passes.false-raw in
     (pass_good _ _ _ _ turn.2 more _ test passed, c.order_key-before-in-loop-prev.ensures, pass_next _ _ _ _ turn.2 more _ test passed)
 
 returns : tie.Need-returns invariant-loop-prev decreases-loop-prev
@@ -120,5 +120,5 @@ pass_each_spec =
     tie.close
     (tie.spec invariant-loop-prev decreases-loop-prev offset_bounds-t-from bounds-t-from overflow_add-from offset_bounds-t-from-2 bounds-t-from-2
     order_key-before-requires loop-prev-init overflow_sub-t overflow_add-at overflow_add-prev offset_bounds-t-prev slice_bounds-passes-count slice_bounds-passes-start slice_bounds-passes-end overflow_add-at-in-loop-prev offset_bounds-t-at
-    slice_bounds-passes-count-in-loop-prev part-passes-start-2 part-passes-end-2 passes-requires returns-then-not-passes offset_bounds-t-at-in-loop-prev bounds-t-at overflow_add-at-in-loop-prev-2
+    slice_bounds-passes-count-in-loop-prev slice_bounds-passes-start-in-loop-prev slice_bounds-passes-end-in-loop-prev passes-requires returns-then-not-passes offset_bounds-t-at-in-loop-prev bounds-t-at overflow_add-at-in-loop-prev-2
     offset_bounds-t-at-in-loop-prev-2 bounds-t-at-in-loop-prev order_key-before-requires-in-loop-prev loop-prev-smaller loop-prev-preserved returns)
