@@ -5,7 +5,7 @@ ghost use Rattle.grammar.specs.Grammar.{run, space, needed_space, token, name};
 ghost use Rattle.grammar.specs.inner.Pieces.{piece_of, name_of};
 
 // A place in a text.
-#[derive(Drop)]
+#[derive(Clone, Copy)]
 pub struct Cursor {
     pub at: usize,
 }

@@ -3,7 +3,7 @@ use Rattle.lists.proofs.Tests.{tests}
 use Rattle.output.proofs.lacks_room.Statement.{statement}
 use Rattle.output.proofs.lacks_room.Tie as tie
 
-pub lacks-room-spec : {M : Type 1} → statement M
-lacks-room-spec =
+pub lacks_room_spec : {M : Type 1} → statement M
+lacks_room_spec =
     tie.close
     (tie.spec (λ c. search tests) (λ c. search tests))

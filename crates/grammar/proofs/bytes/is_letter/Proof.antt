@@ -5,19 +5,19 @@ use Rattle.grammar.proofs.Letters.{letter_low}
 use Rattle.grammar.proofs.bytes.is_letter.Statement.{statement}
 use Rattle.grammar.proofs.bytes.is_letter.Tie as tie
 
-returns-2 : tie.Need-returns-2
+returns-then-b-le90 : tie.Need-returns-then-b-le90
 unfolding is_letter
-returns-2 c = search tests
+returns-then-b-le90 c = search tests
 
-returns-3 : tie.Need-returns-3
+returns-then-b-lt97 : tie.Need-returns-then-b-lt97
 unfolding is_letter
-returns-3 c = search tests
+returns-then-b-lt97 c = search tests
 
-returns-4 : tie.Need-returns-4
+returns : tie.Need-returns
 unfolding is_letter
-returns-4 c = search tests
+returns c = search tests
 
-pub is-letter-spec : {M : Type 1} → statement M
-is-letter-spec =
+pub is_letter_spec : {M : Type 1} → statement M
+is_letter_spec =
     tie.close
-    (tie.spec (λ c. search letter_low) returns-2 returns-3 returns-4)
+    (tie.spec (λ c. search letter_low) returns-then-b-le90 returns-then-b-lt97 returns)

@@ -4,8 +4,8 @@ use Rattle.grammar.specs.Bytes.{is_space}
 use Rattle.grammar.proofs.bytes.is_space.Statement.{statement}
 use Rattle.grammar.proofs.bytes.is_space.Tie as tie
 
-pub is-space-spec : {M : Type 1} → statement M
+pub is_space_spec : {M : Type 1} → statement M
 unfolding is_space
-is-space-spec =
+is_space_spec =
     tie.close
     (tie.spec (λ c. search tests) (λ c. search tests) (λ c. search tests) (λ c. search tests))

@@ -4,9 +4,9 @@ use Rattle.grammar.proofs.Following.{piece_laws}
 use Rattle.grammar.proofs.pieces.initial.Statement.{statement}
 use Rattle.grammar.proofs.pieces.initial.Tie as tie
 
-pub initial-spec : {M : Type 1} → statement M
+pub initial_spec : {M : Type 1} → statement M
 unfolding initial
-initial-spec =
+initial_spec =
     tie.close
     (tie.spec (λ c. search piece_laws depth 20) (λ c κs. search piece_laws depth 20) (λ c. search piece_laws depth 20) (λ c. search piece_laws depth 20)
     (λ c. search piece_laws depth 20) (λ c κs. search piece_laws depth 20) (λ c. search piece_laws depth 20) (λ c. search piece_laws depth 20)

@@ -4,9 +4,9 @@ use Rattle.grammar.proofs.Following.{piece_laws}
 use Rattle.grammar.proofs.pieces.next_name.Statement.{statement}
 use Rattle.grammar.proofs.pieces.next_name.Tie as tie
 
-pub next-name-spec : {M : Type 1} → statement M
+pub next_name_spec : {M : Type 1} → statement M
 unfolding next_name
-next-name-spec =
+next_name_spec =
     tie.close
     (tie.spec (λ c. search piece_laws depth 20) (λ c κs. search piece_laws depth 20) (λ c. search piece_laws depth 20) (λ c. search piece_laws depth 20)
     (λ c. search piece_laws depth 20) (λ c κs. search piece_laws depth 20) (λ c. search piece_laws depth 20))

@@ -7,15 +7,15 @@ use Rattle.grammar.proofs.Many.{names_loop, names_next}
 use Rattle.grammar.proofs.pieces.next_names.Statement.{statement}
 use Rattle.grammar.proofs.pieces.next_names.Tie as tie
 
-abbrev invariant-loop : tie.invariant-loop
-invariant-loop text at₀ at = (next_names text at₀).behind ≡ (next_names text at).behind
+abbrev invariant-loop-next : tie.invariant-loop-next
+invariant-loop-next text at₀ at = (next_names text at₀).behind ≡ (next_names text at).behind
 
-abbrev decreases-loop : tie.decreases-loop
-decreases-loop text at₀ at = length text - at
+abbrev decreases-loop-next : tie.decreases-loop-next
+decreases-loop-next text at₀ at = length text - at
 
-pub next-names-spec : {M : Type 1} → statement M
-next-names-spec =
+pub next_names_spec : {M : Type 1} → statement M
+next_names_spec =
     tie.close
-    (tie.spec invariant-loop decreases-loop (λ c. search names_loop) (λ c κs. search names_loop) (λ c. search names_loop) (λ c. search names_loop) (λ c. search names_loop)
+    (tie.spec invariant-loop-next decreases-loop-next (λ c. search names_loop) (λ c κs. search names_loop) (λ c. search names_loop) (λ c. search names_loop) (λ c. search names_loop)
     (λ c. search names_loop)
-    (λ c. names_next _ _ _ c.before.before.before.next-name.ensures _ c.before.before.before.before.loop.invariant _ _ c.before.next.given.1))
+    (λ c. names_next _ _ _ c.next_name.ensures _ c.loop-next.invariant _ _ c.in-Read.is))

@@ -5,7 +5,7 @@ use Rattle.grammar.specs.Grammar.{token}
 use Rattle.grammar.proofs.pieces.other_names.Statement.{statement}
 use Rattle.grammar.proofs.pieces.other_names.Tie as tie
 
-pub other-names-spec : {M : Type 1} → statement M
-other-names-spec =
+pub other_names_spec : {M : Type 1} → statement M
+other_names_spec =
     tie.close
     (tie.spec (λ c κs. search rules) (λ c. search rules) (λ c κs. search rules) (λ c. c.token.ensures ∙ ap (token _ _) c.before.before.next-names.ensures))

@@ -4,9 +4,9 @@ use Rattle.grammar.proofs.Following.{piece_laws}
 use Rattle.grammar.proofs.pieces.target.Statement.{statement}
 use Rattle.grammar.proofs.pieces.target.Tie as tie
 
-pub target-spec : {M : Type 1} → statement M
+pub target_spec : {M : Type 1} → statement M
 unfolding target
-target-spec =
+target_spec =
     tie.close
     (tie.spec (λ c. search piece_laws depth 20) (λ c κs. search piece_laws depth 20) (λ c. search piece_laws depth 20) (λ c. search piece_laws depth 20)
     (λ c. search piece_laws depth 20) (λ c κs. search piece_laws depth 20) (λ c. search piece_laws depth 20))

@@ -7,16 +7,16 @@ use Rattle.grammar.proofs.Many.{arrows_loop, arrows_next}
 use Rattle.grammar.proofs.pieces.transitions.Statement.{statement}
 use Rattle.grammar.proofs.pieces.transitions.Tie as tie
 
-abbrev invariant-loop : tie.invariant-loop
-invariant-loop text at₀ at = (transitions text at₀).behind ≡ (transitions text at).behind
+abbrev invariant-loop-next : tie.invariant-loop-next
+invariant-loop-next text at₀ at = (transitions text at₀).behind ≡ (transitions text at).behind
 
-abbrev decreases-loop : tie.decreases-loop
-decreases-loop text at₀ at = length text - at
+abbrev decreases-loop-next : tie.decreases-loop-next
+decreases-loop-next text at₀ at = length text - at
 
-pub transitions-spec : {M : Type 1} → statement M
-transitions-spec =
+pub transitions_spec : {M : Type 1} → statement M
+transitions_spec =
     tie.close
-    (tie.spec invariant-loop decreases-loop (λ c. search arrows_loop) (λ c κs. search arrows_loop) (λ c. search arrows_loop) (λ c. search arrows_loop) (λ c. search arrows_loop)
+    (tie.spec invariant-loop-next decreases-loop-next (λ c. search arrows_loop) (λ c κs. search arrows_loop) (λ c. search arrows_loop) (λ c. search arrows_loop) (λ c. search arrows_loop)
     (λ c. search arrows_loop)
-    (λ c. arrows_next _ _ _ c.before.before.before.spaced-transition.ensures _ c.before.before.before.before.loop.invariant _ _
-    c.before.next.given.1))
+    (λ c. arrows_next _ _ _ c.spaced_transition.ensures _ c.loop-next.invariant _ _
+    c.in-Read.is))

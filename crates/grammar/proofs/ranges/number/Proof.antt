@@ -8,15 +8,15 @@ use Rattle.grammar.proofs.Digits.{written, number_laws}
 use Rattle.grammar.proofs.ranges.number.Statement.{statement}
 use Rattle.grammar.proofs.ranges.number.Tie as tie
 
-abbrev invariant-loop : tie.invariant-loop
-invariant-loop text start at₀ v₀ at v = (start ≤ at) × (v < 2 ^ 32) × (start + run is_digit (drop start text) ≡ at + run is_digit (drop at text)) × (written text start 0 ≡ written text at v)
+abbrev invariant-loop-at : tie.invariant-loop-at
+invariant-loop-at text start at₀ v₀ at v = (start ≤ at) × (v < 2 ^ 32) × (start + run is_digit (drop start text) ≡ at + run is_digit (drop at text)) × (written text start 0 ≡ written text at v)
 
-abbrev decreases-loop : tie.decreases-loop
-decreases-loop text start at₀ v₀ at v = length text - at
+abbrev decreases-loop-at : tie.decreases-loop-at
+decreases-loop-at text start at₀ v₀ at v = length text - at
 
-pub number-spec : {M : Type 1} → statement M
-number-spec =
+pub number_spec : {M : Type 1} → statement M
+number_spec =
     tie.close
-    (tie.spec invariant-loop decreases-loop (λ c. search number_laws) (λ c. search number_laws) (λ c κs. search number_laws) (λ c κs. search number_laws) (λ c. search number_laws)
+    (tie.spec invariant-loop-at decreases-loop-at (λ c. search number_laws) (λ c. search number_laws) (λ c κs. search number_laws) (λ c κs. search number_laws) (λ c. search number_laws)
     (λ c κs. search number_laws) (λ c. search number_laws) (λ c. search number_laws) (λ c. search number_laws) (λ c. search number_laws) (λ c κs. search number_laws)
     (λ c. search number_laws))

@@ -4,9 +4,9 @@ use Rattle.grammar.proofs.Following.{piece_laws}
 use Rattle.grammar.proofs.ranges.range.Statement.{statement}
 use Rattle.grammar.proofs.ranges.range.Tie as tie
 
-pub range-spec : {M : Type 1} → statement M
+pub range_spec : {M : Type 1} → statement M
 unfolding range
-range-spec =
+range_spec =
     tie.close
     (tie.spec (λ c. search piece_laws depth 20) (λ c κs. search piece_laws depth 20) (λ c. search piece_laws depth 20) (λ c. search piece_laws depth 20)
     (λ c. search piece_laws depth 20) (λ c κs. search piece_laws depth 20) (λ c. search piece_laws depth 20) (λ c. search piece_laws depth 20)

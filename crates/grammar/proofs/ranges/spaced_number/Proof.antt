@@ -5,7 +5,7 @@ use Rattle.grammar.specs.Grammar.{number}
 use Rattle.grammar.proofs.ranges.spaced_number.Statement.{statement}
 use Rattle.grammar.proofs.ranges.spaced_number.Tie as tie
 
-pub spaced-number-spec : {M : Type 1} → statement M
-spaced-number-spec =
+pub spaced_number_spec : {M : Type 1} → statement M
+spaced_number_spec =
     tie.close
-    (tie.spec (λ c κs. search rules) (λ c κs. search rules) (λ c. c.number.ensures ∙ ap (number _) c.before.space.ensures))
+    (tie.spec (λ c κs. search rules) (λ c κs. search rules) (λ c. c.number.ensures ∙ ap (number _) c.space.ensures))

@@ -4,9 +4,9 @@ use Rattle.grammar.proofs.Following.{piece_laws}
 use Rattle.grammar.proofs.text.ending.Statement.{statement}
 use Rattle.grammar.proofs.text.ending.Tie as tie
 
-pub ending-spec : {M : Type 1} → statement M
+pub ending_spec : {M : Type 1} → statement M
 unfolding ending
-ending-spec =
+ending_spec =
     tie.close
     (tie.spec (λ c. search piece_laws depth 20) (λ c κs. search piece_laws depth 20) (λ c. search piece_laws depth 20) (λ c. search piece_laws depth 20)
     (λ c. search piece_laws depth 20) (λ c. search piece_laws depth 20) (λ c κs. search piece_laws depth 20) (λ c. search piece_laws depth 20))

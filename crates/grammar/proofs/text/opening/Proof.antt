@@ -4,9 +4,9 @@ use Rattle.grammar.proofs.Following.{piece_laws}
 use Rattle.grammar.proofs.text.opening.Statement.{statement}
 use Rattle.grammar.proofs.text.opening.Tie as tie
 
-pub opening-spec : {M : Type 1} → statement M
+pub opening_spec : {M : Type 1} → statement M
 unfolding opening
-opening-spec =
+opening_spec =
     tie.close
     (tie.spec (λ c κs. search piece_laws depth 20) (λ c. search piece_laws depth 20) (λ c. search piece_laws depth 20) (λ c. search piece_laws depth 20)
     (λ c κs. search piece_laws depth 20) (λ c. search piece_laws depth 20))

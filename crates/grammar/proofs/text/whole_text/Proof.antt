@@ -3,8 +3,8 @@ use Rattle.grammar.proofs.Parts.{whole_laws}
 use Rattle.grammar.proofs.text.whole_text.Statement.{statement}
 use Rattle.grammar.proofs.text.whole_text.Tie as tie
 
-pub whole-text-spec : {M : Type 1} → statement M
-whole-text-spec =
+pub whole_text_spec : {M : Type 1} → statement M
+whole_text_spec =
     tie.close
     (tie.spec (λ c κs. search whole_laws) (λ c. search whole_laws) (λ c. search whole_laws) (λ c. search whole_laws)
     (λ c κs. search whole_laws) (λ c κs. search whole_laws) (λ c. search whole_laws) (λ c. search whole_laws) (λ c. search whole_laws)

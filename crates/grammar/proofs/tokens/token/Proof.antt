@@ -7,14 +7,14 @@ use Rattle.grammar.proofs.Comparing.{token_laws}
 use Rattle.grammar.proofs.tokens.token.Statement.{statement}
 use Rattle.grammar.proofs.tokens.token.Tie as tie
 
-abbrev invariant-loop : tie.invariant-loop
-invariant-loop text word at₀ i₀ at i = (at ≡ at₀ + i) × (i ≤ length word) × (begins word (drop at₀ text) ≡ begins (drop i word) (drop at text))
+abbrev invariant-loop-i : tie.invariant-loop-i
+invariant-loop-i text word at₀ i₀ at i = (at ≡ at₀ + i) × (i ≤ length word) × (begins word (drop at₀ text) ≡ begins (drop i word) (drop at text))
 
-abbrev decreases-loop : tie.decreases-loop
-decreases-loop text word at₀ i₀ at i = length word - i
+abbrev decreases-loop-i : tie.decreases-loop-i
+decreases-loop-i text word at₀ i₀ at i = length word - i
 
-pub token-spec : {M : Type 1} → statement M
-token-spec =
+pub token_spec : {M : Type 1} → statement M
+token_spec =
     tie.close
-    (tie.spec invariant-loop decreases-loop (λ c. search token_laws) (λ c. search token_laws) (λ c. search token_laws) (λ c. search token_laws) (λ c. search token_laws)
+    (tie.spec invariant-loop-i decreases-loop-i (λ c. search token_laws) (λ c. search token_laws) (λ c. search token_laws) (λ c. search token_laws) (λ c. search token_laws)
     (λ c. search token_laws) (λ c. search token_laws) (λ c. search token_laws) (λ c. search token_laws) (λ c. search token_laws))

@@ -3,7 +3,7 @@ use Rattle.output.proofs.Halving.{pick_laws}
 use Rattle.output.proofs.finding.pick_place.Statement.{statement}
 use Rattle.output.proofs.finding.pick_place.Tie as tie
 
-pub pick-place-spec : {M : Type 1} → statement M
-pick-place-spec =
+pub pick_place_spec : {M : Type 1} → statement M
+pick_place_spec =
     tie.close
     (tie.spec (λ c κs. search pick_laws) (λ c. search pick_laws) (λ c. search pick_laws))
