@@ -4,8 +4,8 @@ use borrow.Author.Rules.{rules}
 use Rattle.pairs.proofs.join_pair.Statement.{statement}
 use Rattle.pairs.proofs.join_pair.Tie as tie
 
-pub join-pair-spec : {M : Type 1} → statement M
-join-pair-spec =
+pub join_pair_spec : {M : Type 1} → statement M
+join_pair_spec =
     tie.close
     (tie.spec (λ c. search rules) (λ c κs. search rules) (λ c. search rules) (λ c. search rules) (λ c. search rules)
     (λ c. search rules) (λ c. search rules) (λ c. search rules) (λ c. search rules) (λ c. search rules)

@@ -8,5 +8,5 @@ pub next_name_spec : {M : Type 1} → statement M
 unfolding next_name
 next_name_spec =
     tie.close
-    (tie.spec (λ c. search piece_laws depth 20) (λ c κs. search piece_laws depth 20) (λ c. search piece_laws depth 20) (λ c. search piece_laws depth 20)
+    (tie.spec (λ c κs. search piece_laws depth 20) (λ c. search piece_laws depth 20) (λ c. search piece_laws depth 20)
     (λ c. search piece_laws depth 20) (λ c κs. search piece_laws depth 20) (λ c. search piece_laws depth 20))

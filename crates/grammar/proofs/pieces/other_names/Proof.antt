@@ -8,4 +8,4 @@ use Rattle.grammar.proofs.pieces.other_names.Tie as tie
 pub other_names_spec : {M : Type 1} → statement M
 other_names_spec =
     tie.close
-    (tie.spec (λ c κs. search rules) (λ c. search rules) (λ c κs. search rules) (λ c. c.token.ensures ∙ ap (token _ _) c.before.before.next-names.ensures))
+    (tie.spec (λ c κs. search rules) (λ c κs. search rules) (λ c. c.token.ensures ∙ ap (token _ _) c.next_names.ensures))

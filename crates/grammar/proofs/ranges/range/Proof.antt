@@ -8,8 +8,8 @@ pub range_spec : {M : Type 1} → statement M
 unfolding range
 range_spec =
     tie.close
-    (tie.spec (λ c. search piece_laws depth 20) (λ c κs. search piece_laws depth 20) (λ c. search piece_laws depth 20) (λ c. search piece_laws depth 20)
+    (tie.spec (λ c κs. search piece_laws depth 20) (λ c. search piece_laws depth 20) (λ c. search piece_laws depth 20)
     (λ c. search piece_laws depth 20) (λ c κs. search piece_laws depth 20) (λ c. search piece_laws depth 20) (λ c. search piece_laws depth 20)
-    (λ c. search piece_laws depth 20) (λ c. search piece_laws depth 20) (λ c κs. search piece_laws depth 20) (λ c. search piece_laws depth 20)
-    (λ c. search piece_laws depth 20) (λ c. search piece_laws depth 20) (λ c. search piece_laws depth 20) (λ c κs. search piece_laws depth 20)
+    (λ c. search piece_laws depth 20) (λ c κs. search piece_laws depth 20) (λ c. search piece_laws depth 20)
+    (λ c. search piece_laws depth 20) (λ c. search piece_laws depth 20) (λ c κs. search piece_laws depth 20)
     (λ c. search piece_laws depth 20) (λ c. search piece_laws depth 20) (λ c. search piece_laws depth 20) (λ c. search piece_laws depth 20))
