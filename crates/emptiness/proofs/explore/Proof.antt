@@ -8,257 +8,219 @@ use Rattle.emptiness.proofs.Search.{first_bound, first_asked, first_less, search
 use Rattle.emptiness.proofs.explore.Statement.{statement}
 use Rattle.emptiness.proofs.explore.Tie as tie
 
-abbrev invariant-loop : tie.invariant-loop
-invariant-loop s starts targets marks₀ stack₀ q₀ top₀ marks stack q top = Searched (read s) marks stack top q
+abbrev invariant-loop-q : tie.invariant-loop-q
+invariant-loop-q s starts targets marks₀ stack₀ q₀ top₀ marks stack q top = Searched (read s) marks stack top q
 
-abbrev decreases-loop : tie.decreases-loop
-decreases-loop s starts targets marks₀ stack₀ q₀ top₀ marks stack q top = 2 * unmet marks + top
+abbrev decreases-loop-q : tie.decreases-loop-q
+decreases-loop-q s starts targets marks₀ stack₀ q₀ top₀ marks stack q top = 2 * unmet marks + top
 
-shared-slice-read-q : tie.Need-shared-slice-read-q invariant-loop decreases-loop
-shared-slice-read-q c = search search_laws
+bounds-s-1 : tie.Need-bounds-s-1 invariant-loop-q decreases-loop-q
+bounds-s-1 c = search search_laws
 
-cast-marks : tie.Need-overflow-cast-marks invariant-loop decreases-loop
-cast-marks c = search search_laws
+overflow_cast-marks : tie.Need-overflow_cast-marks invariant-loop-q decreases-loop-q
+overflow_cast-marks c = search search_laws
 
-slice-write-marks : tie.Need-slice-write-marks invariant-loop decreases-loop
-slice-write-marks c = search search_laws
+bounds-marks-q : tie.Need-bounds-marks-q invariant-loop-q decreases-loop-q
+bounds-marks-q c = search search_laws
 
-loop-holds : tie.Need-loop-init invariant-loop decreases-loop
-loop-holds c = search_begin _ _ _ _ _ c.before.before.before.before.before.before.requires
+loop-q-init : tie.Need-loop-q-init invariant-loop-q decreases-loop-q
+loop-q-init c = search_begin _ _ _ _ _ c.requires
 
-accept-word-requires : tie.Need-accept-word-requires invariant-loop decreases-loop
-accept-word-requires c κs =
-    let turn = c in
-    let pre = turn.before.before.before.before.before.before.before.requires in
-    (pre.accepted, state_bound _ _ _ _ _ pre _ _ _ _ turn.loop.invariant)
+accept_word-requires : tie.Need-accept_word-requires invariant-loop-q decreases-loop-q
+accept_word-requires c κs =
+    let pre = c.requires in
+    (pre.accepted, state_bound _ _ _ _ _ pre _ _ _ _ c.loop-q.invariant)
 
-same_length : tie.Need-same-length invariant-loop decreases-loop
-same_length c = search search_laws
+shape_of-marks-then-accept_word-gt0 : tie.Need-shape_of-marks-then-accept_word-gt0 invariant-loop-q decreases-loop-q
+shape_of-marks-then-accept_word-gt0 c = search search_laws
 
-same-length-2 : tie.Need-same-length-2 invariant-loop decreases-loop
-same-length-2 c = search search_laws
+shape_of-stack-then-accept_word-gt0 : tie.Need-shape_of-stack-then-accept_word-gt0 invariant-loop-q decreases-loop-q
+shape_of-stack-then-accept_word-gt0 c = search search_laws
 
-returns : tie.Need-returns invariant-loop decreases-loop
-returns c =
-    let turn = c.before.before in
-    let pre = turn.before.before.before.before.before.before.before.requires in
-    state_accepts _ _ _ _ _ pre _ _ _ _ turn.loop.invariant _ c.before.accept-word.ensures c.if1.true
+returns-then-accept_word-gt0 : tie.Need-returns-then-accept_word-gt0 invariant-loop-q decreases-loop-q
+returns-then-accept_word-gt0 c =
+    let pre = c.requires in
+    state_accepts _ _ _ _ _ pre _ _ _ _ c.loop-q.invariant _ c.accept_word.ensures c.if-accept_word-gt0.true
 
-cast-p : tie.Need-overflow-cast-p invariant-loop decreases-loop
-cast-p c =
-    let turn = c.before.before in
-    let pre = turn.before.before.before.before.before.before.before.requires in
-    omega (arith, state_few _ _ _ _ _ pre _ _ _ _ turn.loop.invariant)
+overflow_cast-p : tie.Need-overflow_cast-p invariant-loop-q decreases-loop-q
+overflow_cast-p c =
+    let pre = c.requires in
+    omega (arith, state_few _ _ _ _ _ pre _ _ _ _ c.loop-q.invariant)
 
-add-end : tie.Need-overflow-add-end invariant-loop decreases-loop
-add-end c =
-    let turn = c.before.before in
-    let pre = turn.before.before.before.before.before.before.before.requires in
-    omega (arith, state_few _ _ _ _ _ pre _ _ _ _ turn.loop.invariant)
+overflow_add-end : tie.Need-overflow_add-end invariant-loop-q decreases-loop-q
+overflow_add-end c =
+    let pre = c.requires in
+    omega (arith, state_few _ _ _ _ _ pre _ _ _ _ c.loop-q.invariant)
 
-mul-end : tie.Need-overflow-mul-end invariant-loop decreases-loop
-mul-end c =
-    let turn = c.before.before in
-    let pre = turn.before.before.before.before.before.before.before.requires in
-    omega (arith, state_few _ _ _ _ _ pre _ _ _ _ turn.loop.invariant)
+offset_bounds-starts-p : tie.Need-offset_bounds-starts-p invariant-loop-q decreases-loop-q
+offset_bounds-starts-p c =
+    let pre = c.requires in
+    omega (arith, state_few _ _ _ _ _ pre _ _ _ _ c.loop-q.invariant)
 
-shared-slice-read-end : tie.Need-shared-slice-read-end invariant-loop decreases-loop
-shared-slice-read-end c =
-    let turn = c.before.before.before in
-    let pre = turn.before.before.before.before.before.before.before.requires in
-    run_known _ _ _ _ _ pre _ _ _ _ turn.loop.invariant
+bounds-starts-p : tie.Need-bounds-starts-p invariant-loop-q decreases-loop-q
+bounds-starts-p c =
+    let pre = c.requires in
+    run_known _ _ _ _ _ pre _ _ _ _ c.loop-q.invariant
 
-cast-end : tie.Need-overflow-cast-end invariant-loop decreases-loop
-cast-end c =
-    let turn = c.before.before.before in
-    let pre = turn.before.before.before.before.before.before.before.requires in
-    omega (arith, run_few _ _ _ _ _ pre _ _ _ _ turn.loop.invariant)
+overflow_cast-end : tie.Need-overflow_cast-end invariant-loop-q decreases-loop-q
+overflow_cast-end c =
+    let pre = c.requires in
+    omega (arith, run_few _ _ _ _ _ pre _ _ _ _ c.loop-q.invariant)
 
-sub-t : tie.Need-overflow-sub-t invariant-loop decreases-loop
-sub-t c = search search_laws
+slice_bounds-t-count : tie.Need-slice_bounds-t-count invariant-loop-q decreases-loop-q
+slice_bounds-t-count c = search search_laws
 
-part-t-start : tie.Need-slice-bounds-t-start invariant-loop decreases-loop
-part-t-start c = search search_laws
+slice_bounds-t-start : tie.Need-slice_bounds-t-start invariant-loop-q decreases-loop-q
+slice_bounds-t-start c = search search_laws
 
-part-t-end : tie.Need-slice-bounds-t-end invariant-loop decreases-loop
-part-t-end c =
-    let turn = c.before.before.before in
-    let pre = turn.before.before.before.before.before.before.before.requires in
-    run_within _ _ _ _ _ pre _ _ _ _ turn.loop.invariant
+slice_bounds-t-end : tie.Need-slice_bounds-t-end invariant-loop-q decreases-loop-q
+slice_bounds-t-end c =
+    let pre = c.requires in
+    run_within _ _ _ _ _ pre _ _ _ _ c.loop-q.invariant
 
-mul-from : tie.Need-overflow-mul-from invariant-loop decreases-loop
-mul-from c =
-    let turn = c.before.before.before.before in
-    let pre = turn.before.before.before.before.before.before.before.requires in
-    omega (arith, state_few _ _ _ _ _ pre _ _ _ _ turn.loop.invariant)
+offset_bounds-starts-p-in-loop-q : tie.Need-offset_bounds-starts-p-in-loop-q invariant-loop-q decreases-loop-q
+offset_bounds-starts-p-in-loop-q c =
+    let pre = c.requires in
+    omega (arith, state_few _ _ _ _ _ pre _ _ _ _ c.loop-q.invariant)
 
-shared-slice-read-from : tie.Need-shared-slice-read-from invariant-loop decreases-loop
-shared-slice-read-from c =
-    let turn = c.before.before.before.before.before in
-    let pre = turn.before.before.before.before.before.before.before.requires in
-    omega (arith, run_known _ _ _ _ _ pre _ _ _ _ turn.loop.invariant)
+bounds-starts-p-in-loop-q : tie.Need-bounds-starts-p-in-loop-q invariant-loop-q decreases-loop-q
+bounds-starts-p-in-loop-q c =
+    let pre = c.requires in
+    omega (arith, run_known _ _ _ _ _ pre _ _ _ _ c.loop-q.invariant)
 
-cast-from : tie.Need-overflow-cast-from invariant-loop decreases-loop
-cast-from c =
-    let turn = c.before.before.before.before.before in
-    let pre = turn.before.before.before.before.before.before.before.requires in
-    omega (arith, run_ordered _ _ _ _ _ pre _ _ _ _ turn.loop.invariant, run_few _ _ _ _ _ pre _ _ _ _ turn.loop.invariant)
+overflow_cast-from : tie.Need-overflow_cast-from invariant-loop-q decreases-loop-q
+overflow_cast-from c =
+    let pre = c.requires in
+    omega (arith, run_ordered _ _ _ _ _ pre _ _ _ _ c.loop-q.invariant, run_few _ _ _ _ _ pre _ _ _ _ c.loop-q.invariant)
 
-mul-first : tie.Need-overflow-mul-first invariant-loop decreases-loop
-mul-first c =
-    let turn = c.before.before.before.before.before in
-    let pre = turn.before.before.before.before.before.before.before.requires in
-    omega (arith, state_few _ _ _ _ _ pre _ _ _ _ turn.loop.invariant)
+offset_bounds-targets-p : tie.Need-offset_bounds-targets-p invariant-loop-q decreases-loop-q
+offset_bounds-targets-p c =
+    let pre = c.requires in
+    omega (arith, state_few _ _ _ _ _ pre _ _ _ _ c.loop-q.invariant)
 
-shared-slice-read-first : tie.Need-shared-slice-read-first invariant-loop decreases-loop
-shared-slice-read-first c =
-    let turn = c.before.before.before.before.before.before in
-    let pre = turn.before.before.before.before.before.before.before.requires in
-    omega (arith, state_few _ _ _ _ _ pre _ _ _ _ turn.loop.invariant, pre.first.long)
+bounds-targets-p : tie.Need-bounds-targets-p invariant-loop-q decreases-loop-q
+bounds-targets-p c =
+    let pre = c.requires in
+    omega (arith, state_few _ _ _ _ _ pre _ _ _ _ c.loop-q.invariant, pre.first.long)
 
-cast-if2 : tie.Need-overflow-cast-if2 invariant-loop decreases-loop
-cast-if2 c =
-    let turn = c.before.before.before.before.before.before in
-    let pre = turn.before.before.before.before.before.before.before.requires in
-    omega (arith, first_bound _ _ _ _ _ pre _ _ _ _ turn.loop.invariant)
+overflow_cast-first : tie.Need-overflow_cast-first invariant-loop-q decreases-loop-q
+overflow_cast-first c =
+    let pre = c.requires in
+    omega (arith, first_bound _ _ _ _ _ pre _ _ _ _ c.loop-q.invariant)
 
-slice-read-if2 : tie.Need-slice-read-if2 invariant-loop decreases-loop
-slice-read-if2 c =
-    let turn = c.before.before.before.before.before.before.before in
-    let pre = turn.before.before.before.before.before.before.before.requires in
-    omega (arith, first_bound _ _ _ _ _ pre _ _ _ _ turn.loop.invariant, turn.loop.invariant.room.wide)
+bounds-marks-first : tie.Need-bounds-marks-first invariant-loop-q decreases-loop-q
+bounds-marks-first c =
+    let pre = c.requires in
+    omega (arith, first_bound _ _ _ _ _ pre _ _ _ _ c.loop-q.invariant, c.loop-q.invariant.room.wide)
 
-cast-marks-2 : tie.Need-overflow-cast-marks-2 invariant-loop decreases-loop
-cast-marks-2 c =
-    let turn = c.before.before.before.before.before.before.before.before in
-    let pre = turn.before.before.before.before.before.before.before.requires in
-    omega (arith, first_bound _ _ _ _ _ pre _ _ _ _ turn.loop.invariant)
+overflow_cast-marks-then-marks-first-eq0 : tie.Need-overflow_cast-marks-then-marks-first-eq0 invariant-loop-q decreases-loop-q
+overflow_cast-marks-then-marks-first-eq0 c =
+    let pre = c.requires in
+    omega (arith, first_bound _ _ _ _ _ pre _ _ _ _ c.loop-q.invariant)
 
-slice-write-marks-2 : tie.Need-slice-write-marks-2 invariant-loop decreases-loop
-slice-write-marks-2 c =
-    let turn = c.before.before.before.before.before.before.before.before in
-    let pre = turn.before.before.before.before.before.before.before.requires in
-    omega (arith, first_bound _ _ _ _ _ pre _ _ _ _ turn.loop.invariant, turn.loop.invariant.room.wide)
+bounds-marks-q-then-marks-first-eq0 : tie.Need-bounds-marks-q-then-marks-first-eq0 invariant-loop-q decreases-loop-q
+bounds-marks-q-then-marks-first-eq0 c =
+    let pre = c.requires in
+    omega (arith, first_bound _ _ _ _ _ pre _ _ _ _ c.loop-q.invariant, c.loop-q.invariant.room.wide)
 
-add-push-unmet : tie.Need-overflow-add-push-unmet invariant-loop decreases-loop
-add-push-unmet c =
-    let turn = c.before.before.before.before.before.before.before.before in
-    let pre = turn.before.before.before.before.before.before.before.requires in
-    omega (arith, run_ordered _ _ _ _ _ pre _ _ _ _ turn.loop.invariant, run_few _ _ _ _ _ pre _ _ _ _ turn.loop.invariant)
+overflow_add-from : tie.Need-overflow_add-from invariant-loop-q decreases-loop-q
+overflow_add-from c =
+    let pre = c.requires in
+    omega (arith, run_ordered _ _ _ _ _ pre _ _ _ _ c.loop-q.invariant, run_few _ _ _ _ _ pre _ _ _ _ c.loop-q.invariant)
 
-push-unmet-requires : tie.Need-push-unmet-requires invariant-loop decreases-loop
-push-unmet-requires c κs =
-    let turn = c.before.before.before.before.before.before.before.before.before.before in
-    let pre = turn.before.before.before.before.before.before.before.requires in
-    first_asked _ _ _ _ _ pre _ _ _ _ turn.loop.invariant c.before.before.if2.true
+push_unmet-top-requires : tie.Need-push_unmet-top-requires invariant-loop-q decreases-loop-q
+push_unmet-top-requires c κs =
+    let pre = c.requires in
+    first_asked _ _ _ _ _ pre _ _ _ _ c.loop-q.invariant c.if-marks-first-eq0.true
 
-loop-less : tie.Need-loop-smaller invariant-loop decreases-loop
-loop-less c =
-    let rejected = c.before.before.before.before.before.before.before.before.before.before.before.before.before in
-    let word = rejected.before in
-    let turn = word.before in
-    let pre = turn.before.before.before.before.before.before.before.requires in
-    first_less _ _ _ _ _ pre _ _ _ _ turn.loop.invariant c.before.before.before.before.before.before.before.if2.true _ word.accept-word.ensures rejected.if1.false _ _ _ c.before.before.before.before.push-unmet.ensures
+loop-q-smaller-then-marks-first-eq0 : tie.Need-loop-q-smaller-then-marks-first-eq0 invariant-loop-q decreases-loop-q
+loop-q-smaller-then-marks-first-eq0 c =
+    let pre = c.requires in
+    first_less _ _ _ _ _ pre _ _ _ _ c.loop-q.invariant c.if-marks-first-eq0.true _ c.accept_word.ensures c.if-accept_word-gt0.false _ _ _ c.push_unmet-top.ensures
 
-loop-again : tie.Need-loop-preserved invariant-loop decreases-loop
-loop-again c =
-    let rejected = c.before.before.before.before.before.before.before.before.before.before.before.before.before in
-    let word = rejected.before in
-    let turn = word.before in
-    let pre = turn.before.before.before.before.before.before.before.requires in
-    search_first _ _ _ _ _ pre _ _ _ _ turn.loop.invariant c.before.before.before.before.before.before.before.if2.true _ word.accept-word.ensures rejected.if1.false _ _ _ c.before.before.before.before.push-unmet.ensures
+loop-q-preserved-then-marks-first-eq0 : tie.Need-loop-q-preserved-then-marks-first-eq0 invariant-loop-q decreases-loop-q
+loop-q-preserved-then-marks-first-eq0 c =
+    let pre = c.requires in
+    search_first _ _ _ _ _ pre _ _ _ _ c.loop-q.invariant c.if-marks-first-eq0.true _ c.accept_word.ensures c.if-accept_word-gt0.false _ _ _ c.push_unmet-top.ensures
 
-push-unmet-requires-2 : tie.Need-push-unmet-requires-2 invariant-loop decreases-loop
-push-unmet-requires-2 c κs =
-    let turn = c.before.before.before.before.before.before.before.before.before.before in
-    let pre = turn.before.before.before.before.before.before.before.requires in
-    all_asked _ _ _ _ _ pre _ _ _ _ turn.loop.invariant
+push_unmet-top-requires-else-marks-first-eq0 : tie.Need-push_unmet-top-requires-else-marks-first-eq0 invariant-loop-q decreases-loop-q
+push_unmet-top-requires-else-marks-first-eq0 c κs =
+    let pre = c.requires in
+    all_asked _ _ _ _ _ pre _ _ _ _ c.loop-q.invariant
 
-same-length-3 : tie.Need-same-length-3 invariant-loop decreases-loop
-same-length-3 c = search search_laws
+shape_of-marks-then-top-eq0 : tie.Need-shape_of-marks-then-top-eq0 invariant-loop-q decreases-loop-q
+shape_of-marks-then-top-eq0 c = search search_laws
 
-same-length-4 : tie.Need-same-length-4 invariant-loop decreases-loop
-same-length-4 c = search search_laws
+shape_of-stack-then-top-eq0 : tie.Need-shape_of-stack-then-top-eq0 invariant-loop-q decreases-loop-q
+shape_of-stack-then-top-eq0 c = search search_laws
 
-returns-2 : tie.Need-returns-2 invariant-loop decreases-loop
-returns-2 c =
-    let rejected = c.before.before.before.before.before.before.before.before.before.before.before.before.before.before in
-    let word = rejected.before in
-    let turn = word.before in
-    let pre = turn.before.before.before.before.before.before.before.requires in
-    search_end _ _ _ _ _ pre _ _ _ _ turn.loop.invariant _ word.accept-word.ensures rejected.if1.false _ _ _ c.before.before.before.before.before.push-unmet2.ensures c.if3.true
+returns-then-top-eq0 : tie.Need-returns-then-top-eq0 invariant-loop-q decreases-loop-q
+returns-then-top-eq0 c =
+    let pre = c.requires in
+    search_end _ _ _ _ _ pre _ _ _ _ c.loop-q.invariant _ c.accept_word.ensures c.if-accept_word-gt0.false _ _ _ c.push_unmet-top-else-marks-first-eq0.ensures c.if-top-eq0.true
 
-sub-top : tie.Need-overflow-sub-top invariant-loop decreases-loop
-sub-top c = search search_laws
+overflow_sub-top : tie.Need-overflow_sub-top invariant-loop-q decreases-loop-q
+overflow_sub-top c = search search_laws
 
-mul-q : tie.Need-overflow-mul-q invariant-loop decreases-loop
-mul-q c = search search_laws
+offset_bounds-stack-top : tie.Need-offset_bounds-stack-top invariant-loop-q decreases-loop-q
+offset_bounds-stack-top c = search search_laws
 
-slice-read-q : tie.Need-slice-read-q invariant-loop decreases-loop
-slice-read-q c =
-    let rejected = c.before.before.before.before.before.before.before.before.before.before.before.before.before.before.before in
-    let word = rejected.before in
-    let turn = word.before in
-    let pre = turn.before.before.before.before.before.before.before.requires in
-    back_place _ _ _ _ _ pre _ _ _ _ turn.loop.invariant _ word.accept-word.ensures rejected.if1.false _ _ _ c.before.before.before.before.before.before.push-unmet2.ensures c.before.if3.false
+bounds-stack-top : tie.Need-bounds-stack-top invariant-loop-q decreases-loop-q
+bounds-stack-top c =
+    let pre = c.requires in
+    back_place _ _ _ _ _ pre _ _ _ _ c.loop-q.invariant _ c.accept_word.ensures c.if-accept_word-gt0.false _ _ _ c.push_unmet-top-else-marks-first-eq0.ensures c.if-top-eq0.false
 
-loop-less-2 : tie.Need-loop-smaller-2 invariant-loop decreases-loop
-loop-less-2 c =
-    let rejected = c.before.before.before.before.before.before.before.before.before.before.before.before.before.before.before in
-    let word = rejected.before in
-    let turn = word.before in
-    let pre = turn.before.before.before.before.before.before.before.requires in
-    back_less _ _ _ _ _ pre _ _ _ _ turn.loop.invariant _ word.accept-word.ensures rejected.if1.false _ _ _ c.before.before.before.before.before.before.push-unmet2.ensures c.before.if3.false
+loop-q-smaller : tie.Need-loop-q-smaller invariant-loop-q decreases-loop-q
+loop-q-smaller c =
+    let pre = c.requires in
+    back_less _ _ _ _ _ pre _ _ _ _ c.loop-q.invariant _ c.accept_word.ensures c.if-accept_word-gt0.false _ _ _ c.push_unmet-top-else-marks-first-eq0.ensures c.if-top-eq0.false
 
-loop-again-2 : tie.Need-loop-preserved-2 invariant-loop decreases-loop
-loop-again-2 c =
-    let rejected = c.before.before.before.before.before.before.before.before.before.before.before.before.before.before.before in
-    let word = rejected.before in
-    let turn = word.before in
-    let pre = turn.before.before.before.before.before.before.before.requires in
-    search_back _ _ _ _ _ pre _ _ _ _ turn.loop.invariant _ word.accept-word.ensures rejected.if1.false _ _ _ c.before.before.before.before.before.before.push-unmet2.ensures c.before.if3.false
+loop-q-preserved : tie.Need-loop-q-preserved invariant-loop-q decreases-loop-q
+loop-q-preserved c =
+    let pre = c.requires in
+    search_back _ _ _ _ _ pre _ _ _ _ c.loop-q.invariant _ c.accept_word.ensures c.if-accept_word-gt0.false _ _ _ c.push_unmet-top-else-marks-first-eq0.ensures c.if-top-eq0.false
 
-pub explore-spec : {M : Type 1} → statement M
-explore-spec =
+pub explore_spec : {M : Type 1} → statement M
+explore_spec =
     tie.close
     (tie.spec
-    invariant-loop
-    decreases-loop
-    shared-slice-read-q
-    cast-marks
-    slice-write-marks
-    loop-holds
-    accept-word-requires
-    same_length
-    same-length-2
-    returns
-    cast-p
-    add-end
-    mul-end
-    shared-slice-read-end
-    cast-end
-    sub-t
-    part-t-start
-    part-t-end
-    mul-from
-    shared-slice-read-from
-    cast-from
-    mul-first
-    shared-slice-read-first
-    cast-if2
-    slice-read-if2
-    cast-marks-2
-    slice-write-marks-2
-    add-push-unmet
-    push-unmet-requires
-    loop-less
-    loop-again
-    push-unmet-requires-2
-    same-length-3
-    same-length-4
-    returns-2
-    sub-top
-    mul-q
-    slice-read-q
-    loop-less-2
-    loop-again-2)
+    invariant-loop-q
+    decreases-loop-q
+    bounds-s-1
+    overflow_cast-marks
+    bounds-marks-q
+    loop-q-init
+    accept_word-requires
+    shape_of-marks-then-accept_word-gt0
+    shape_of-stack-then-accept_word-gt0
+    returns-then-accept_word-gt0
+    overflow_cast-p
+    overflow_add-end
+    offset_bounds-starts-p
+    bounds-starts-p
+    overflow_cast-end
+    slice_bounds-t-count
+    slice_bounds-t-start
+    slice_bounds-t-end
+    offset_bounds-starts-p-in-loop-q
+    bounds-starts-p-in-loop-q
+    overflow_cast-from
+    offset_bounds-targets-p
+    bounds-targets-p
+    overflow_cast-first
+    bounds-marks-first
+    overflow_cast-marks-then-marks-first-eq0
+    bounds-marks-q-then-marks-first-eq0
+    overflow_add-from
+    push_unmet-top-requires
+    loop-q-smaller-then-marks-first-eq0
+    loop-q-preserved-then-marks-first-eq0
+    push_unmet-top-requires-else-marks-first-eq0
+    shape_of-marks-then-top-eq0
+    shape_of-stack-then-top-eq0
+    returns-then-top-eq0
+    overflow_sub-top
+    offset_bounds-stack-top
+    bounds-stack-top
+    loop-q-smaller
+    loop-q-preserved)

@@ -3,8 +3,8 @@ use Rattle.emptiness.proofs.Targets.{target_laws}
 use Rattle.emptiness.proofs.first_target.Statement.{statement}
 use Rattle.emptiness.proofs.first_target.Tie as tie
 
-pub first-target-spec : {M : Type 1} → statement M
-first-target-spec =
+pub first_target_spec : {M : Type 1} → statement M
+first_target_spec =
     tie.close
     (tie.spec (λ c. search target_laws) (λ c. search target_laws) (λ c. search target_laws) (λ c. search target_laws) (λ c. search target_laws)
     (λ c. search target_laws) (λ c. search target_laws) (λ c. search target_laws) (λ c. search target_laws) (λ c. search target_laws)

@@ -8,174 +8,163 @@ use Rattle.emptiness.proofs.Passes.{Down, down_laws, from_inside, to_state_lem, 
 use Rattle.emptiness.proofs.pass_down.Statement.{statement}
 use Rattle.emptiness.proofs.pass_down.Tie as tie
 
-abbrev invariant-loop : tie.invariant-loop
-invariant-loop s marks₀ n idle₀ left₀ marks idle left = (idle ≤ 8) × (left ≤ record_count s) × PassInvariant Down (read s) marks (backward s (records_at s) left)
+abbrev invariant-loop-left : tie.invariant-loop-left
+invariant-loop-left s marks₀ n idle₀ left₀ marks idle left = (idle ≤ 8) × (left ≤ record_count s) × PassInvariant Down (read s) marks (backward s (records_at s) left)
 
-abbrev decreases-loop : tie.decreases-loop
-decreases-loop s marks₀ n idle₀ left₀ marks idle left = left
+abbrev decreases-loop-left : tie.decreases-loop-left
+decreases-loop-left s marks₀ n idle₀ left₀ marks idle left = left
 
-shared-slice-read-n : tie.Need-shared-slice-read-n invariant-loop decreases-loop
-shared-slice-read-n c = search down_laws
+bounds-s-2 : tie.Need-bounds-s-2 invariant-loop-left decreases-loop-left
+bounds-s-2 c = search down_laws
 
-cast-n : tie.Need-overflow-cast-n invariant-loop decreases-loop
-cast-n c = search down_laws
+overflow_cast-n : tie.Need-overflow_cast-n invariant-loop-left decreases-loop-left
+overflow_cast-n c = search down_laws
 
-add_left : tie.Need-overflow-add-left invariant-loop decreases-loop
-add_left c = search down_laws
+overflow_add-left : tie.Need-overflow_add-left invariant-loop-left decreases-loop-left
+overflow_add-left c = search down_laws
 
-mul_left : tie.Need-overflow-mul-left invariant-loop decreases-loop
-mul_left c = search down_laws
+offset_bounds-s-n : tie.Need-offset_bounds-s-n invariant-loop-left decreases-loop-left
+offset_bounds-s-n c = search down_laws
 
-shared-slice-read-left : tie.Need-shared-slice-read-left invariant-loop decreases-loop
-shared-slice-read-left c = search down_laws
+bounds-s-n : tie.Need-bounds-s-n invariant-loop-left decreases-loop-left
+bounds-s-n c = search down_laws
 
-cast-left : tie.Need-overflow-cast-left invariant-loop decreases-loop
-cast-left c = search down_laws
+overflow_cast-left : tie.Need-overflow_cast-left invariant-loop-left decreases-loop-left
+overflow_cast-left c = search down_laws
 
-loop-holds : tie.Need-loop-init invariant-loop decreases-loop
-loop-holds c = search down_laws
+loop-left-init : tie.Need-loop-left-init invariant-loop-left decreases-loop-left
+loop-left-init c = search down_laws
 
-sub-left : tie.Need-overflow-sub-left invariant-loop decreases-loop
-sub-left c = search down_laws
+overflow_sub-left : tie.Need-overflow_sub-left invariant-loop-left decreases-loop-left
+overflow_sub-left c = search down_laws
 
-add-record : tie.Need-overflow-add-record invariant-loop decreases-loop
-add-record c = search down_laws
+overflow_add-record : tie.Need-overflow_add-record invariant-loop-left decreases-loop-left
+overflow_add-record c = search down_laws
 
-mul-record : tie.Need-overflow-mul-record invariant-loop decreases-loop
-mul-record c = search down_laws
+overflow_mul-record : tie.Need-overflow_mul-record invariant-loop-left decreases-loop-left
+overflow_mul-record c = search down_laws
 
-add-record-2 : tie.Need-overflow-add-record-2 invariant-loop decreases-loop
-add-record-2 c = search down_laws
+overflow_add-record-in-loop-left : tie.Need-overflow_add-record-in-loop-left invariant-loop-left decreases-loop-left
+overflow_add-record-in-loop-left c = search down_laws
 
-add-to : tie.Need-overflow-add-to invariant-loop decreases-loop
-add-to c = search down_laws
+overflow_add-to : tie.Need-overflow_add-to invariant-loop-left decreases-loop-left
+overflow_add-to c = search down_laws
 
-mul-to : tie.Need-overflow-mul-to invariant-loop decreases-loop
-mul-to c = search down_laws
+offset_bounds-s-record : tie.Need-offset_bounds-s-record invariant-loop-left decreases-loop-left
+offset_bounds-s-record c = search down_laws
 
-shared-slice-read-to : tie.Need-shared-slice-read-to invariant-loop decreases-loop
-shared-slice-read-to c = search down_laws
+bounds-s-record : tie.Need-bounds-s-record invariant-loop-left decreases-loop-left
+bounds-s-record c = search down_laws
 
-cast-if1 : tie.Need-overflow-cast-if1 invariant-loop decreases-loop
-cast-if1 c =
-    let turn = c.before in
-    let pre = turn.before.before.before.before.before.before.requires in
-    let inv = turn.before.loop.invariant.2 in
-    omega (arith, to_inside _ pre.0 _ inv.met _ (down_record _ pre.0 _ _ inv turn.loop-test.true), inv.met.wide)
+overflow_cast-to : tie.Need-overflow_cast-to invariant-loop-left decreases-loop-left
+overflow_cast-to c =
+    let pre = c.requires in
+    let inv = c.loop-left.invariant.2 in
+    omega (arith, to_inside _ pre.0 _ inv.met _ (down_record _ pre.0 _ _ inv c.loop-left-test.true), inv.met.wide)
 
-slice-read-if1 : tie.Need-slice-read-if1 invariant-loop decreases-loop
-slice-read-if1 c =
-    let turn = c.before.before in
-    let pre = turn.before.before.before.before.before.before.requires in
-    let inv = turn.before.loop.invariant.2 in
-    to_inside _ pre.0 _ inv.met _ (down_record _ pre.0 _ _ inv turn.loop-test.true)
+bounds-marks-to : tie.Need-bounds-marks-to invariant-loop-left decreases-loop-left
+bounds-marks-to c =
+    let pre = c.requires in
+    let inv = c.loop-left.invariant.2 in
+    to_inside _ pre.0 _ inv.met _ (down_record _ pre.0 _ _ inv c.loop-left-test.true)
 
-mul-from : tie.Need-overflow-mul-from invariant-loop decreases-loop
-mul-from c = search down_laws
+offset_bounds-s-record-then-marks-to-eq0 : tie.Need-offset_bounds-s-record-then-marks-to-eq0 invariant-loop-left decreases-loop-left
+offset_bounds-s-record-then-marks-to-eq0 c = search down_laws
 
-shared-slice-read-from : tie.Need-shared-slice-read-from invariant-loop decreases-loop
-shared-slice-read-from c = search down_laws
+bounds-s-record-then-marks-to-eq0 : tie.Need-bounds-s-record-then-marks-to-eq0 invariant-loop-left decreases-loop-left
+bounds-s-record-then-marks-to-eq0 c = search down_laws
 
-cast-if2 : tie.Need-overflow-cast-if2 invariant-loop decreases-loop
-cast-if2 c =
-    let turn = c.before.before.before.before in
-    let pre = turn.before.before.before.before.before.before.requires in
-    let inv = turn.before.loop.invariant.2 in
-    omega (arith, from_inside _ pre.0 _ inv.met _ (down_record _ pre.0 _ _ inv turn.loop-test.true), inv.met.wide)
+overflow_cast-from : tie.Need-overflow_cast-from invariant-loop-left decreases-loop-left
+overflow_cast-from c =
+    let pre = c.requires in
+    let inv = c.loop-left.invariant.2 in
+    omega (arith, from_inside _ pre.0 _ inv.met _ (down_record _ pre.0 _ _ inv c.loop-left-test.true), inv.met.wide)
 
-slice-read-if2 : tie.Need-slice-read-if2 invariant-loop decreases-loop
-slice-read-if2 c =
-    let turn = c.before.before.before.before.before in
-    let pre = turn.before.before.before.before.before.before.requires in
-    let inv = turn.before.loop.invariant.2 in
-    from_inside _ pre.0 _ inv.met _ (down_record _ pre.0 _ _ inv turn.loop-test.true)
+bounds-marks-from : tie.Need-bounds-marks-from invariant-loop-left decreases-loop-left
+bounds-marks-from c =
+    let pre = c.requires in
+    let inv = c.loop-left.invariant.2 in
+    from_inside _ pre.0 _ inv.met _ (down_record _ pre.0 _ _ inv c.loop-left-test.true)
 
-same_length : tie.Need-same-length invariant-loop decreases-loop
-same_length c = search down_laws
+shape_of-marks-then-idle-eq-MOST_IDLE : tie.Need-shape_of-marks-then-idle-eq-MOST_IDLE invariant-loop-left decreases-loop-left
+shape_of-marks-then-idle-eq-MOST_IDLE c = search down_laws
 
-returns : tie.Need-returns invariant-loop decreases-loop
-returns c = undecided c.before.before.before.before.before.before.before.before.loop.invariant.2.met
+returns-then-idle-eq-MOST_IDLE : tie.Need-returns-then-idle-eq-MOST_IDLE invariant-loop-left decreases-loop-left
+returns-then-idle-eq-MOST_IDLE c = undecided c.loop-left.invariant.2.met
 
-add-idle : tie.Need-overflow-add-idle invariant-loop decreases-loop
-add-idle c = search down_laws
+overflow_add-idle : tie.Need-overflow_add-idle invariant-loop-left decreases-loop-left
+overflow_add-idle c = search down_laws
 
-loop-less : tie.Need-loop-smaller invariant-loop decreases-loop
-loop-less c = search down_laws
+loop-left-smaller-then-marks-from-eq0 : tie.Need-loop-left-smaller-then-marks-from-eq0 invariant-loop-left decreases-loop-left
+loop-left-smaller-then-marks-from-eq0 c = search down_laws
 
-loop-again : tie.Need-loop-preserved invariant-loop decreases-loop
-loop-again c =
-    let turn = c.before.before.before.before.before.before.before in
-    let pre = turn.before.before.before.before.before.before.requires in
-    let inv = turn.before.loop.invariant.2 in
-    (omega (arith, turn.before.loop.invariant.0, c.if3.false), omega (arith, turn.before.loop.invariant.1), down_unmet _ pre.0 _ _ inv turn.loop-test.true c.before.if2.true)
+loop-left-preserved-then-marks-from-eq0 : tie.Need-loop-left-preserved-then-marks-from-eq0 invariant-loop-left decreases-loop-left
+loop-left-preserved-then-marks-from-eq0 c =
+    let pre = c.requires in
+    let inv = c.loop-left.invariant.2 in
+    (omega (arith, c.loop-left.invariant.0, c.if-idle-eq-MOST_IDLE.false), omega (arith, c.loop-left.invariant.1), down_unmet _ pre.0 _ _ inv c.loop-left-test.true c.if-marks-from-eq0.true)
 
-same-length-2 : tie.Need-same-length-2 invariant-loop decreases-loop
-same-length-2 c = search down_laws
+shape_of-marks-then-from-to : tie.Need-shape_of-marks-then-from-to invariant-loop-left decreases-loop-left
+shape_of-marks-then-from-to c = search down_laws
 
-returns-2 : tie.Need-returns-2 invariant-loop decreases-loop
-returns-2 c = undecided c.before.before.before.before.before.before.before.before.loop.invariant.2.met
+returns-then-from-to : tie.Need-returns-then-from-to invariant-loop-left decreases-loop-left
+returns-then-from-to c = undecided c.loop-left.invariant.2.met
 
-accept-word-requires : tie.Need-accept-word-requires invariant-loop decreases-loop
-accept-word-requires c κs =
-    let turn = c.before.before.before.before.before.before.before in
-    let pre = turn.before.before.before.before.before.before.requires in
-    let inv = turn.before.loop.invariant.2 in
-    (pre.0, to_state_lem _ pre.0 _ inv.met _ (down_record _ pre.0 _ _ inv turn.loop-test.true))
+accept_word-requires : tie.Need-accept_word-requires invariant-loop-left decreases-loop-left
+accept_word-requires c κs =
+    let pre = c.requires in
+    let inv = c.loop-left.invariant.2 in
+    (pre.0, to_state_lem _ pre.0 _ inv.met _ (down_record _ pre.0 _ _ inv c.loop-left-test.true))
 
-same-length-3 : tie.Need-same-length-3 invariant-loop decreases-loop
-same-length-3 c = search down_laws
+shape_of-marks-then-accept_word-gt0 : tie.Need-shape_of-marks-then-accept_word-gt0 invariant-loop-left decreases-loop-left
+shape_of-marks-then-accept_word-gt0 c = search down_laws
 
-returns-3 : tie.Need-returns-3 invariant-loop decreases-loop
-returns-3 c =
-    let turn = c.before.before.before.before.before.before.before.before.before in
-    let pre = turn.before.before.before.before.before.before.requires in
-    let inv = turn.before.loop.invariant.2 in
-    down_accepts _ pre.0 _ _ inv turn.loop-test.true c.before.before.before.if2.false _ c.before.accept-word.ensures c.if5.true
+returns-then-accept_word-gt0 : tie.Need-returns-then-accept_word-gt0 invariant-loop-left decreases-loop-left
+returns-then-accept_word-gt0 c =
+    let pre = c.requires in
+    let inv = c.loop-left.invariant.2 in
+    down_accepts _ pre.0 _ _ inv c.loop-left-test.true c.if-marks-from-eq0.false _ c.accept_word.ensures c.if-accept_word-gt0.true
 
-cast-marks : tie.Need-overflow-cast-marks invariant-loop decreases-loop
-cast-marks c =
-    let turn = c.before.before.before.before.before.before.before.before.before in
-    let pre = turn.before.before.before.before.before.before.requires in
-    let inv = turn.before.loop.invariant.2 in
-    omega (arith, to_inside _ pre.0 _ inv.met _ (down_record _ pre.0 _ _ inv turn.loop-test.true), inv.met.wide)
+overflow_cast-marks : tie.Need-overflow_cast-marks invariant-loop-left decreases-loop-left
+overflow_cast-marks c =
+    let pre = c.requires in
+    let inv = c.loop-left.invariant.2 in
+    omega (arith, to_inside _ pre.0 _ inv.met _ (down_record _ pre.0 _ _ inv c.loop-left-test.true), inv.met.wide)
 
-slice-write-marks : tie.Need-slice-write-marks invariant-loop decreases-loop
-slice-write-marks c =
-    let turn = c.before.before.before.before.before.before.before.before.before in
-    let pre = turn.before.before.before.before.before.before.requires in
-    let inv = turn.before.loop.invariant.2 in
-    to_inside _ pre.0 _ inv.met _ (down_record _ pre.0 _ _ inv turn.loop-test.true)
+bounds-marks-to-else-marks-from-eq0 : tie.Need-bounds-marks-to-else-marks-from-eq0 invariant-loop-left decreases-loop-left
+bounds-marks-to-else-marks-from-eq0 c =
+    let pre = c.requires in
+    let inv = c.loop-left.invariant.2 in
+    to_inside _ pre.0 _ inv.met _ (down_record _ pre.0 _ _ inv c.loop-left-test.true)
 
-loop-less-2 : tie.Need-loop-smaller-2 invariant-loop decreases-loop
-loop-less-2 c = search down_laws
+loop-left-smaller-else-marks-from-eq0 : tie.Need-loop-left-smaller-else-marks-from-eq0 invariant-loop-left decreases-loop-left
+loop-left-smaller-else-marks-from-eq0 c = search down_laws
 
-loop-again-2 : tie.Need-loop-preserved-2 invariant-loop decreases-loop
-loop-again-2 c =
-    let turn = c.before.before.before.before.before.before.before.before.before in
-    let pre = turn.before.before.before.before.before.before.requires in
-    let inv = turn.before.loop.invariant.2 in
-    (turn.before.loop.invariant.0, omega (arith, turn.before.loop.invariant.1), down_marks _ pre.0 _ _ inv turn.loop-test.true c.before.before.before.if2.false _ c.before.accept-word.ensures c.if5.false c.before.before.if4.false)
+loop-left-preserved-else-marks-from-eq0 : tie.Need-loop-left-preserved-else-marks-from-eq0 invariant-loop-left decreases-loop-left
+loop-left-preserved-else-marks-from-eq0 c =
+    let pre = c.requires in
+    let inv = c.loop-left.invariant.2 in
+    (c.loop-left.invariant.0, omega (arith, c.loop-left.invariant.1), down_marks _ pre.0 _ _ inv c.loop-left-test.true c.if-marks-from-eq0.false _ c.accept_word.ensures c.if-accept_word-gt0.false c.if-from-to.false)
 
-loop-less-3 : tie.Need-loop-smaller-3 invariant-loop decreases-loop
-loop-less-3 c = search down_laws
+loop-left-smaller : tie.Need-loop-left-smaller invariant-loop-left decreases-loop-left
+loop-left-smaller c = search down_laws
 
-loop-again-3 : tie.Need-loop-preserved-3 invariant-loop decreases-loop
-loop-again-3 c =
-    let turn = c.before.before.before in
-    let pre = turn.before.before.before.before.before.before.requires in
-    let inv = turn.before.loop.invariant.2 in
-    (turn.before.loop.invariant.0, omega (arith, turn.before.loop.invariant.1), down_met _ pre.0 _ _ inv turn.loop-test.true c.if1.false)
+loop-left-preserved : tie.Need-loop-left-preserved invariant-loop-left decreases-loop-left
+loop-left-preserved c =
+    let pre = c.requires in
+    let inv = c.loop-left.invariant.2 in
+    (c.loop-left.invariant.0, omega (arith, c.loop-left.invariant.1), down_met _ pre.0 _ _ inv c.loop-left-test.true c.if-marks-to-eq0.false)
 
-same-length-4 : tie.Need-same-length-4 invariant-loop decreases-loop
-same-length-4 c = search down_laws
+shape_of-marks : tie.Need-shape_of-marks invariant-loop-left decreases-loop-left
+shape_of-marks c = search down_laws
 
-returns-4 : tie.Need-returns-4 invariant-loop decreases-loop
-returns-4 c = search down_laws
+returns : tie.Need-returns invariant-loop-left decreases-loop-left
+returns c = search down_laws
 
-pub pass-down-spec : {M : Type 1} → statement M
-pass-down-spec =
+pub pass_down_spec : {M : Type 1} → statement M
+pass_down_spec =
     tie.close
-    (tie.spec invariant-loop decreases-loop shared-slice-read-n cast-n add_left mul_left shared-slice-read-left cast-left loop-holds sub-left add-record
-    mul-record add-record-2 add-to mul-to shared-slice-read-to cast-if1 slice-read-if1 mul-from shared-slice-read-from cast-if2 slice-read-if2
-    same_length returns add-idle loop-less loop-again same-length-2 returns-2 accept-word-requires same-length-3 returns-3 cast-marks
-    slice-write-marks loop-less-2 loop-again-2 loop-less-3 loop-again-3 same-length-4 returns-4)
+    (tie.spec invariant-loop-left decreases-loop-left bounds-s-2 overflow_cast-n overflow_add-left offset_bounds-s-n bounds-s-n overflow_cast-left loop-left-init overflow_sub-left overflow_add-record
+    overflow_mul-record overflow_add-record-in-loop-left overflow_add-to offset_bounds-s-record bounds-s-record overflow_cast-to bounds-marks-to offset_bounds-s-record-then-marks-to-eq0 bounds-s-record-then-marks-to-eq0 overflow_cast-from bounds-marks-from
+    shape_of-marks-then-idle-eq-MOST_IDLE returns-then-idle-eq-MOST_IDLE overflow_add-idle loop-left-smaller-then-marks-from-eq0 loop-left-preserved-then-marks-from-eq0 shape_of-marks-then-from-to returns-then-from-to accept_word-requires shape_of-marks-then-accept_word-gt0 returns-then-accept_word-gt0 overflow_cast-marks
+    bounds-marks-to-else-marks-from-eq0 loop-left-smaller-else-marks-from-eq0 loop-left-preserved-else-marks-from-eq0 loop-left-smaller loop-left-preserved shape_of-marks returns)

@@ -9,147 +9,139 @@ use Rattle.emptiness.proofs.Passes.{Up, up_laws, from_inside, to_state_lem, to_i
 use Rattle.emptiness.proofs.pass_up.Statement.{statement}
 use Rattle.emptiness.proofs.pass_up.Tie as tie
 
-abbrev invariant-loop : tie.invariant-loop
-invariant-loop s marks₀ idle₀ at₀ marks idle at = (idle ≤ 8) × (at ≤ length s) × PassInvariant Up (read s) marks (read_records (drop at s))
+abbrev invariant-loop-at : tie.invariant-loop-at
+invariant-loop-at s marks₀ idle₀ at₀ marks idle at = (idle ≤ 8) × (at ≤ length s) × PassInvariant Up (read s) marks (read_records (drop at s))
 
-abbrev decreases-loop : tie.decreases-loop
-decreases-loop s marks₀ idle₀ at₀ marks idle at = length s - at
+abbrev decreases-loop-at : tie.decreases-loop-at
+decreases-loop-at s marks₀ idle₀ at₀ marks idle at = length s - at
 
-shared-slice-read-at : tie.Need-shared-slice-read-at invariant-loop decreases-loop
-shared-slice-read-at c = search up_laws
+bounds-s-2 : tie.Need-bounds-s-2 invariant-loop-at decreases-loop-at
+bounds-s-2 c = search up_laws
 
-cast-at : tie.Need-overflow-cast-at invariant-loop decreases-loop
-cast-at c = search up_laws
+overflow_cast-at : tie.Need-overflow_cast-at invariant-loop-at decreases-loop-at
+overflow_cast-at c = search up_laws
 
-add_at : tie.Need-overflow-add-at invariant-loop decreases-loop
-add_at c = search up_laws
+overflow_add-at : tie.Need-overflow_add-at invariant-loop-at decreases-loop-at
+overflow_add-at c = search up_laws
 
-loop-holds : tie.Need-loop-init invariant-loop decreases-loop
-loop-holds c = search up_laws
+loop-at-init : tie.Need-loop-at-init invariant-loop-at decreases-loop-at
+loop-at-init c = search up_laws
 
-sub-loop : tie.Need-overflow-sub-loop invariant-loop decreases-loop
-sub-loop c = search up_laws
+overflow_sub-s : tie.Need-overflow_sub-s invariant-loop-at decreases-loop-at
+overflow_sub-s c = search up_laws
 
-add-to : tie.Need-overflow-add-to invariant-loop decreases-loop
-add-to c = search up_laws
+overflow_add-to : tie.Need-overflow_add-to invariant-loop-at decreases-loop-at
+overflow_add-to c = search up_laws
 
-mul-to : tie.Need-overflow-mul-to invariant-loop decreases-loop
-mul-to c = search up_laws
+offset_bounds-s-record : tie.Need-offset_bounds-s-record invariant-loop-at decreases-loop-at
+offset_bounds-s-record c = search up_laws
 
-shared-slice-read-to : tie.Need-shared-slice-read-to invariant-loop decreases-loop
-shared-slice-read-to c = search up_laws
+bounds-s-record : tie.Need-bounds-s-record invariant-loop-at decreases-loop-at
+bounds-s-record c = search up_laws
 
-add-at-2 : tie.Need-overflow-add-at-2 invariant-loop decreases-loop
-add-at-2 c = search up_laws
+overflow_add-at-in-loop-at : tie.Need-overflow_add-at-in-loop-at invariant-loop-at decreases-loop-at
+overflow_add-at-in-loop-at c = search up_laws
 
-cast-if1 : tie.Need-overflow-cast-if1 invariant-loop decreases-loop
-cast-if1 c = omega (arith, c.shared-slice-known3.given (c.before.before.loop.at + 4))
+overflow_cast-to : tie.Need-overflow_cast-to invariant-loop-at decreases-loop-at
+overflow_cast-to c = omega (arith, c.shared_slice_known-in-loop-at-1.given (c.loop-at.at + 4))
 
-slice-read-if1 : tie.Need-slice-read-if1 invariant-loop decreases-loop
-slice-read-if1 c =
-    let turn = c.before.before in
-    let pre = turn.before.before.before.before.before.requires in
-    let inv = turn.before.loop.invariant.2 in
-    to_inside _ pre.0 _ inv.met _ (up_record _ pre.0 _ _ inv turn.loop-test.true)
+bounds-marks-to : tie.Need-bounds-marks-to invariant-loop-at decreases-loop-at
+bounds-marks-to c =
+    let pre = c.requires in
+    let inv = c.loop-at.invariant.2 in
+    to_inside _ pre.0 _ inv.met _ (up_record _ pre.0 _ _ inv c.loop-at-test.true)
 
-mul-from : tie.Need-overflow-mul-from invariant-loop decreases-loop
-mul-from c = search up_laws
+offset_bounds-s-record-then-marks-to-eq0 : tie.Need-offset_bounds-s-record-then-marks-to-eq0 invariant-loop-at decreases-loop-at
+offset_bounds-s-record-then-marks-to-eq0 c = search up_laws
 
-shared-slice-read-from : tie.Need-shared-slice-read-from invariant-loop decreases-loop
-shared-slice-read-from c = search up_laws
+bounds-s-record-then-marks-to-eq0 : tie.Need-bounds-s-record-then-marks-to-eq0 invariant-loop-at decreases-loop-at
+bounds-s-record-then-marks-to-eq0 c = search up_laws
 
-cast-if2 : tie.Need-overflow-cast-if2 invariant-loop decreases-loop
-cast-if2 c = omega (arith, c.shared-slice-known4.given c.before.before.before.before.before.loop.at)
+overflow_cast-from : tie.Need-overflow_cast-from invariant-loop-at decreases-loop-at
+overflow_cast-from c = omega (arith, c.shared_slice_known-then-marks-to-eq0-1.given c.loop-at.at)
 
-slice-read-if2 : tie.Need-slice-read-if2 invariant-loop decreases-loop
-slice-read-if2 c =
-    let turn = c.before.before.before.before.before in
-    let pre = turn.before.before.before.before.before.requires in
-    let inv = turn.before.loop.invariant.2 in
-    from_inside _ pre.0 _ inv.met _ (up_record _ pre.0 _ _ inv turn.loop-test.true)
+bounds-marks-from : tie.Need-bounds-marks-from invariant-loop-at decreases-loop-at
+bounds-marks-from c =
+    let pre = c.requires in
+    let inv = c.loop-at.invariant.2 in
+    from_inside _ pre.0 _ inv.met _ (up_record _ pre.0 _ _ inv c.loop-at-test.true)
 
-same_length : tie.Need-same-length invariant-loop decreases-loop
-same_length c = search up_laws
+shape_of-marks-then-idle-eq-MOST_IDLE : tie.Need-shape_of-marks-then-idle-eq-MOST_IDLE invariant-loop-at decreases-loop-at
+shape_of-marks-then-idle-eq-MOST_IDLE c = search up_laws
 
-returns : tie.Need-returns invariant-loop decreases-loop
-returns c = undecided c.before.before.before.before.before.before.before.before.loop.invariant.2.met
+returns-then-idle-eq-MOST_IDLE : tie.Need-returns-then-idle-eq-MOST_IDLE invariant-loop-at decreases-loop-at
+returns-then-idle-eq-MOST_IDLE c = undecided c.loop-at.invariant.2.met
 
-add-idle : tie.Need-overflow-add-idle invariant-loop decreases-loop
-add-idle c = search up_laws
+overflow_add-idle : tie.Need-overflow_add-idle invariant-loop-at decreases-loop-at
+overflow_add-idle c = search up_laws
 
-loop-less : tie.Need-loop-smaller invariant-loop decreases-loop
-loop-less c = search up_laws
+loop-at-smaller-then-marks-from-eq0 : tie.Need-loop-at-smaller-then-marks-from-eq0 invariant-loop-at decreases-loop-at
+loop-at-smaller-then-marks-from-eq0 c = search up_laws
 
-loop-again : tie.Need-loop-preserved invariant-loop decreases-loop
-loop-again c =
-    let turn = c.before.before.before.before.before.before.before in
-    let pre = turn.before.before.before.before.before.requires in
-    let inv = turn.before.loop.invariant.2 in
-    (omega (arith, turn.before.loop.invariant.0, c.if3.false), omega (arith, turn.loop-test.true), up_unmet _ pre.0 _ _ inv turn.loop-test.true c.before.if2.true)
+loop-at-preserved-then-marks-from-eq0 : tie.Need-loop-at-preserved-then-marks-from-eq0 invariant-loop-at decreases-loop-at
+loop-at-preserved-then-marks-from-eq0 c =
+    let pre = c.requires in
+    let inv = c.loop-at.invariant.2 in
+    (omega (arith, c.loop-at.invariant.0, c.if-idle-eq-MOST_IDLE.false), omega (arith, c.loop-at-test.true), up_unmet _ pre.0 _ _ inv c.loop-at-test.true c.if-marks-from-eq0.true)
 
-same-length-2 : tie.Need-same-length-2 invariant-loop decreases-loop
-same-length-2 c = search up_laws
+shape_of-marks-then-to-from : tie.Need-shape_of-marks-then-to-from invariant-loop-at decreases-loop-at
+shape_of-marks-then-to-from c = search up_laws
 
-returns-2 : tie.Need-returns-2 invariant-loop decreases-loop
-returns-2 c = undecided c.before.before.before.before.before.before.before.before.loop.invariant.2.met
+returns-then-to-from : tie.Need-returns-then-to-from invariant-loop-at decreases-loop-at
+returns-then-to-from c = undecided c.loop-at.invariant.2.met
 
-accept-word-requires : tie.Need-accept-word-requires invariant-loop decreases-loop
-accept-word-requires c κs =
-    let turn = c.before.before.before.before.before.before.before in
-    let pre = turn.before.before.before.before.before.requires in
-    let inv = turn.before.loop.invariant.2 in
-    (pre.0, to_state_lem _ pre.0 _ inv.met _ (up_record _ pre.0 _ _ inv turn.loop-test.true))
+accept_word-requires : tie.Need-accept_word-requires invariant-loop-at decreases-loop-at
+accept_word-requires c κs =
+    let pre = c.requires in
+    let inv = c.loop-at.invariant.2 in
+    (pre.0, to_state_lem _ pre.0 _ inv.met _ (up_record _ pre.0 _ _ inv c.loop-at-test.true))
 
-same-length-3 : tie.Need-same-length-3 invariant-loop decreases-loop
-same-length-3 c = search up_laws
+shape_of-marks-then-accept_word-gt0 : tie.Need-shape_of-marks-then-accept_word-gt0 invariant-loop-at decreases-loop-at
+shape_of-marks-then-accept_word-gt0 c = search up_laws
 
-returns-3 : tie.Need-returns-3 invariant-loop decreases-loop
-returns-3 c =
-    let turn = c.before.before.before.before.before.before.before.before.before in
-    let pre = turn.before.before.before.before.before.requires in
-    let inv = turn.before.loop.invariant.2 in
-    up_accepts _ pre.0 _ _ inv turn.loop-test.true c.before.before.before.if2.false _ c.before.accept-word.ensures c.if5.true
+returns-then-accept_word-gt0 : tie.Need-returns-then-accept_word-gt0 invariant-loop-at decreases-loop-at
+returns-then-accept_word-gt0 c =
+    let pre = c.requires in
+    let inv = c.loop-at.invariant.2 in
+    up_accepts _ pre.0 _ _ inv c.loop-at-test.true c.if-marks-from-eq0.false _ c.accept_word.ensures c.if-accept_word-gt0.true
 
-cast-marks : tie.Need-overflow-cast-marks invariant-loop decreases-loop
-cast-marks c = let turn = c.before.before.before.before.before.before.before.before in omega (arith, turn.shared-slice-known3.given (turn.before.before.loop.at + 4))
+overflow_cast-marks : tie.Need-overflow_cast-marks invariant-loop-at decreases-loop-at
+overflow_cast-marks c = omega (arith, c.shared_slice_known-in-loop-at-1.given (c.loop-at.at + 4))
 
-slice-write-marks : tie.Need-slice-write-marks invariant-loop decreases-loop
-slice-write-marks c =
-    let turn = c.before.before.before.before.before.before.before.before.before in
-    let pre = turn.before.before.before.before.before.requires in
-    let inv = turn.before.loop.invariant.2 in
-    to_inside _ pre.0 _ inv.met _ (up_record _ pre.0 _ _ inv turn.loop-test.true)
+bounds-marks-to-else-marks-from-eq0 : tie.Need-bounds-marks-to-else-marks-from-eq0 invariant-loop-at decreases-loop-at
+bounds-marks-to-else-marks-from-eq0 c =
+    let pre = c.requires in
+    let inv = c.loop-at.invariant.2 in
+    to_inside _ pre.0 _ inv.met _ (up_record _ pre.0 _ _ inv c.loop-at-test.true)
 
-loop-less-2 : tie.Need-loop-smaller-2 invariant-loop decreases-loop
-loop-less-2 c = search up_laws
+loop-at-smaller-else-marks-from-eq0 : tie.Need-loop-at-smaller-else-marks-from-eq0 invariant-loop-at decreases-loop-at
+loop-at-smaller-else-marks-from-eq0 c = search up_laws
 
-loop-again-2 : tie.Need-loop-preserved-2 invariant-loop decreases-loop
-loop-again-2 c =
-    let turn = c.before.before.before.before.before.before.before.before.before in
-    let pre = turn.before.before.before.before.before.requires in
-    let inv = turn.before.loop.invariant.2 in
-    (turn.before.loop.invariant.0, omega (arith, turn.loop-test.true), up_marks _ pre.0 _ _ inv turn.loop-test.true c.before.before.before.if2.false _ c.before.accept-word.ensures c.if5.false c.before.before.if4.false)
+loop-at-preserved-else-marks-from-eq0 : tie.Need-loop-at-preserved-else-marks-from-eq0 invariant-loop-at decreases-loop-at
+loop-at-preserved-else-marks-from-eq0 c =
+    let pre = c.requires in
+    let inv = c.loop-at.invariant.2 in
+    (c.loop-at.invariant.0, omega (arith, c.loop-at-test.true), up_marks _ pre.0 _ _ inv c.loop-at-test.true c.if-marks-from-eq0.false _ c.accept_word.ensures c.if-accept_word-gt0.false c.if-to-from.false)
 
-loop-less-3 : tie.Need-loop-smaller-3 invariant-loop decreases-loop
-loop-less-3 c = search up_laws
+loop-at-smaller : tie.Need-loop-at-smaller invariant-loop-at decreases-loop-at
+loop-at-smaller c = search up_laws
 
-loop-again-3 : tie.Need-loop-preserved-3 invariant-loop decreases-loop
-loop-again-3 c =
-    let turn = c.before.before.before in
-    let pre = turn.before.before.before.before.before.requires in
-    let inv = turn.before.loop.invariant.2 in
-    (turn.before.loop.invariant.0, omega (arith, turn.loop-test.true), up_met _ pre.0 _ _ inv turn.loop-test.true c.if1.false)
+loop-at-preserved : tie.Need-loop-at-preserved invariant-loop-at decreases-loop-at
+loop-at-preserved c =
+    let pre = c.requires in
+    let inv = c.loop-at.invariant.2 in
+    (c.loop-at.invariant.0, omega (arith, c.loop-at-test.true), up_met _ pre.0 _ _ inv c.loop-at-test.true c.if-marks-to-eq0.false)
 
-same-length-4 : tie.Need-same-length-4 invariant-loop decreases-loop
-same-length-4 c = search up_laws
+shape_of-marks : tie.Need-shape_of-marks invariant-loop-at decreases-loop-at
+shape_of-marks c = search up_laws
 
-returns-4 : tie.Need-returns-4 invariant-loop decreases-loop
-returns-4 c = search up_laws
+returns : tie.Need-returns invariant-loop-at decreases-loop-at
+returns c = search up_laws
 
-pub pass-up-spec : {M : Type 1} → statement M
-pass-up-spec =
+pub pass_up_spec : {M : Type 1} → statement M
+pass_up_spec =
     tie.close
-    (tie.spec invariant-loop decreases-loop shared-slice-read-at cast-at add_at loop-holds sub-loop add-to mul-to shared-slice-read-to add-at-2 cast-if1
-    slice-read-if1 mul-from shared-slice-read-from cast-if2 slice-read-if2 same_length returns add-idle loop-less loop-again same-length-2 returns-2
-    accept-word-requires same-length-3 returns-3 cast-marks slice-write-marks loop-less-2 loop-again-2 loop-less-3 loop-again-3 same-length-4
-    returns-4)
+    (tie.spec invariant-loop-at decreases-loop-at bounds-s-2 overflow_cast-at overflow_add-at loop-at-init overflow_sub-s overflow_add-to offset_bounds-s-record bounds-s-record overflow_add-at-in-loop-at overflow_cast-to
+    bounds-marks-to offset_bounds-s-record-then-marks-to-eq0 bounds-s-record-then-marks-to-eq0 overflow_cast-from bounds-marks-from shape_of-marks-then-idle-eq-MOST_IDLE returns-then-idle-eq-MOST_IDLE overflow_add-idle loop-at-smaller-then-marks-from-eq0 loop-at-preserved-then-marks-from-eq0 shape_of-marks-then-to-from returns-then-to-from
+    accept_word-requires shape_of-marks-then-accept_word-gt0 returns-then-accept_word-gt0 overflow_cast-marks bounds-marks-to-else-marks-from-eq0 loop-at-smaller-else-marks-from-eq0 loop-at-preserved-else-marks-from-eq0 loop-at-smaller loop-at-preserved shape_of-marks
+    returns)

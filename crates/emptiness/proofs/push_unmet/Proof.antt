@@ -9,141 +9,138 @@ use Rattle.emptiness.proofs.Marks.{push_laws, push_two}
 use Rattle.emptiness.proofs.push_unmet.Statement.{statement}
 use Rattle.emptiness.proofs.push_unmet.Tie as tie
 
-abbrev invariant-loop : tie.invariant-loop
-invariant-loop t from marks₀ stack₀ top e₀ at₀ marks stack e at =
+abbrev invariant-loop-at : tie.invariant-loop-at
+invariant-loop-at t from marks₀ stack₀ top e₀ at₀ marks stack e at =
     (at ≤ length t) × Named 256 (read_records (drop at t)) × Pushed marks₀ stack₀ top (read_records (drop from t)) (read_records (drop at t)) marks stack e
 
-abbrev decreases-loop : tie.decreases-loop
-decreases-loop t from marks₀ stack₀ top e₀ at₀ marks stack e at = length t - at
+abbrev decreases-loop-at : tie.decreases-loop-at
+decreases-loop-at t from marks₀ stack₀ top e₀ at₀ marks stack e at = length t - at
 
-loop-holds : tie.Need-loop-init invariant-loop decreases-loop
-loop-holds c = search push_laws
+loop-at-init : tie.Need-loop-at-init invariant-loop-at decreases-loop-at
+loop-at-init c = search push_laws
 
-sub-loop : tie.Need-overflow-sub-loop invariant-loop decreases-loop
-sub-loop c = search push_laws
+overflow_sub-t : tie.Need-overflow_sub-t invariant-loop-at decreases-loop-at
+overflow_sub-t c = search push_laws
 
-add-p : tie.Need-overflow-add-p invariant-loop decreases-loop
-add-p c = search push_laws
+overflow_add-p : tie.Need-overflow_add-p invariant-loop-at decreases-loop-at
+overflow_add-p c = search push_laws
 
-mul-p : tie.Need-overflow-mul-p invariant-loop decreases-loop
-mul-p c = search push_laws
+offset_bounds-t-at : tie.Need-offset_bounds-t-at invariant-loop-at decreases-loop-at
+offset_bounds-t-at c = search push_laws
 
-shared-slice-read-p : tie.Need-shared-slice-read-p invariant-loop decreases-loop
-shared-slice-read-p c = search push_laws
+bounds-t-at : tie.Need-bounds-t-at invariant-loop-at decreases-loop-at
+bounds-t-at c = search push_laws
 
-add-q : tie.Need-overflow-add-q invariant-loop decreases-loop
-add-q c = search push_laws
+overflow_add-q : tie.Need-overflow_add-q invariant-loop-at decreases-loop-at
+overflow_add-q c = search push_laws
 
-mul-q : tie.Need-overflow-mul-q invariant-loop decreases-loop
-mul-q c = search push_laws
+offset_bounds-t-at-in-loop-at : tie.Need-offset_bounds-t-at-in-loop-at invariant-loop-at decreases-loop-at
+offset_bounds-t-at-in-loop-at c = search push_laws
 
-shared-slice-read-q : tie.Need-shared-slice-read-q invariant-loop decreases-loop
-shared-slice-read-q c = search push_laws
+bounds-t-at-in-loop-at : tie.Need-bounds-t-at-in-loop-at invariant-loop-at decreases-loop-at
+bounds-t-at-in-loop-at c = search push_laws
 
-add_at : tie.Need-overflow-add-at invariant-loop decreases-loop
-add_at c = search push_laws
+overflow_add-at : tie.Need-overflow_add-at invariant-loop-at decreases-loop-at
+overflow_add-at c = search push_laws
 
-cast-if1 : tie.Need-overflow-cast-if1 invariant-loop decreases-loop
-cast-if1 c = omega (arith, c.shared-slice-known3.given (c.before.before.before.loop.at + 4))
+overflow_cast-p : tie.Need-overflow_cast-p invariant-loop-at decreases-loop-at
+overflow_cast-p c = omega (arith, c.shared_slice_known-in-loop-at-2-1.given (c.loop-at.at + 4))
 
-slice-read-if1 : tie.Need-slice-read-if1 invariant-loop decreases-loop
-slice-read-if1 c = search push_laws
+bounds-marks-p : tie.Need-bounds-marks-p invariant-loop-at decreases-loop-at
+bounds-marks-p c = search push_laws
 
-cast-if1-2 : tie.Need-overflow-cast-if1-2 invariant-loop decreases-loop
-cast-if1-2 c = omega (arith, c.before.shared-slice-known3.given (c.before.before.before.before.loop.at + 9))
+overflow_cast-q : tie.Need-overflow_cast-q invariant-loop-at decreases-loop-at
+overflow_cast-q c = omega (arith, c.shared_slice_known-in-loop-at-2-1.given (c.loop-at.at + 9))
 
-slice-read-if1-2 : tie.Need-slice-read-if1-2 invariant-loop decreases-loop
-slice-read-if1-2 c = search push_laws
+bounds-marks-q : tie.Need-bounds-marks-q invariant-loop-at decreases-loop-at
+bounds-marks-q c = search push_laws
 
-push-state-requires : tie.Need-push-state-requires invariant-loop decreases-loop
-push-state-requires c κs = search push_laws
+push_state-e-requires : tie.Need-push_state-e-requires invariant-loop-at decreases-loop-at
+push_state-e-requires c κs = search push_laws
 
-push-state-requires-2 : tie.Need-push-state-requires-2 invariant-loop decreases-loop
-push-state-requires-2 c κs = search push_laws
+push_state-e-requires-then-marks-p-eq0 : tie.Need-push_state-e-requires-then-marks-p-eq0 invariant-loop-at decreases-loop-at
+push_state-e-requires-then-marks-p-eq0 c κs = search push_laws
 
-loop-less : tie.Need-loop-smaller invariant-loop decreases-loop
-loop-less c = search push_laws
+loop-at-smaller-then-marks-p-eq0 : tie.Need-loop-at-smaller-then-marks-p-eq0 invariant-loop-at decreases-loop-at
+loop-at-smaller-then-marks-p-eq0 c = search push_laws
 
-loop-again : tie.Need-loop-preserved invariant-loop decreases-loop
-loop-again c =
-    let second = c.before.before.before.before in
-    let first = second.before.before.before.before.before.before.before in
-    let turn = first.before.before.before.before.before.before.before.before in
-    let args = turn.before.before.before.before.before.args in
-    (search push_laws, search push_laws, push_two args.t.now turn.before.loop.at turn.before.loop.invariant.1 turn.loop-test.true _ _ args.from _ _ _ _ turn.before.loop.invariant.2 _ _ _ first.push-state.ensures _ _ _ second.push-state2.ensures)
+loop-at-preserved-then-marks-p-eq0 : tie.Need-loop-at-preserved-then-marks-p-eq0 invariant-loop-at decreases-loop-at
+loop-at-preserved-then-marks-p-eq0 c =
+    let args = c.args in
+    (search push_laws, search push_laws, push_two args.t.now c.loop-at.at c.loop-at.invariant.1 c.loop-at-test.true _ _ args.from _ _ _ _ c.loop-at.invariant.2 _ _ _ c.push_state-e.ensures _ _ _ c.push_state-e-then-marks-p-eq0.ensures)
 
-loop-less-2 : tie.Need-loop-smaller-2 invariant-loop decreases-loop
-loop-less-2 c = search push_laws
+loop-at-smaller : tie.Need-loop-at-smaller invariant-loop-at decreases-loop-at
+loop-at-smaller c = search push_laws
 
-loop-again-2 : tie.Need-loop-preserved-2 invariant-loop decreases-loop
-loop-again-2 c = search push_laws
+loop-at-preserved : tie.Need-loop-at-preserved invariant-loop-at decreases-loop-at
+loop-at-preserved c = search push_laws
 
-sub-if2 : tie.Need-overflow-sub-if2 invariant-loop decreases-loop
-sub-if2 c = search push_laws
+overflow_sub-t-2 : tie.Need-overflow_sub-t-2 invariant-loop-at decreases-loop-at
+overflow_sub-t-2 c = search push_laws
 
-add-push-state : tie.Need-overflow-add-push-state invariant-loop decreases-loop
-add-push-state c = search push_laws
+overflow_add-at-then-t-at-ge5 : tie.Need-overflow_add-at-then-t-at-ge5 invariant-loop-at decreases-loop-at
+overflow_add-at-then-t-at-ge5 c = search push_laws
 
-mul-push-state : tie.Need-overflow-mul-push-state invariant-loop decreases-loop
-mul-push-state c = search push_laws
+offset_bounds-t-at-then-t-at-ge5 : tie.Need-offset_bounds-t-at-then-t-at-ge5 invariant-loop-at decreases-loop-at
+offset_bounds-t-at-then-t-at-ge5 c = search push_laws
 
-shared-slice-read-push-state : tie.Need-shared-slice-read-push-state invariant-loop decreases-loop
-shared-slice-read-push-state c = search push_laws
+bounds-t-at-then-t-at-ge5 : tie.Need-bounds-t-at-then-t-at-ge5 invariant-loop-at decreases-loop-at
+bounds-t-at-then-t-at-ge5 c = search push_laws
 
-push-state-requires-3 : tie.Need-push-state-requires-3 invariant-loop decreases-loop
-push-state-requires-3 c κs = search push_laws
+push_state-requires : tie.Need-push_state-requires invariant-loop-at decreases-loop-at
+push_state-requires c κs = search push_laws
 
-same_length : tie.Need-same-length invariant-loop decreases-loop
-same_length c = search push_laws
+shape_of-marks-then-t-at-ge5 : tie.Need-shape_of-marks-then-t-at-ge5 invariant-loop-at decreases-loop-at
+shape_of-marks-then-t-at-ge5 c = search push_laws
 
-same-length-2 : tie.Need-same-length-2 invariant-loop decreases-loop
-same-length-2 c = search push_laws
+shape_of-stack-then-t-at-ge5 : tie.Need-shape_of-stack-then-t-at-ge5 invariant-loop-at decreases-loop-at
+shape_of-stack-then-t-at-ge5 c = search push_laws
 
-returns : tie.Need-returns invariant-loop decreases-loop
+returns-then-t-at-ge5 : tie.Need-returns-then-t-at-ge5 invariant-loop-at decreases-loop-at
+returns-then-t-at-ge5 c = search push_laws
+
+shape_of-marks : tie.Need-shape_of-marks invariant-loop-at decreases-loop-at
+shape_of-marks c = search push_laws
+
+shape_of-stack : tie.Need-shape_of-stack invariant-loop-at decreases-loop-at
+shape_of-stack c = search push_laws
+
+returns : tie.Need-returns invariant-loop-at decreases-loop-at
 returns c = search push_laws
 
-same-length-3 : tie.Need-same-length-3 invariant-loop decreases-loop
-same-length-3 c = search push_laws
-
-same-length-4 : tie.Need-same-length-4 invariant-loop decreases-loop
-same-length-4 c = search push_laws
-
-returns-2 : tie.Need-returns-2 invariant-loop decreases-loop
-returns-2 c = search push_laws
-
-pub push-unmet-spec : {M : Type 1} → statement M
-push-unmet-spec =
+pub push_unmet_spec : {M : Type 1} → statement M
+push_unmet_spec =
     tie.close
     (tie.spec
-    invariant-loop
-    decreases-loop
-    loop-holds
-    sub-loop
-    add-p
-    mul-p
-    shared-slice-read-p
-    add-q
-    mul-q
-    shared-slice-read-q
-    add_at
-    cast-if1
-    slice-read-if1
-    cast-if1-2
-    slice-read-if1-2
-    push-state-requires
-    push-state-requires-2
-    loop-less
-    loop-again
-    loop-less-2
-    loop-again-2
-    sub-if2
-    add-push-state
-    mul-push-state
-    shared-slice-read-push-state
-    push-state-requires-3
-    same_length
-    same-length-2
-    returns
-    same-length-3
-    same-length-4
-    returns-2)
+    invariant-loop-at
+    decreases-loop-at
+    loop-at-init
+    overflow_sub-t
+    overflow_add-p
+    offset_bounds-t-at
+    bounds-t-at
+    overflow_add-q
+    offset_bounds-t-at-in-loop-at
+    bounds-t-at-in-loop-at
+    overflow_add-at
+    overflow_cast-p
+    bounds-marks-p
+    overflow_cast-q
+    bounds-marks-q
+    push_state-e-requires
+    push_state-e-requires-then-marks-p-eq0
+    loop-at-smaller-then-marks-p-eq0
+    loop-at-preserved-then-marks-p-eq0
+    loop-at-smaller
+    loop-at-preserved
+    overflow_sub-t-2
+    overflow_add-at-then-t-at-ge5
+    offset_bounds-t-at-then-t-at-ge5
+    bounds-t-at-then-t-at-ge5
+    push_state-requires
+    shape_of-marks-then-t-at-ge5
+    shape_of-stack-then-t-at-ge5
+    returns-then-t-at-ge5
+    shape_of-marks
+    shape_of-stack
+    returns)

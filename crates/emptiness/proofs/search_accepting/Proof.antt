@@ -5,11 +5,10 @@ use Rattle.emptiness.proofs.search_accepting.Tie as tie
 
 explore-requires : tie.Need-explore-requires
 explore-requires c κs =
-    let indexed = c.before.before.before.before.before.before.before.before.before in
-    all-ready _ _ _ _ indexed.before.before.before.requires indexed.run-starts.ensures (search reachedLaws) c.before.before.before.before.before.first-targets.ensures
+    all-ready _ _ _ _ c.requires c.run_starts.ensures (search reachedLaws) c.first_targets.ensures
 
-pub search-accepting-spec : {M : Type 1} → statement M
-search-accepting-spec =
+pub search_accepting_spec : {M : Type 1} → statement M
+search_accepting_spec =
     tie.close
     (tie.spec (λ c. search reachedLaws) (λ c κs. search reachedLaws) (λ c. search reachedLaws) (λ c. search reachedLaws)
     (λ c κs. search reachedLaws) (λ c. search reachedLaws) (λ c. search reachedLaws) (λ c. search reachedLaws) (λ c. search reachedLaws) explore-requires

@@ -3,8 +3,8 @@ use Rattle.marked_series.proofs.Answers.{series_laws}
 use Rattle.marked_series.proofs.accepts_series.Statement.{statement}
 use Rattle.marked_series.proofs.accepts_series.Tie as tie
 
-pub accepts-series-spec : {M : Type 1} → statement M
-accepts-series-spec =
+pub accepts_series_spec : {M : Type 1} → statement M
+accepts_series_spec =
     tie.close
     (tie.spec (λ c κs. search series_laws) (λ c κs. search series_laws) (λ c. search series_laws) (λ c κs. search series_laws)
     (λ c. search series_laws) (λ c. search series_laws) (λ c. search series_laws) (λ c. search series_laws))

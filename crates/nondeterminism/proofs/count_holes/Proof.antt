@@ -9,15 +9,15 @@ use Rattle.nondeterminism.proofs.States.{count_laws}
 use Rattle.nondeterminism.proofs.count_holes.Statement.{statement}
 use Rattle.nondeterminism.proofs.count_holes.Tie as tie
 
-abbrev invariant-loop : tie.invariant-loop
-invariant-loop s starts lower upper holes₀ n count₀ q₀ holes count q = (n ≡ state_count s) × (q ≤ n) × (length holes ≡ length holes₀) × (count + length (holes_in lower upper (read s) (drop q (states (state_count s)))) ≡ length (holes_in lower upper (read s) (states (state_count s))))
+abbrev invariant-loop-q : tie.invariant-loop-q
+invariant-loop-q s starts lower upper holes₀ n count₀ q₀ holes count q = (n ≡ state_count s) × (q ≤ n) × (length holes ≡ length holes₀) × (count + length (holes_in lower upper (read s) (drop q (states (state_count s)))) ≡ length (holes_in lower upper (read s) (states (state_count s))))
 
-abbrev decreases-loop : tie.decreases-loop
-decreases-loop s starts lower upper holes₀ n count₀ q₀ holes count q = n - q
+abbrev decreases-loop-q : tie.decreases-loop-q
+decreases-loop-q s starts lower upper holes₀ n count₀ q₀ holes count q = n - q
 
-pub count-holes-spec : {M : Type 1} → statement M
-count-holes-spec =
+pub count_holes_spec : {M : Type 1} → statement M
+count_holes_spec =
     tie.close
-    (tie.spec invariant-loop decreases-loop (λ c. search count_laws) (λ c. search count_laws) (λ c κs. search count_laws)
+    (tie.spec invariant-loop-q decreases-loop-q (λ c. search count_laws) (λ c. search count_laws) (λ c κs. search count_laws)
     (λ c κs. search count_laws) (λ c. search count_laws) (λ c. search count_laws) (λ c. search count_laws) (λ c. search count_laws)
     (λ c. search count_laws) (λ c. search count_laws))

@@ -3,8 +3,8 @@ use Rattle.nondeterminism.proofs.Answers.{isNfaLaws}
 use Rattle.nondeterminism.proofs.is_nfa.Statement.{statement}
 use Rattle.nondeterminism.proofs.is_nfa.Tie as tie
 
-pub is-nfa-spec : {M : Type 1} → statement M
-is-nfa-spec =
+pub is_nfa_spec : {M : Type 1} → statement M
+is_nfa_spec =
     tie.close
     (tie.spec (λ c κs. search isNfaLaws) (λ c. search isNfaLaws) (λ c κs. search isNfaLaws) (λ c. search isNfaLaws)
     (λ c. search isNfaLaws) (λ c. search isNfaLaws))

@@ -3,8 +3,8 @@ use Rattle.words.proofs.Answers.{answer_laws}
 use Rattle.words.proofs.accepts_text.Statement.{statement}
 use Rattle.words.proofs.accepts_text.Tie as tie
 
-pub accepts-text-spec : {M : Type 1} → statement M
-accepts-text-spec =
+pub accepts_text_spec : {M : Type 1} → statement M
+accepts_text_spec =
     tie.close
     (tie.spec (λ c κs. search answer_laws) (λ c. search answer_laws) (λ c κs. search answer_laws) (λ c κs. search answer_laws)
     (λ c. search answer_laws) (λ c. search answer_laws) (λ c. search answer_laws) (λ c. search answer_laws))

@@ -3,8 +3,8 @@ use Rattle.words.proofs.Reading.{read_laws}
 use Rattle.words.proofs.advance.Statement.{statement}
 use Rattle.words.proofs.advance.Tie as tie
 
-pub advance-spec : {M : Type 1} → statement M
-advance-spec =
+pub advance_spec : {M : Type 1} → statement M
+advance_spec =
     tie.close
     (tie.spec (λ c. search read_laws) (λ c κs. search read_laws) (λ c. search read_laws) (λ c κs. search read_laws)
     (λ c. search read_laws) (λ c. search read_laws))

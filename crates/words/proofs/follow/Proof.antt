@@ -14,19 +14,19 @@ use Rattle.words.proofs.Rows.{rows_target, rows_next}
 use Rattle.words.proofs.follow.Statement.{statement}
 use Rattle.words.proofs.follow.Tie as tie
 
-abbrev invariant-loop : tie.invariant-loop
-invariant-loop run symbol closures next₀ top found₀ at₀ next found at =
+abbrev invariant-loop-at : tie.invariant-loop-at
+invariant-loop-at run symbol closures next₀ top found₀ at₀ next found at =
     (at ≤ length run) × (length next ≡ length next₀) × RowsFor (length closures) (read_records (drop at run)) × SortedRanges (ranges_in (drop at run))
     × (gathered next closures symbol (read_records (drop at run)) ≡ gathered next₀ closures symbol (read_records run))
     × (next_cut symbol found (ranges_in (drop at run)) ≡ next_cut symbol top (ranges_in run))
 
-abbrev decreases-loop : tie.decreases-loop
-decreases-loop run symbol closures next₀ top found₀ at₀ next found at = length run - at
+abbrev decreases-loop-at : tie.decreases-loop-at
+decreases-loop-at run symbol closures next₀ top found₀ at₀ next found at = length run - at
 
-pub follow-spec : {M : Type 1} → statement M
-follow-spec =
+pub follow_spec : {M : Type 1} → statement M
+follow_spec =
     tie.close
-    (tie.spec invariant-loop decreases-loop (λ c. search rules) (λ c. search rules) (λ c. search rules) (λ c. search rules)
+    (tie.spec invariant-loop-at decreases-loop-at (λ c. search rules) (λ c. search rules) (λ c. search rules) (λ c. search rules)
     (λ c. search rules) (λ c. search rules) (λ c. search rules) (λ c. search rules) (λ c. search rules) (λ c. search rules)
     (λ c. search rules) (λ c. search rules) (λ c. search rules) (λ c. search rules)
     (λ c. search rules) (λ c κs. search rules) (λ c. search rules) (λ c. (search cut_above, search run_above))

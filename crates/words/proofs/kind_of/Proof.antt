@@ -10,15 +10,15 @@ use Rattle.words.proofs.Kind.{kind_laws}
 use Rattle.words.proofs.kind_of.Statement.{statement}
 use Rattle.words.proofs.kind_of.Tie as tie
 
-abbrev invariant-loop : tie.invariant-loop
-invariant-loop s set kind₀ q₀ kind q = (q ≡ next_member (set_at set 0) q) × (Simulation.least kind (kind_of (read s) (members_from q (set_at set 0))) ≡ kind_of (read s) (set_at set 0))
+abbrev invariant-loop-q : tie.invariant-loop-q
+invariant-loop-q s set kind₀ q₀ kind q = (q ≡ next_member (set_at set 0) q) × (Simulation.least kind (kind_of (read s) (members_from q (set_at set 0))) ≡ kind_of (read s) (set_at set 0))
 
-abbrev decreases-loop : tie.decreases-loop
-decreases-loop s set kind₀ q₀ kind q = 256 - q
+abbrev decreases-loop-q : tie.decreases-loop-q
+decreases-loop-q s set kind₀ q₀ kind q = 256 - q
 
-pub kind-of-spec : {M : Type 1} → statement M
-kind-of-spec =
+pub kind_of_spec : {M : Type 1} → statement M
+kind_of_spec =
     tie.close
-    (tie.spec invariant-loop decreases-loop (λ c κs. search kind_laws) (λ c. search kind_laws) (λ c. search kind_laws) (λ c. search kind_laws)
+    (tie.spec invariant-loop-q decreases-loop-q (λ c κs. search kind_laws) (λ c. search kind_laws) (λ c. search kind_laws) (λ c. search kind_laws)
     (λ c. search kind_laws) (λ c κs. search kind_laws) (λ c. search kind_laws) (λ c κs. search kind_laws) (λ c. search kind_laws)
     (λ c. search kind_laws) (λ c. search kind_laws))

@@ -4,8 +4,8 @@ use Rattle.words.specs.Simulation
 use Rattle.words.proofs.least.Statement.{statement}
 use Rattle.words.proofs.least.Tie as tie
 
-pub least-spec : {M : Type 1} → statement M
+pub least_spec : {M : Type 1} → statement M
 unfolding Simulation.least
-least-spec =
+least_spec =
     tie.close
     (tie.spec (λ c. search tests) (λ c. search tests) (λ c. search tests) (λ c. search tests))

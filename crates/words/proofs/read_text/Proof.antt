@@ -14,16 +14,16 @@ use Rattle.words.proofs.Answers.{text_laws}
 use Rattle.words.proofs.read_text.Statement.{statement}
 use Rattle.words.proofs.read_text.Tie as tie
 
-abbrev invariant-loop : tie.invariant-loop
-invariant-loop s starts closures text current₀ at₀ current at = (at ≤ length text) × (length current ≡ length current₀) × Canon (state_count s) (set_at current 0) × (wellformed (drop at text) ≡ true) × (simulate (read s) (set_at current 0) (points_of (decode (drop at text))) ≡ simulate (read s) (set_at current₀ 0) (points_of (decode text)))
+abbrev invariant-loop-at : tie.invariant-loop-at
+invariant-loop-at s starts closures text current₀ at₀ current at = (at ≤ length text) × (length current ≡ length current₀) × Canon (state_count s) (set_at current 0) × (wellformed (drop at text) ≡ true) × (simulate (read s) (set_at current 0) (points_of (decode (drop at text))) ≡ simulate (read s) (set_at current₀ 0) (points_of (decode text)))
 
-abbrev decreases-loop : tie.decreases-loop
-decreases-loop s starts closures text current₀ at₀ current at = length text - at
+abbrev decreases-loop-at : tie.decreases-loop-at
+decreases-loop-at s starts closures text current₀ at₀ current at = length text - at
 
-pub read-text-spec : {M : Type 1} → statement M
-read-text-spec =
+pub read_text_spec : {M : Type 1} → statement M
+read_text_spec =
     tie.close
-    (tie.spec invariant-loop decreases-loop (λ c. search text_laws) (λ c κs. search text_laws) (λ c. search text_laws) (λ c. search text_laws)
+    (tie.spec invariant-loop-at decreases-loop-at (λ c. search text_laws) (λ c κs. search text_laws) (λ c. search text_laws) (λ c. search text_laws)
     (λ c κs. search text_laws) (λ c. search text_laws) (λ c κs. search text_laws) (λ c. search text_laws) (λ c. search text_laws)
     (λ c. search text_laws) (λ c. search text_laws) (λ c. search text_laws) (λ c. search text_laws) (λ c. search text_laws)
     (λ c. search text_laws) (λ c. search text_laws) (λ c. search text_laws))

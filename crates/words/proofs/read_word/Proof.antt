@@ -10,15 +10,15 @@ use Rattle.words.proofs.Reading.{read_laws}
 use Rattle.words.proofs.read_word.Statement.{statement}
 use Rattle.words.proofs.read_word.Tie as tie
 
-abbrev invariant-loop : tie.invariant-loop
-invariant-loop s starts closures word current₀ i₀ current i = (i ≤ length word) × (length current ≡ length current₀) × Canon (state_count s) (set_at current 0) × (simulate (read s) (set_at current 0) (drop i word) ≡ simulate (read s) (set_at current₀ 0) word)
+abbrev invariant-loop-i : tie.invariant-loop-i
+invariant-loop-i s starts closures word current₀ i₀ current i = (i ≤ length word) × (length current ≡ length current₀) × Canon (state_count s) (set_at current 0) × (simulate (read s) (set_at current 0) (drop i word) ≡ simulate (read s) (set_at current₀ 0) word)
 
-abbrev decreases-loop : tie.decreases-loop
-decreases-loop s starts closures word current₀ i₀ current i = length word - i
+abbrev decreases-loop-i : tie.decreases-loop-i
+decreases-loop-i s starts closures word current₀ i₀ current i = length word - i
 
-pub read-word-spec : {M : Type 1} → statement M
-read-word-spec =
+pub read_word_spec : {M : Type 1} → statement M
+read_word_spec =
     tie.close
-    (tie.spec invariant-loop decreases-loop (λ c. search read_laws) (λ c κs. search read_laws) (λ c. search read_laws) (λ c. search read_laws)
+    (tie.spec invariant-loop-i decreases-loop-i (λ c. search read_laws) (λ c κs. search read_laws) (λ c. search read_laws) (λ c. search read_laws)
     (λ c. search read_laws) (λ c. search read_laws) (λ c κs. search read_laws) (λ c. search read_laws) (λ c. search read_laws)
     (λ c. search read_laws) (λ c. search read_laws) (λ c. search read_laws))

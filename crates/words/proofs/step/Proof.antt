@@ -12,18 +12,18 @@ use Rattle.words.proofs.Stepping.{step_laws}
 use Rattle.words.proofs.step.Statement.{statement}
 use Rattle.words.proofs.step.Tie as tie
 
-abbrev invariant-loop : tie.invariant-loop
-invariant-loop s starts closures current symbol next₀ top found₀ q₀ next found q =
+abbrev invariant-loop-q : tie.invariant-loop-q
+invariant-loop-q s starts closures current symbol next₀ top found₀ q₀ next found q =
     (length next ≡ length next₀) × (q ≡ next_member (set_at current 0) q)
     × (with_reached (read s) symbol next (members_from q (set_at current 0)) ≡ Simulation.step (read s) (set_at current 0) symbol)
     × (next_cut symbol found (Simulation.outgoing (read s) (members_from q (set_at current 0))) ≡ next_cut symbol top (Simulation.outgoing (read s) (set_at current 0)))
 
-abbrev decreases-loop : tie.decreases-loop
-decreases-loop s starts closures current symbol next₀ top found₀ q₀ next found q = 256 - q
+abbrev decreases-loop-q : tie.decreases-loop-q
+decreases-loop-q s starts closures current symbol next₀ top found₀ q₀ next found q = 256 - q
 
 pub step_spec : {M : Type 1} → statement M
 step_spec =
     tie.close
-    (tie.spec invariant-loop decreases-loop (λ c κs. search step_laws) (λ c κs. search step_laws) (λ c. search step_laws) (λ c. search step_laws)
+    (tie.spec invariant-loop-q decreases-loop-q (λ c κs. search step_laws) (λ c κs. search step_laws) (λ c. search step_laws) (λ c. search step_laws)
     (λ c κs. search step_laws) (λ c κs. search step_laws) (λ c. search step_laws) (λ c κs. search step_laws) (λ c. search step_laws)
     (λ c. search step_laws) (λ c. search step_laws) (λ c. search step_laws))

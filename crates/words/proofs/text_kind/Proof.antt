@@ -4,8 +4,8 @@ use Rattle.words.proofs.Epsilons.{fresh_small}
 use Rattle.words.proofs.text_kind.Statement.{statement}
 use Rattle.words.proofs.text_kind.Tie as tie
 
-pub text-kind-spec : {M : Type 1} → statement M
-text-kind-spec =
+pub text_kind_spec : {M : Type 1} → statement M
+text_kind_spec =
     tie.close
     (tie.spec (λ c. search rules) (λ c κs. search rules) (λ c. search rules) (λ c. search rules) (λ c κs. search (fresh_small, rules))
     (λ c. search rules))

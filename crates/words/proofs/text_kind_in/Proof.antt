@@ -4,12 +4,12 @@ use Rattle.words.proofs.Answers.{word-done, start-canon, end-canon}
 use Rattle.words.proofs.text_kind_in.Statement.{statement}
 use Rattle.words.proofs.text_kind_in.Tie as tie
 
-pub text-kind-in-spec : {M : Type 1} → statement M
-text-kind-in-spec =
+pub text_kind_in_spec : {M : Type 1} → statement M
+text_kind_in_spec =
     tie.close
     (tie.spec (λ c. search rules) (λ c. search rules) (λ c κs. search rules) (λ c. search rules) (λ c. search rules)
-    (λ c κs. let e = c.before.before.before.before.before.before.before.begin.ensures in (e.0, start-canon _ _ _ _ e.0 e.1, search rules, search rules))
+    (λ c κs. let e = c.begin.ensures in (e.0, start-canon _ _ _ _ e.0 e.1, search rules, search rules))
     (λ c. search rules)
-    (λ c κs. let e = c.before.before.before.before.before.before.before.before.before.before.begin.ensures in
-    (e.0.accepted, end-canon _ _ _ _ _ _ e.0 (start-canon _ _ _ _ e.0 e.1) c.before.before.read-text.ensures, search rules))
+    (λ c κs. let e = c.begin.ensures in
+    (e.0.accepted, end-canon _ _ _ _ _ _ e.0 (start-canon _ _ _ _ e.0 e.1) c.read_text.ensures, search rules))
     (λ c. search rules) (λ c. search (word-done, rules)))

@@ -4,8 +4,8 @@ use Rattle.words.proofs.Epsilons.{fresh_small}
 use Rattle.words.proofs.word_kind.Statement.{statement}
 use Rattle.words.proofs.word_kind.Tie as tie
 
-pub word-kind-spec : {M : Type 1} → statement M
-word-kind-spec =
+pub word_kind_spec : {M : Type 1} → statement M
+word_kind_spec =
     tie.close
     (tie.spec (λ c. search rules) (λ c κs. search rules) (λ c. search rules) (λ c. search rules) (λ c κs. search (fresh_small, rules))
     (λ c. search rules))

@@ -4,7 +4,7 @@ use Rattle.words.proofs.Epsilons.{fresh_large}
 use Rattle.words.proofs.word_kind_large.Statement.{statement}
 use Rattle.words.proofs.word_kind_large.Tie as tie
 
-pub word-kind-large-spec : {M : Type 1} → statement M
-word-kind-large-spec =
+pub word_kind_large_spec : {M : Type 1} → statement M
+word_kind_large_spec =
     tie.close
     (tie.spec (λ c. search rules) (λ c κs. search (fresh_large, rules)) (λ c. search rules))
