@@ -67,6 +67,7 @@ with_out d (e ∷ es) j m =
 with_in : (d : Transition) {e : Transition} {es : List Transition} (j : Joint) → e ∈ es → Of d e j → j ∈ joints_with d es
 unfolding joints_with
 with_in d {e} {es = c ∷ es} j (Memᴰ.head q) o = Memᴰ.append_left (joints_with d es) (joint_in d c j (subst (λ (x : Transition). Of d x j) q o))
+with_in d {e = e} {es = []} j x5 o = elim x5 [ ]
 with_in d {es = c ∷ es} j (Memᴰ.tail m) o = Memᴰ.append_right (joint d c) (with_in d j m o)
 
 pub joints_out : (ds es : List Transition) (j : Joint) → j ∈ joints ds es → Origin ds es j
@@ -79,6 +80,7 @@ joints_out (d ∷ ds) es j m =
 
 pub joints_in : {d e : Transition} {ds es : List Transition} (j : Joint) → d ∈ ds → e ∈ es → Of d e j → j ∈ joints ds es
 unfolding joints
+joints_in {d = d} {e = e} {ds = []} {es = es} j x8 n o = elim x8 [ ]
 joints_in {d} {e} {ds = c ∷ ds} {es} j (Memᴰ.head q) n o =
     Memᴰ.append_left (joints ds es) (with_in c j n (subst (λ (x : Transition). Of x e j) q o))
 joints_in {ds = c ∷ ds} {es} j (Memᴰ.tail m) n o = Memᴰ.append_right (joints_with c es) (joints_in j m n o)

@@ -23,8 +23,8 @@ eliminate-tables-at t = and 6 eliminate-tables-kinds.ps (is 6 eliminate-tables-k
 abbrev eliminate-tables-below : ℕ → In 6 eliminate-tables-kinds.ps
 eliminate-tables-below t = and 6 eliminate-tables-kinds.ps (falls 6 eliminate-tables-kinds.ps ◌<◌ μ-eliminate-tables t) eliminate-tables.Pre
 
-pub +eliminate-tables-spec : {M : Type 1} → statement M
-+eliminate-tables-spec =
+pub +eliminate_tables_spec : {M : Type 1} → statement M
++eliminate_tables_spec =
     close μ-eliminate-tables
     (λ t.
     eliminate-tables-lts.spec

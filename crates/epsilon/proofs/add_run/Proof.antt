@@ -11,16 +11,16 @@ use Rattle.epsilon.proofs.Gathering.{run_laws}
 use Rattle.epsilon.proofs.add_run.Statement.{statement}
 use Rattle.epsilon.proofs.add_run.Tie as tie
 
-abbrev invariant-loop : tie.invariant-loop
-invariant-loop run p buf₀ f₀ at₀ buf f at = (at ≤ length run) × (length buf ≡ length buf₀) × Rest buf f.sorted f.end (moved_to p (read_records (drop at run))) (records_in buf₀ 0 f₀.end ++ moved_to p (read_records run))
+abbrev invariant-loop-at : tie.invariant-loop-at
+invariant-loop-at run p buf₀ f₀ at₀ buf f at = (at ≤ length run) × (length buf ≡ length buf₀) × Rest buf f.sorted f.end (moved_to p (read_records (drop at run))) (records_in buf₀ 0 f₀.end ++ moved_to p (read_records run))
 
-abbrev decreases-loop : tie.decreases-loop
-decreases-loop run p buf₀ f₀ at₀ buf f at = length run - at
+abbrev decreases-loop-at : tie.decreases-loop-at
+decreases-loop-at run p buf₀ f₀ at₀ buf f at = length run - at
 
-pub add-run-spec : {M : Type 1} → statement M
-add-run-spec =
+pub add_run_spec : {M : Type 1} → statement M
+add_run_spec =
     tie.close
-    (tie.spec invariant-loop decreases-loop (λ c. search run_laws) (λ c. search run_laws) (λ c. search run_laws) (λ c. search run_laws)
+    (tie.spec invariant-loop-at decreases-loop-at (λ c. search run_laws) (λ c. search run_laws) (λ c. search run_laws) (λ c. search run_laws)
     (λ c. search run_laws) (λ c. search run_laws) (λ c. search run_laws) (λ c κs. search run_laws) (λ c. search run_laws)
     (λ c. search run_laws) (λ c. search run_laws) (λ c. search run_laws) (λ c. search run_laws) (λ c. search run_laws)
     (λ c. search run_laws))

@@ -11,16 +11,16 @@ use Rattle.epsilon.proofs.Gathering.{set_laws}
 use Rattle.epsilon.proofs.add_set.Statement.{statement}
 use Rattle.epsilon.proofs.add_set.Tie as tie
 
-abbrev invariant-loop : tie.invariant-loop
-invariant-loop s starts set part₀ f₀ q₀ part f q =
+abbrev invariant-loop-q : tie.invariant-loop-q
+invariant-loop-q s starts set part₀ f₀ q₀ part f q =
     (q ≡ next_member (set_at set 0) q) × (length part ≡ length part₀) × Rest part f.sorted f.end (ranges_from (read s) 0 (members_from q (set_at set 0))) (ranges_from (read s) 0 (set_at set 0))
 
-abbrev decreases-loop : tie.decreases-loop
-decreases-loop s starts set part₀ f₀ q₀ part f q = 256 - q
+abbrev decreases-loop-q : tie.decreases-loop-q
+decreases-loop-q s starts set part₀ f₀ q₀ part f q = 256 - q
 
-pub add-set-spec : {M : Type 1} → statement M
-add-set-spec =
+pub add_set_spec : {M : Type 1} → statement M
+add_set_spec =
     tie.close
-    (tie.spec invariant-loop decreases-loop (λ c κs. search set_laws) (λ c. (search set_laws, search set_laws, search set_laws))
+    (tie.spec invariant-loop-q decreases-loop-q (λ c κs. search set_laws) (λ c. (search set_laws, search set_laws, search set_laws))
     (λ c. search set_laws) (λ c κs. search set_laws) (λ c κs. search set_laws) (λ c. search set_laws) (λ c. search set_laws) (λ c. search set_laws) (λ c κs. search set_laws) (λ c. search set_laws)
     (λ c. (search set_laws, search set_laws, search set_laws)) (λ c. search set_laws) (λ c. search set_laws))

@@ -4,12 +4,12 @@ use Rattle.epsilon.proofs.Parts.{part_inside, part_set, part_kept, part_canon, p
 use Rattle.epsilon.proofs.closure_part.Statement.{statement}
 use Rattle.epsilon.proofs.closure_part.Tie as tie
 
-pub closure-part-spec : {M : Type 1} → statement M
-closure-part-spec =
+pub closure_part_spec : {M : Type 1} → statement M
+closure_part_spec =
     tie.close
     (tie.spec (λ c κs. search (part_inside, rules)) (λ c. search rules) (λ c. (search (part_set, rules), search (part_kept, rules))) (λ c κs. search (part_inside, rules))
-    (λ c κs. let x = c.before.before.before.before.before.before.before.before.before.before.before.before.before.before.requires in
-    (search rules, search rules, part_canon _ _ _ x.0 _ x.1 _ _ c.before.before.before.before.copy-row.ensures x.2, search rules, search rules))
+    (λ c κs. let x = c.requires in
+    (search rules, search rules, part_canon _ _ _ x.0 _ x.1 _ _ c.copy_row.ensures x.2, search rules, search rules))
     (λ c κs. search rules) (λ c. search rules) (λ c. search rules)
-    (λ c. let x = c.before.before.before.before.before.before.before.before.before.before.before.before.before.before.before.before.before.before.before.before.before.requires in let e = c.before.before.before.before.before.before.before.before.before.before.before.copy-row.ensures in
-    (part_row _ _ _ x.0 _ x.1 _ _ e x.2, part_new _ _ _ x.0 _ x.1 _ _ e x.2 _ _ _ c.before.before.before.before.before.before.add-set.ensures _ _ c.before.before.collect-records.ensures)))
+    (λ c. let x = c.requires in let e = c.copy_row.ensures in
+    (part_row _ _ _ x.0 _ x.1 _ _ e x.2, part_new _ _ _ x.0 _ x.1 _ _ e x.2 _ _ _ c.add_set-f.ensures _ _ c.collect_records.ensures)))

@@ -3,8 +3,8 @@ use Rattle.epsilon.proofs.Answers.{memoryLaws}
 use Rattle.epsilon.proofs.eliminate_large.Statement.{statement}
 use Rattle.epsilon.proofs.eliminate_large.Tie as tie
 
-pub eliminate-large-spec : {M : Type 1} → statement M
-eliminate-large-spec =
+pub eliminate_large_spec : {M : Type 1} → statement M
+eliminate_large_spec =
     tie.close
     (tie.spec (λ c. search memoryLaws) (λ c. search memoryLaws) (λ c κs. search memoryLaws) (λ c. search memoryLaws)
     (λ c. search memoryLaws) (λ c. search memoryLaws) (λ c. search memoryLaws) (λ c κs. search memoryLaws) (λ c. search memoryLaws) (λ c. search memoryLaws) (λ c. search memoryLaws))

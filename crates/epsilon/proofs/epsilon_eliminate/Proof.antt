@@ -4,12 +4,12 @@ use Rattle.epsilon.proofs.Answers.{room-stopped, sheet-stopped, sheet-ready, she
 use Rattle.epsilon.proofs.epsilon_eliminate.Statement.{statement}
 use Rattle.epsilon.proofs.epsilon_eliminate.Tie as tie
 
-pub epsilon-eliminate-spec : {M : Type 1} → statement M
-epsilon-eliminate-spec =
+pub epsilon_eliminate_spec : {M : Type 1} → statement M
+epsilon_eliminate_spec =
     tie.close
     (tie.spec
     (λ c κs. search rules) (λ c. search rules) (λ c. search rules) (λ c. search room-stopped) (λ c κs. search rules) (λ c. search rules)
-    (λ c κs. sheet-ready _ _ _ _ c.before.before.before.before.before.before.lacks-room.ensures c.before.before.before.before.before.if1.false _
-    c.before.before.before.before.check.ensures c.before.before.enum_told.given.1)
+    (λ c κs. sheet-ready _ _ _ _ c.lacks_room.ensures c.if-lacks_room.false _
+    c.check.ensures c.in-Accepted.is)
     (λ c. search rules) (λ c. search rules) (λ c. search rules) (λ c. search sheet_given) (λ c. search rules)
     (λ c. search rules) (λ c. search (sheet_given, sheet-stopped)))

@@ -9,15 +9,15 @@ use Rattle.epsilon.proofs.Writing.{accepts_laws}
 use Rattle.epsilon.proofs.put_accepts.Statement.{statement}
 use Rattle.epsilon.proofs.put_accepts.Tie as tie
 
-abbrev invariant-loop : tie.invariant-loop
-invariant-loop s closures out₀ at n end₀ p₀ out end p = (p ≤ state_count s) × (length out ≡ length out₀) × Written out₀ at (closure_kinds (read s) p) out end
+abbrev invariant-loop-p : tie.invariant-loop-p
+invariant-loop-p s closures out₀ at n end₀ p₀ out end p = (p ≤ state_count s) × (length out ≡ length out₀) × Written out₀ at (closure_kinds (read s) p) out end
 
-abbrev decreases-loop : tie.decreases-loop
-decreases-loop s closures out₀ at n end₀ p₀ out end p = state_count s - p
+abbrev decreases-loop-p : tie.decreases-loop-p
+decreases-loop-p s closures out₀ at n end₀ p₀ out end p = state_count s - p
 
-pub put-accepts-spec : {M : Type 1} → statement M
-put-accepts-spec =
+pub put_accepts_spec : {M : Type 1} → statement M
+put_accepts_spec =
     tie.close
-    (tie.spec invariant-loop decreases-loop (λ c. search accepts_laws) (λ c. search accepts_laws) (λ c κs. search accepts_laws)
+    (tie.spec invariant-loop-p decreases-loop-p (λ c. search accepts_laws) (λ c. search accepts_laws) (λ c κs. search accepts_laws)
     (λ c κs. search accepts_laws) (λ c. search accepts_laws) (λ c. search accepts_laws) (λ c. search accepts_laws)
     (λ c. search accepts_laws) (λ c. search accepts_laws))

@@ -3,7 +3,7 @@ use Rattle.epsilon.proofs.Answers.{resultLaws}
 use Rattle.epsilon.proofs.put_result.Statement.{statement}
 use Rattle.epsilon.proofs.put_result.Tie as tie
 
-pub put-result-spec : {M : Type 1} → statement M
-put-result-spec =
+pub put_result_spec : {M : Type 1} → statement M
+put_result_spec =
     tie.close
     (tie.spec (λ c κs. search resultLaws) (λ c κs. search resultLaws) (λ c. search resultLaws) (λ c. search resultLaws) (λ c. search resultLaws))

@@ -5,8 +5,8 @@ use Rattle.product.proofs.Making.{second_passed, second_refused}
 use Rattle.product.proofs.intersect_second.Statement.{statement}
 use Rattle.product.proofs.intersect_second.Tie as tie
 
-pub intersect-second-spec : {M : Type 1} → statement M
-intersect-second-spec =
+pub intersect_second_spec : {M : Type 1} → statement M
+intersect_second_spec =
     tie.close
     (tie.spec
     (λ c κs. search rules) (λ c. search rules) (λ c κs. search (check_accepted, rules)) (λ c. search rules) (λ c. search rules) (λ c. search rules)

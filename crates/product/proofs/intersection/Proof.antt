@@ -6,15 +6,15 @@ use Rattle.product.proofs.Making.{no_room, first_passed, first_refused}
 use Rattle.product.proofs.intersection.Statement.{statement}
 use Rattle.product.proofs.intersection.Tie as tie
 
-pub intersection-spec : {M : Type 1} → statement M
-intersection-spec =
+pub intersection_spec : {M : Type 1} → statement M
+intersection_spec =
     tie.close
     (tie.spec
     (λ c κs. search rules) (λ c. search rules) (λ c. search rules) (λ c. search no_room) (λ c κs. search rules) (λ c. search rules)
-    (λ c κs. let g = c.before.before.before.before.before.before.before.before.before.before.before.before.before.args in (
+    (λ c κs. let g = c.args in (
       search (check_accepted, rules),
-      room-words g.out.now g.names.now _ c.before.before.before.before.before.before.lacks-room.ensures c.before.before.before.before.before.if1.false,
-      room-bytes g.out.now g.names.now _ c.before.before.before.before.before.before.lacks-room.ensures c.before.before.before.before.before.if1.false,
+      room-words g.out.now g.names.now _ c.lacks_room.ensures c.if-lacks_room.false,
+      room-bytes g.out.now g.names.now _ c.lacks_room.ensures c.if-lacks_room.false,
     ))
     (λ c. search rules) (λ c. search rules) (λ c. search rules) (λ c. search first_passed) (λ c. search rules)
     (λ c. search rules) (λ c. search (first_passed, first_refused)))

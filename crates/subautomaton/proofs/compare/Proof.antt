@@ -4,17 +4,13 @@ use Rattle.subautomaton.proofs.Deciding.{tables_made, table_laws}
 use Rattle.subautomaton.proofs.compare.Statement.{statement}
 use Rattle.subautomaton.proofs.compare.Tie as tie
 
-pub compare-spec : {M : Type 1} → statement M
-compare-spec =
+pub compare_spec : {M : Type 1} → statement M
+compare_spec =
     tie.close
     (tie.spec (λ c. search table_laws) (λ c. search table_laws) (λ c. search table_laws) (λ c. search table_laws) (λ c. search table_laws)
     (λ c κs. search table_laws) (λ c. search table_laws) (λ c κs. search table_laws) (λ c. search table_laws) (λ c. search table_laws)
     (λ c κs. search table_laws) (λ c. search table_laws) (λ c. search table_laws) (λ c κs. search table_laws) (λ c. search table_laws)
     (λ c. search table_laws) (λ c. search table_laws)
     (λ c κs.
-    let second = c.before.before.before.before in
-    let first = second.before.before.before.before in
-    let entered = first.before.before.before.before in
-    let starts = entered.before.before.before in
-    tables_made _ _ _ _ _ _ _ _ _ _ starts.before.before.before.before.before.before.before.before.requires starts.run-starts.ensures refl entered.enter-labels.ensures
-    first.number-labels.ensures second.number-labels2.ensures) (λ c. search table_laws))
+    tables_made _ _ _ _ _ _ _ _ _ _ c.requires c.run_starts.ensures refl c.enter_labels-k.ensures
+    c.number_labels.ensures c.number_labels-2.ensures) (λ c. search table_laws))

@@ -4,9 +4,9 @@ use Rattle.subautomaton.specs.inner.Tables.{fits}
 use Rattle.subautomaton.proofs.covers.Statement.{statement}
 use Rattle.subautomaton.proofs.covers.Tie as tie
 
-pub covers-spec : {M : Type 1} → statement M
+pub covers_spec : {M : Type 1} → statement M
 unfolding fits
-covers-spec =
+covers_spec =
     tie.close
     (tie.spec (λ c. search tests) (λ c. search tests) (λ c. search tests) (λ c. search tests) (λ c. search tests)
     (λ c. search tests) (λ c. search tests) (λ c. search tests) (λ c. search tests) (λ c. search tests) (λ c. search tests)

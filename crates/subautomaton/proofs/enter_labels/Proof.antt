@@ -7,15 +7,15 @@ use Rattle.subautomaton.proofs.Entering.{Entered, enter_laws}
 use Rattle.subautomaton.proofs.enter_labels.Statement.{statement}
 use Rattle.subautomaton.proofs.enter_labels.Tie as tie
 
-abbrev invariant-loop : tie.invariant-loop
-invariant-loop b m t₀ at₀ i₀ n₀ t at i n = (length t ≡ length t₀) × (i ≤ m) × (at ≡ label_place b i) × Entered b t n i
+abbrev invariant-loop-i : tie.invariant-loop-i
+invariant-loop-i b m t₀ at₀ i₀ n₀ t at i n = (length t ≡ length t₀) × (i ≤ m) × (at ≡ label_place b i) × Entered b t n i
 
-abbrev decreases-loop : tie.decreases-loop
-decreases-loop b m t₀ at₀ i₀ n₀ t at i n = m - i
+abbrev decreases-loop-i : tie.decreases-loop-i
+decreases-loop-i b m t₀ at₀ i₀ n₀ t at i n = m - i
 
-pub enter-labels-spec : {M : Type 1} → statement M
-enter-labels-spec =
+pub enter_labels_spec : {M : Type 1} → statement M
+enter_labels_spec =
     tie.close
-    (tie.spec invariant-loop decreases-loop (λ c. search enter_laws) (λ c κs. search enter_laws) (λ c. search enter_laws) (λ c κs. search enter_laws)
+    (tie.spec invariant-loop-i decreases-loop-i (λ c. search enter_laws) (λ c κs. search enter_laws) (λ c. search enter_laws) (λ c κs. search enter_laws)
     (λ c. search enter_laws) (λ c. search enter_laws) (λ c. search enter_laws) (λ c. search enter_laws) (λ c. search enter_laws)
     (λ c. search enter_laws) (λ c. search enter_laws) (λ c. search enter_laws) (λ c. search enter_laws))

@@ -10,14 +10,14 @@ use Rattle.subautomaton.proofs.Matching.{has_laws}
 use Rattle.subautomaton.proofs.has_state.Statement.{statement}
 use Rattle.subautomaton.proofs.has_state.Tie as tie
 
-abbrev invariant-loop : tie.invariant-loop
-invariant-loop b cb k accept n q₀ q = (q ≤ n) × (any (is_held (read b) cb k accept) (states n) ≡ any (is_held (read b) cb k accept) (drop q (states n)))
+abbrev invariant-loop-q : tie.invariant-loop-q
+invariant-loop-q b cb k accept n q₀ q = (q ≤ n) × (any (is_held (read b) cb k accept) (states n) ≡ any (is_held (read b) cb k accept) (drop q (states n)))
 
-abbrev decreases-loop : tie.decreases-loop
-decreases-loop b cb k accept n q₀ q = n - q
+abbrev decreases-loop-q : tie.decreases-loop-q
+decreases-loop-q b cb k accept n q₀ q = n - q
 
-pub has-state-spec : {M : Type 1} → statement M
-has-state-spec =
+pub has_state_spec : {M : Type 1} → statement M
+has_state_spec =
     tie.close
-    (tie.spec invariant-loop decreases-loop (λ c. search has_laws) (λ c. search has_laws) (λ c κs. search has_laws) (λ c. search has_laws)
+    (tie.spec invariant-loop-q decreases-loop-q (λ c. search has_laws) (λ c. search has_laws) (λ c κs. search has_laws) (λ c. search has_laws)
     (λ c. search has_laws) (λ c. search has_laws) (λ c. search has_laws) (λ c. search has_laws))

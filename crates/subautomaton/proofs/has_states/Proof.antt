@@ -10,15 +10,15 @@ use Rattle.subautomaton.proofs.Matching.{states_laws}
 use Rattle.subautomaton.proofs.has_states.Statement.{statement}
 use Rattle.subautomaton.proofs.has_states.Tie as tie
 
-abbrev invariant-loop : tie.invariant-loop
-invariant-loop a b ca cb n p₀ p = (p ≤ n) × (all (is_held_in (read a) (read b) ca cb) (states n) ≡ all (is_held_in (read a) (read b) ca cb) (drop p (states n)))
+abbrev invariant-loop-p : tie.invariant-loop-p
+invariant-loop-p a b ca cb n p₀ p = (p ≤ n) × (all (is_held_in (read a) (read b) ca cb) (states n) ≡ all (is_held_in (read a) (read b) ca cb) (drop p (states n)))
 
-abbrev decreases-loop : tie.decreases-loop
-decreases-loop a b ca cb n p₀ p = n - p
+abbrev decreases-loop-p : tie.decreases-loop-p
+decreases-loop-p a b ca cb n p₀ p = n - p
 
-pub has-states-spec : {M : Type 1} → statement M
-has-states-spec =
+pub has_states_spec : {M : Type 1} → statement M
+has_states_spec =
     tie.close
-    (tie.spec invariant-loop decreases-loop (λ c. search states_laws) (λ c. search states_laws) (λ c. search states_laws) (λ c. search states_laws)
+    (tie.spec invariant-loop-p decreases-loop-p (λ c. search states_laws) (λ c. search states_laws) (λ c. search states_laws) (λ c. search states_laws)
     (λ c. search states_laws) (λ c κs. search states_laws) (λ c κs. search states_laws) (λ c. search states_laws) (λ c. search states_laws)
     (λ c. search states_laws) (λ c. search states_laws) (λ c. search states_laws))

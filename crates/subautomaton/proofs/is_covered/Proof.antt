@@ -12,15 +12,15 @@ use Rattle.subautomaton.proofs.Matching.{in_laws}
 use Rattle.subautomaton.proofs.is_covered.Statement.{statement}
 use Rattle.subautomaton.proofs.is_covered.Tie as tie
 
-abbrev invariant-loop : tie.invariant-loop
-invariant-loop d b starts ca cb from to n q₀ q = (q ≤ n) × (any (fits_from (read b) cb from to (record_at d 0)) (states n) ≡ any (fits_from (read b) cb from to (record_at d 0)) (drop q (states n)))
+abbrev invariant-loop-q : tie.invariant-loop-q
+invariant-loop-q d b starts ca cb from to n q₀ q = (q ≤ n) × (any (fits_from (read b) cb from to (record_at d 0)) (states n) ≡ any (fits_from (read b) cb from to (record_at d 0)) (drop q (states n)))
 
-abbrev decreases-loop : tie.decreases-loop
-decreases-loop d b starts ca cb from to n q₀ q = n - q
+abbrev decreases-loop-q : tie.decreases-loop-q
+decreases-loop-q d b starts ca cb from to n q₀ q = n - q
 
-pub is-covered-spec : {M : Type 1} → statement M
-is-covered-spec =
+pub is_covered_spec : {M : Type 1} → statement M
+is_covered_spec =
     tie.close
-    (tie.spec invariant-loop decreases-loop (λ c. search in_laws) (λ c. search in_laws) (λ c. search in_laws) (λ c. search in_laws) (λ c. search in_laws)
+    (tie.spec invariant-loop-q decreases-loop-q (λ c. search in_laws) (λ c. search in_laws) (λ c. search in_laws) (λ c. search in_laws) (λ c. search in_laws)
     (λ c. search in_laws) (λ c. search in_laws) (λ c. search in_laws) (λ c. search in_laws) (λ c. search in_laws) (λ c κs. search in_laws)
-    (λ c. search in_laws) (λ c. search in_laws) (λ c. search in_laws) (λ c. (search in_laws, some_next _ _ _ c.before.before.before.loop.invariant.1 c.before.before.loop-test.true _ c.before.state-covers.ensures c.if1.false)) (λ c. search in_laws))
+    (λ c. search in_laws) (λ c. search in_laws) (λ c. search in_laws) (λ c. (search in_laws, some_next _ _ _ c.loop-q.invariant.1 c.loop-q-test.true _ c.state_covers.ensures c.if-state_covers.false)) (λ c. search in_laws))

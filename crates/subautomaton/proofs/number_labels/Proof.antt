@@ -9,15 +9,15 @@ use Rattle.subautomaton.proofs.Numbering.{number_laws}
 use Rattle.subautomaton.proofs.number_labels.Statement.{statement}
 use Rattle.subautomaton.proofs.number_labels.Tie as tie
 
-abbrev invariant-loop : tie.invariant-loop
-invariant-loop x m b t n out₀ at₀ i₀ out at i = (i ≤ m) × (at ≡ label_place x i) × Numbered i (read_labels x) (names_in b t n) out
+abbrev invariant-loop-i : tie.invariant-loop-i
+invariant-loop-i x m b t n out₀ at₀ i₀ out at i = (i ≤ m) × (at ≡ label_place x i) × Numbered i (read_labels x) (names_in b t n) out
 
-abbrev decreases-loop : tie.decreases-loop
-decreases-loop x m b t n out₀ at₀ i₀ out at i = m - i
+abbrev decreases-loop-i : tie.decreases-loop-i
+decreases-loop-i x m b t n out₀ at₀ i₀ out at i = m - i
 
-pub number-labels-spec : {M : Type 1} → statement M
-number-labels-spec =
+pub number_labels_spec : {M : Type 1} → statement M
+number_labels_spec =
     tie.close
-    (tie.spec invariant-loop decreases-loop (λ c. search number_laws) (λ c κs. search number_laws) (λ c κs. search number_laws) (λ c. search number_laws)
+    (tie.spec invariant-loop-i decreases-loop-i (λ c. search number_laws) (λ c κs. search number_laws) (λ c κs. search number_laws) (λ c. search number_laws)
     (λ c. search number_laws) (λ c. search number_laws) (λ c κs. search number_laws) (λ c. search number_laws) (λ c. search number_laws)
     (λ c. search number_laws) (λ c. search number_laws) (λ c. search number_laws))

@@ -9,27 +9,21 @@ use Rattle.sweep.proofs.Passing.{end_laws, end_noted}
 use Rattle.sweep.proofs.pass_endings.Statement.{statement}
 use Rattle.sweep.proofs.pass_endings.Tie as tie
 
-abbrev invariant-loop : tie.invariant-loop
-invariant-loop s closures opens ends set symbol opened start reach tree₀ at₀ tree at =
+abbrev invariant-loop-at : tie.invariant-loop-at
+invariant-loop-at s closures opens ends set symbol opened start reach tree₀ at₀ tree at =
     Passing s closures opens ends (set_at set 0) opened at symbol reach tree × (length tree ≡ length tree₀)
 
-abbrev decreases-loop : tie.decreases-loop
-decreases-loop s closures opens ends set symbol opened start reach tree₀ at₀ tree at = length ends - at
+abbrev decreases-loop-at : tie.decreases-loop-at
+decreases-loop-at s closures opens ends set symbol opened start reach tree₀ at₀ tree at = length ends - at
 
-pub pass-endings-spec : {M : Type 1} → statement M
-pass-endings-spec =
+pub pass_endings_spec : {M : Type 1} → statement M
+pass_endings_spec =
     tie.close
-    (tie.spec invariant-loop decreases-loop (λ c. search end_laws) (λ c. search end_laws) (λ c. search end_laws) (λ c κs. search end_laws) (λ c. search end_laws)
+    (tie.spec invariant-loop-at decreases-loop-at (λ c. search end_laws) (λ c. search end_laws) (λ c. search end_laws) (λ c κs. search end_laws) (λ c. search end_laws)
     (λ c κs. search end_laws) (λ c. search end_laws) (λ c. search end_laws) (λ c κs. search end_laws) (λ c. search end_laws)
     (λ c.
-    let at-close = c.before.before in
-    let at-if = at-close.before.before in
-    let at-if' = at-if.before.before in
-    let at-is-in = at-if'.before in
-    let at-range-of = at-is-in.before in
-    let at-loop-test = at-range-of.before.before in
-    let at-loop = at-loop-test.before in (
-      end_noted _ _ _ _ _ _ _ _ _ _ at-loop.loop.invariant.0 at-loop-test.loop-test.true _ _ _ _ at-range-of.range-of.ensures _ at-is-in.is-in.ensures at-if'.if1.true at-if.if2.false _ at-close.close.ensures,
+    (
+      end_noted _ _ _ _ _ _ _ _ _ _ c.loop-at.invariant.0 c.loop-at-test.true _ _ _ _ c.range_of-range.ensures _ c.is_in.ensures c.if-is_in.true c.if-symbol-range.false _ c.close.ensures,
       search rules,
     ))
     (λ c. search end_laws) (λ c. search end_laws) (λ c. search end_laws) (λ c. search end_laws))

@@ -9,27 +9,20 @@ use Rattle.sweep.proofs.Passing.{open_laws, open_noted}
 use Rattle.sweep.proofs.pass_openings.Statement.{statement}
 use Rattle.sweep.proofs.pass_openings.Tie as tie
 
-abbrev invariant-loop : tie.invariant-loop
-invariant-loop s closures opens ends set symbol start ended reach₀ tree₀ at₀ reach tree at =
+abbrev invariant-loop-at : tie.invariant-loop-at
+invariant-loop-at s closures opens ends set symbol start ended reach₀ tree₀ at₀ reach tree at =
     Passing s closures opens ends (set_at set 0) at ended symbol reach tree × (length reach ≡ length reach₀) × (length tree ≡ length tree₀)
 
-abbrev decreases-loop : tie.decreases-loop
-decreases-loop s closures opens ends set symbol start ended reach₀ tree₀ at₀ reach tree at = length opens - at
+abbrev decreases-loop-at : tie.decreases-loop-at
+decreases-loop-at s closures opens ends set symbol start ended reach₀ tree₀ at₀ reach tree at = length opens - at
 
-pub pass-openings-spec : {M : Type 1} → statement M
-pass-openings-spec =
+pub pass_openings_spec : {M : Type 1} → statement M
+pass_openings_spec =
     tie.close
-    (tie.spec invariant-loop decreases-loop (λ c. search open_laws) (λ c. search open_laws) (λ c. search open_laws) (λ c κs. search open_laws) (λ c. search open_laws)
+    (tie.spec invariant-loop-at decreases-loop-at (λ c. search open_laws) (λ c. search open_laws) (λ c. search open_laws) (λ c κs. search open_laws) (λ c. search open_laws)
     (λ c κs. search open_laws) (λ c. search open_laws) (λ c. search open_laws) (λ c. search open_laws) (λ c κs. search open_laws) (λ c. search open_laws)
     (λ c. (
-      let at_open = c.before.before.before.before in
-          let at-if = at_open.before.before.before in
-          let at-if' = at-if.before.before in
-          let at-is-in = at-if'.before in
-          let at-range-of = at-is-in.before in
-          let at-loop-test = at-range-of.before.before in
-          let at-loop = at-loop-test.before in
-          open_noted _ _ _ _ _ _ _ _ _ _ at-loop.loop.invariant.0 at-loop-test.loop-test.true _ _ _ _ at-range-of.range-of.ensures _ at-is-in.is-in.ensures at-if'.if1.true at-if.if2.false _ _ at_open.«open».ensures,
+      open_noted _ _ _ _ _ _ _ _ _ _ c.loop-at.invariant.0 c.loop-at-test.true _ _ _ _ c.range_of-range.ensures _ c.is_in.ensures c.if-is_in.true c.if-symbol-range.false _ _ c.«open».ensures,
       search rules,
       search rules,
     ))

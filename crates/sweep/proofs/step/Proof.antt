@@ -9,10 +9,7 @@ step_spec =
     tie.close
     (tie.spec (λ c κs. search rules) (λ c κs. search rules) (λ c κs. search rules) (λ c κs. search rules) (λ c. search rules) (λ c. search rules)
     (λ c.
-    let at-cut-at = c.before in
-    let at-pass-endings = at-cut-at.before.before.before in
-    let at-pass-openings = at-pass-endings.before.before.before.before.before.before.before in
-    let at_pre = at-pass-openings.before.before.before.before.before.before.before.before.before.before in (
-      turn_cut _ _ _ _ _ _ _ _ _ _ at-pass-endings.pass-endings.ensures.0 at-pass-openings.pass-openings.ensures.1 at-pass-endings.pass-endings.ensures.1 _ _ _ at_pre.requires.2 at-cut-at.cut_at.ensures c.cut-at2.ensures,
-      (turn_step _ _ _ _ _ _ _ _ _ _ at-pass-endings.pass-endings.ensures.0 at-pass-openings.pass-openings.ensures.1 at-pass-endings.pass-endings.ensures.1, search rules),
+    (
+      turn_cut _ _ _ _ _ _ _ _ _ _ c.pass_endings-j.ensures.0 c.pass_openings-i.ensures.1 c.pass_endings-j.ensures.1 _ _ _ c.requires.2 c.cut_at-opening.ensures c.cut_at-cut.ensures,
+      (turn_step _ _ _ _ _ _ _ _ _ _ c.pass_endings-j.ensures.0 c.pass_openings-i.ensures.1 c.pass_endings-j.ensures.1, search rules),
     )))

@@ -3,8 +3,8 @@ use Rattle.totality.proofs.Passing.{check_laws}
 use Rattle.totality.proofs.check_inputs.Statement.{statement}
 use Rattle.totality.proofs.check_inputs.Tie as tie
 
-pub check-inputs-spec : {M : Type 1} → statement M
-check-inputs-spec =
+pub check_inputs_spec : {M : Type 1} → statement M
+check_inputs_spec =
     tie.close
     (tie.spec (λ c κs. search check_laws) (λ c. search check_laws) (λ c κs. search check_laws) (λ c. search check_laws)
     (λ c κs. search check_laws) (λ c. search check_laws) (λ c. search check_laws) (λ c. search check_laws) (λ c. search check_laws)

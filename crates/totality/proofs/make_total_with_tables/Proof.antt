@@ -3,8 +3,8 @@ use Rattle.totality.proofs.Made.{total_made_laws}
 use Rattle.totality.proofs.make_total_with_tables.Statement.{statement}
 use Rattle.totality.proofs.make_total_with_tables.Tie as tie
 
-pub make-total-with-tables-spec : {M : Type 1} → statement M
-make-total-with-tables-spec =
+pub make_total_with_tables_spec : {M : Type 1} → statement M
+make_total_with_tables_spec =
     tie.close
     (tie.spec (λ c. search total_made_laws) (λ c. search total_made_laws) (λ c. search total_made_laws) (λ c. search total_made_laws)
     (λ c. search total_made_laws) (λ c. search total_made_laws) (λ c. search total_made_laws) (λ c κs. search total_made_laws)

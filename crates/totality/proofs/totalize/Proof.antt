@@ -3,10 +3,10 @@ use Rattle.totality.proofs.Answers.{totalizeLaws, inputs-accepted}
 use Rattle.totality.proofs.totalize.Statement.{statement}
 use Rattle.totality.proofs.totalize.Tie as tie
 
-pub totalize-spec : {M : Type 1} → statement M
-totalize-spec =
+pub totalize_spec : {M : Type 1} → statement M
+totalize_spec =
     tie.close
     (tie.spec (λ c κs. search totalizeLaws) (λ c. search totalizeLaws)
-    (λ c κs. inputs-accepted _ _ _ _ _ c.before.before.before.before.check-inputs.ensures c.before.before.enum_told.given.1)
+    (λ c κs. inputs-accepted _ _ _ _ _ c.check_inputs.ensures c.in-Good.is)
     (λ c. search totalizeLaws) (λ c. search totalizeLaws) (λ c. search totalizeLaws) (λ c. search totalizeLaws) (λ c. search totalizeLaws)
     (λ c. search totalizeLaws) (λ c. search totalizeLaws))

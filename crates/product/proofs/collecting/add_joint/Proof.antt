@@ -3,8 +3,8 @@ use Rattle.product.proofs.Adding.{joint_laws}
 use Rattle.product.proofs.collecting.add_joint.Statement.{statement}
 use Rattle.product.proofs.collecting.add_joint.Tie as tie
 
-pub add-joint-spec : {M : Type 1} → statement M
-add-joint-spec =
+pub add_joint_spec : {M : Type 1} → statement M
+add_joint_spec =
     tie.close
     (tie.spec
     (λ c. search joint_laws) (λ c. search joint_laws) (λ c. search joint_laws) (λ c. search joint_laws) (λ c. search joint_laws)

@@ -3,8 +3,8 @@ use Rattle.product.proofs.Adding.{pair_laws}
 use Rattle.product.proofs.collecting.add_pair.Statement.{statement}
 use Rattle.product.proofs.collecting.add_pair.Tie as tie
 
-pub add-pair-spec : {M : Type 1} → statement M
-add-pair-spec =
+pub add_pair_spec : {M : Type 1} → statement M
+add_pair_spec =
     tie.close
     (tie.spec
     (λ c. search pair_laws) (λ c. search pair_laws) (λ c κs. search pair_laws) (λ c κs. search pair_laws) (λ c. search pair_laws)

@@ -12,22 +12,22 @@ use Rattle.product.proofs.Queueing.{queued_room}
 use Rattle.product.proofs.collecting.add_pairs.Statement.{statement}
 use Rattle.product.proofs.collecting.add_pairs.Tie as tie
 
-abbrev invariant-loop : tie.invariant-loop
-invariant-loop a aruns b bruns queue t n buf₀ f₀ i₀ buf f i =
+abbrev invariant-loop-i : tie.invariant-loop-i
+invariant-loop-i a aruns b bruns queue t n buf₀ f₀ i₀ buf f i =
     (length buf ≡ length buf₀) × (i ≤ n)
     × Rest buf f.sorted f.end (transitions_from (place_in (table_of queue n)) (read a) (read b) i (drop i (table_of queue n))) (transitions_from (place_in (table_of queue n)) (read a) (read b) 0 (table_of queue n))
 
-abbrev decreases-loop : tie.decreases-loop
-decreases-loop a aruns b bruns queue t n buf₀ f₀ i₀ buf f i = n - i
+abbrev decreases-loop-i : tie.decreases-loop-i
+decreases-loop-i a aruns b bruns queue t n buf₀ f₀ i₀ buf f i = n - i
 
-pub add-pairs-spec : {M : Type 1} → statement M
-add-pairs-spec =
+pub add_pairs_spec : {M : Type 1} → statement M
+add_pairs_spec =
     tie.close
     (tie.spec
-    invariant-loop decreases-loop (λ c. search pairs_laws)
-    (λ c κs. let g = c.before.before.before.before.before.before.before.before.before.before.args in
-    let s = c.before.before.before.before.before.before.before.before.before.before.requires in
-    let t = c.before.loop-test.true in (
+    invariant-loop-i decreases-loop-i (λ c. search pairs_laws)
+    (λ c κs. let g = c.args in
+    let s = c.requires in
+    let t = c.loop-i-test.true in (
       s.0,
       s.1,
       s.2,
@@ -36,15 +36,15 @@ add-pairs-spec =
       t,
       within_left g.a.now g.b.now _ _ _ s.5 (queued_room _ _ _ s.3) t,
       within_right g.a.now g.b.now _ _ _ s.5 (queued_room _ _ _ s.3) t,
-      c.before.before.loop.invariant.2.room,
+      c.loop-i.invariant.2.room,
     ))
     (λ c. search pairs_laws)
-    (λ c. let l = c.before.before.before.before.before.before.before.loop in
-    pairs_over _ _ _ _ _ c.before.before.before.before.before.before.before.before.before.before.before.before.before.before.before.args.queue.now _ _ _ _ l.invariant.2 c.before.before.before.before.before.before.before.before.before.before.before.before.before.before.before.requires.3 c.before.before.before.before.before.before.loop-test.true _ _ _ c.before.before.before.before.add-pair.ensures c.if1.true)
+    (λ c. let l = c.loop-i in
+    pairs_over _ _ _ _ _ c.args.queue.now _ _ _ _ l.invariant.2 c.requires.3 c.loop-i-test.true _ _ _ c.add_pair-f.ensures c.if-buf-f.true)
     (λ c. search pairs_laws) (λ c. search pairs_laws)
-    (λ c. let l = c.before.before.before.before.before.before.before.loop in (
+    (λ c. let l = c.loop-i in (
       search pairs_laws,
       search pairs_laws,
-      pairs_next _ _ _ _ _ c.before.before.before.before.before.before.before.before.before.before.before.before.before.before.before.args.queue.now _ _ _ _ l.invariant.2 c.before.before.before.before.before.before.before.before.before.before.before.before.before.before.before.requires.3 c.before.before.before.before.before.before.loop-test.true _ _ _ c.before.before.before.before.add-pair.ensures c.if1.false,
+      pairs_next _ _ _ _ _ c.args.queue.now _ _ _ _ l.invariant.2 c.requires.3 c.loop-i-test.true _ _ _ c.add_pair-f.ensures c.if-buf-f.false,
     ))
     (λ c. search pairs_laws) (λ c. search pairs_laws))

@@ -12,33 +12,33 @@ use Rattle.product.proofs.Adding.{run_laws, run_over, run_next}
 use Rattle.product.proofs.collecting.add_run.Statement.{statement}
 use Rattle.product.proofs.collecting.add_run.Tie as tie
 
-abbrev invariant-loop : tie.invariant-loop
-invariant-loop d run i queue t n buf₀ k₀ at₀ buf k at =
+abbrev invariant-loop-at : tie.invariant-loop-at
+invariant-loop-at d run i queue t n buf₀ k₀ at₀ buf k at =
     (length buf ≡ length buf₀) × (at ≤ length run) × RunTo 256 (read_records (drop at run))
     × Rest buf k.sorted k.end (links (table_of queue n) i (record_at d 0 ∷ []) (read_records (drop at run))) (records_in buf₀ 0 k₀.end ++ links (table_of queue n) i (record_at d 0 ∷ []) (read_records run))
 
-abbrev decreases-loop : tie.decreases-loop
-decreases-loop d run i queue t n buf₀ k₀ at₀ buf k at = length run - at
+abbrev decreases-loop-at : tie.decreases-loop-at
+decreases-loop-at d run i queue t n buf₀ k₀ at₀ buf k at = length run - at
 
-pub add-run-spec : {M : Type 1} → statement M
-add-run-spec =
+pub add_run_spec : {M : Type 1} → statement M
+add_run_spec =
     tie.close
     (tie.spec
-    invariant-loop decreases-loop (λ c. search run_laws) (λ c. search run_laws) (λ c. search run_laws) (λ c. search run_laws) (λ c. search run_laws)
+    invariant-loop-at decreases-loop-at (λ c. search run_laws) (λ c. search run_laws) (λ c. search run_laws) (λ c. search run_laws) (λ c. search run_laws)
     (λ c. search run_laws) (λ c. search run_laws) (λ c. search run_laws) (λ c. search run_laws) (λ c. search run_laws) (λ c. search run_laws)
     (λ c. search run_laws) (λ c. search run_laws)
     (λ c κs. (search run_laws, search run_laws, search run_laws, search run_laws, search run_laws, search run_laws, search run_laws))
     (λ c. search run_laws)
-    (λ c. let a = c.before.before.before.before.before.before.before.before.before.before.before.before.before.before.before.before.before.args in
-    let l = c.before.before.before.before.before.before.before.before.before.before.before.loop in
-    run_over _ _ _ _ _ a.d.now a.run.now l.at _ l.invariant.3 c.before.before.before.before.before.before.before.before.before.before.loop-test.true _ _ _ c.before.before.before.before.add-joint.ensures c.if2.true)
+    (λ c. let a = c.args in
+    let l = c.loop-at in
+    run_over _ _ _ _ _ a.d.now a.run.now l.at _ l.invariant.3 c.loop-at-test.true _ _ _ c.add_joint-k.ensures c.if-buf-k.true)
     (λ c. search run_laws)
     (λ c. search run_laws)
-    (λ c. let a = c.before.before.before.before.before.before.before.before.before.before.before.before.before.before.before.before.before.args in
-    let l = c.before.before.before.before.before.before.before.before.before.before.before.loop in (
+    (λ c. let a = c.args in
+    let l = c.loop-at in (
       search run_laws,
       search run_laws,
       search run_laws,
-      run_next _ _ _ _ _ a.d.now a.run.now l.at _ l.invariant.3 c.before.before.before.before.before.before.before.before.before.before.loop-test.true _ _ _ c.before.before.before.before.add-joint.ensures c.if2.false,
+      run_next _ _ _ _ _ a.d.now a.run.now l.at _ l.invariant.3 c.loop-at-test.true _ _ _ c.add_joint-k.ensures c.if-buf-k.false,
     ))
     (λ c. search run_laws) (λ c. search run_laws))

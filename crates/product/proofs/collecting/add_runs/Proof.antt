@@ -12,37 +12,37 @@ use Rattle.product.proofs.Records.{left_to, part_to}
 use Rattle.product.proofs.collecting.add_runs.Statement.{statement}
 use Rattle.product.proofs.collecting.add_runs.Tie as tie
 
-abbrev invariant-loop : tie.invariant-loop
-invariant-loop first second i queue t n buf₀ k₀ from₀ at₀ buf k from at =
+abbrev invariant-loop-at : tie.invariant-loop-at
+invariant-loop-at first second i queue t n buf₀ k₀ from₀ at₀ buf k from at =
     (length buf ≡ length buf₀) × (at ≤ length first) × (from ≤ length second) × RunTo (length t / 256) (read_records (drop at first)) × RunTo 256 (read_records (drop from second))
     × Rest buf k.sorted k.end (links (table_of queue n) i (read_records (drop at first)) (read_records (drop from second))) (records_in buf₀ 0 k₀.end ++ links (table_of queue n) i (read_records first) (read_records second))
 
-abbrev decreases-loop : tie.decreases-loop
-decreases-loop first second i queue t n buf₀ k₀ from₀ at₀ buf k from at = length first - at
+abbrev decreases-loop-at : tie.decreases-loop-at
+decreases-loop-at first second i queue t n buf₀ k₀ from₀ at₀ buf k from at = length first - at
 
-pub add-runs-spec : {M : Type 1} → statement M
-add-runs-spec =
+pub add_runs_spec : {M : Type 1} → statement M
+add_runs_spec =
     tie.close
     (tie.spec
-    invariant-loop decreases-loop (λ c. search runs_laws) (λ c. search runs_laws) (λ c. search runs_laws) (λ c. search runs_laws) (λ c. search runs_laws)
+    invariant-loop-at decreases-loop-at (λ c. search runs_laws) (λ c. search runs_laws) (λ c. search runs_laws) (λ c. search runs_laws) (λ c. search runs_laws)
     (λ c κs. search runs_laws) (λ c. search runs_laws) (λ c. search runs_laws) (λ c. search runs_laws) (λ c. search runs_laws)
     (λ c. search runs_laws) (λ c. search runs_laws) (λ c. search runs_laws) (λ c. search runs_laws) (λ c. search runs_laws)
-    (λ c κs. let l = c.before.before.before.before.before.before.loop in
-    (search runs_laws, search runs_laws, part_to 256 c.before.before.before.before.before.before.before.before.before.before.before.before.args.second.now l.from _ _ c.before.before.before.pass-ended.ensures.0 l.invariant.4 c.before.before.before.pass-ended.ensures.1, search runs_laws, search runs_laws, search runs_laws))
+    (λ c κs. let l = c.loop-at in
+    (search runs_laws, search runs_laws, part_to 256 c.args.second.now l.from _ _ c.pass_ended-from.ensures.0 l.invariant.4 c.pass_ended-from.ensures.1, search runs_laws, search runs_laws, search runs_laws))
     (λ c. search runs_laws)
-    (λ c. let a = c.before.before.before.before.before.before.before.before.before.before.before.before.before.before.before.before.before.args in
-    let l = c.before.before.before.before.before.before.before.before.before.before.before.loop in
-    let p = c.before.before.before.before.before.before.before.before.pass-ended.ensures in
-    runs_over _ _ _ _ _ a.first.now a.second.now l.from l.at _ l.invariant.5 _ l.invariant.3 c.before.before.before.before.before.before.before.before.before.before.loop-test.true _ p.1 _ _ _ c.before.before.before.before.add-run.ensures c.if1.true)
+    (λ c. let a = c.args in
+    let l = c.loop-at in
+    let p = c.pass_ended-from.ensures in
+    runs_over _ _ _ _ _ a.first.now a.second.now l.from l.at _ l.invariant.5 _ l.invariant.3 c.loop-at-test.true _ p.1 _ _ _ c.add_run-k.ensures c.if-buf-k.true)
     (λ c. search runs_laws) (λ c. search runs_laws)
-    (λ c. let a = c.before.before.before.before.before.before.before.before.before.before.before.before.before.before.before.before.before.args in
-    let l = c.before.before.before.before.before.before.before.before.before.before.before.loop in
-    let p = c.before.before.before.before.before.before.before.before.pass-ended.ensures in (
+    (λ c. let a = c.args in
+    let l = c.loop-at in
+    let p = c.pass_ended-from.ensures in (
       search runs_laws,
       search runs_laws,
       p.0,
       search runs_laws,
       left_to 256 a.second.now l.from _ _ p.0 l.invariant.4 p.1,
-      runs_next _ _ _ _ _ a.first.now a.second.now l.from l.at _ l.invariant.5 _ l.invariant.3 c.before.before.before.before.before.before.before.before.before.before.loop-test.true _ p.1 _ _ _ c.before.before.before.before.add-run.ensures c.if1.false,
+      runs_next _ _ _ _ _ a.first.now a.second.now l.from l.at _ l.invariant.5 _ l.invariant.3 c.loop-at-test.true _ p.1 _ _ _ c.add_run-k.ensures c.if-buf-k.false,
     ))
     (λ c. search runs_laws) (λ c. search runs_laws))

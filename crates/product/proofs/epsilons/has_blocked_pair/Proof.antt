@@ -10,15 +10,15 @@ use Rattle.product.proofs.Blocking.{search_laws}
 use Rattle.product.proofs.epsilons.has_blocked_pair.Statement.{statement}
 use Rattle.product.proofs.epsilons.has_blocked_pair.Tie as tie
 
-abbrev invariant-loop : tie.invariant-loop
-invariant-loop a aruns b bruns queue n i₀ i = (i ≤ n) × (any (blocked_at (read a) (read b)) (drop i (table_of queue n)) ≡ any (blocked_at (read a) (read b)) (table_of queue n))
+abbrev invariant-loop-i : tie.invariant-loop-i
+invariant-loop-i a aruns b bruns queue n i₀ i = (i ≤ n) × (any (blocked_at (read a) (read b)) (drop i (table_of queue n)) ≡ any (blocked_at (read a) (read b)) (table_of queue n))
 
-abbrev decreases-loop : tie.decreases-loop
-decreases-loop a aruns b bruns queue n i₀ i = n - i
+abbrev decreases-loop-i : tie.decreases-loop-i
+decreases-loop-i a aruns b bruns queue n i₀ i = n - i
 
-pub has-blocked-pair-spec : {M : Type 1} → statement M
-has-blocked-pair-spec =
+pub has_blocked_pair_spec : {M : Type 1} → statement M
+has_blocked_pair_spec =
     tie.close
     (tie.spec
-    invariant-loop decreases-loop (λ c. search search_laws) (λ c. search search_laws) (λ c. search search_laws) (λ c κs. search search_laws)
+    invariant-loop-i decreases-loop-i (λ c. search search_laws) (λ c. search search_laws) (λ c. search search_laws) (λ c κs. search search_laws)
     (λ c. search search_laws) (λ c. search search_laws) (λ c. search search_laws) (λ c. search search_laws) (λ c. search search_laws))

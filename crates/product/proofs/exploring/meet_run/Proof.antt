@@ -11,27 +11,26 @@ use Rattle.product.proofs.Queueing.{met_with}
 use Rattle.product.proofs.exploring.meet_run.Statement.{statement}
 use Rattle.product.proofs.exploring.meet_run.Tie as tie
 
-abbrev invariant-loop : tie.invariant-loop
-invariant-loop d run queue₀ t₀ n m₀ at₀ queue t m at = (length t ≡ length t₀) × (at ≤ length run) × Queued queue t m × RunTo 256 (read_records (drop at run)) × (met_with queue m (joint_targets (record_at d 0 ∷ []) (read_records (drop at run))) ≡ met_with queue₀ n (joint_targets (record_at d 0 ∷ []) (read_records run)))
+abbrev invariant-loop-at : tie.invariant-loop-at
+invariant-loop-at d run queue₀ t₀ n m₀ at₀ queue t m at = (length t ≡ length t₀) × (at ≤ length run) × Queued queue t m × RunTo 256 (read_records (drop at run)) × (met_with queue m (joint_targets (record_at d 0 ∷ []) (read_records (drop at run))) ≡ met_with queue₀ n (joint_targets (record_at d 0 ∷ []) (read_records run)))
 
-abbrev decreases-loop : tie.decreases-loop
-decreases-loop d run queue₀ t₀ n m₀ at₀ queue t m at = length run - at
+abbrev decreases-loop-at : tie.decreases-loop-at
+decreases-loop-at d run queue₀ t₀ n m₀ at₀ queue t m at = length run - at
 
-pub meet-run-spec : {M : Type 1} → statement M
-meet-run-spec =
+pub meet_run_spec : {M : Type 1} → statement M
+meet_run_spec =
     tie.close
     (tie.spec
-    invariant-loop decreases-loop (λ c. search run_laws) (λ c. search run_laws) (λ c. search run_laws) (λ c. search run_laws) (λ c. search run_laws)
+    invariant-loop-at decreases-loop-at (λ c. search run_laws) (λ c. search run_laws) (λ c. search run_laws) (λ c. search run_laws) (λ c. search run_laws)
     (λ c. search run_laws) (λ c. search run_laws) (λ c. search run_laws) (λ c. search run_laws) (λ c. search run_laws) (λ c. search run_laws)
     (λ c. search run_laws) (λ c. search run_laws) (λ c. search run_laws)
     (λ c κs. (search run_laws, search run_laws, search run_laws, search run_laws, search run_laws))
     (λ c. search run_laws) (λ c. search run_laws)
-    (λ c. let l = c.before.before.before.before.before.before.before.before.before.before.before.before in
-    let a = c.before.before.before.before.before.before.before.before.before.before.before.before.before.before.before.before.before.args in (
+    (λ c. let a = c.args in (
       search run_laws,
       search run_laws,
-      c.before.before.before.before.meet-record.ensures.queued,
+      c.meet_record-m.ensures.queued,
       search run_laws,
-      run_next a.d.now a.run.now _ _ _ _ _ l.loop.at l.loop.invariant.2 l.loop.invariant.4 c.before.before.before.before.before.before.before.before.before.before.before.loop-test.true _ _ _ c.before.before.before.before.meet-record.ensures,
+      run_next a.d.now a.run.now _ _ _ _ _ c.loop-at.at c.loop-at.invariant.2 c.loop-at.invariant.4 c.loop-at-test.true _ _ _ c.meet_record-m.ensures,
     ))
     (λ c. search run_laws) (λ c. search run_laws) (λ c. search run_laws))

@@ -3,8 +3,8 @@ use Rattle.product.proofs.Finding.{visit_laws}
 use Rattle.product.proofs.exploring.visit_pair.Statement.{statement}
 use Rattle.product.proofs.exploring.visit_pair.Tie as tie
 
-pub visit-pair-spec : {M : Type 1} → statement M
-visit-pair-spec =
+pub visit_pair_spec : {M : Type 1} → statement M
+visit_pair_spec =
     tie.close
     (tie.spec
     (λ c. search visit_laws) (λ c. search visit_laws) (λ c κs. search visit_laws) (λ c κs. search visit_laws)

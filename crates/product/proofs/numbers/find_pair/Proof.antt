@@ -3,8 +3,8 @@ use Rattle.product.proofs.Numbering.{find_laws}
 use Rattle.product.proofs.numbers.find_pair.Statement.{statement}
 use Rattle.product.proofs.numbers.find_pair.Tie as tie
 
-pub find-pair-spec : {M : Type 1} → statement M
-find-pair-spec =
+pub find_pair_spec : {M : Type 1} → statement M
+find_pair_spec =
     tie.close
     (tie.spec
     (λ c. search find_laws) (λ c. search find_laws) (λ c. search find_laws) (λ c. search find_laws) (λ c. search find_laws) (λ c. search find_laws) (λ c. search find_laws))

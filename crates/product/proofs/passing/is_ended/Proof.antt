@@ -4,9 +4,9 @@ use Rattle.product.specs.inner.Tables.{ends_before}
 use Rattle.product.proofs.passing.is_ended.Statement.{statement}
 use Rattle.product.proofs.passing.is_ended.Tie as tie
 
-pub is-ended-spec : {M : Type 1} → statement M
+pub is_ended_spec : {M : Type 1} → statement M
 unfolding ends_before
-is-ended-spec =
+is_ended_spec =
     tie.close
     (tie.spec
     (λ c. search tests) (λ c. search tests) (λ c. search tests) (λ c. search tests) (λ c. search tests))

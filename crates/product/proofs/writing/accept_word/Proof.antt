@@ -4,8 +4,8 @@ use Rattle.product.proofs.Sections.{accept_pair}
 use Rattle.product.proofs.writing.accept_word.Statement.{statement}
 use Rattle.product.proofs.writing.accept_word.Tie as tie
 
-pub accept-word-spec : {M : Type 1} → statement M
-accept-word-spec =
+pub accept_word_spec : {M : Type 1} → statement M
+accept_word_spec =
     tie.close
     (tie.spec
     (λ c. search rules) (λ c. search rules) (λ c. search rules) (λ c. search rules) (λ c. search rules) (λ c. search rules) (λ c. search rules)

@@ -3,5 +3,5 @@ use Rattle.lists.proofs.Tests.{tests}
 use Rattle.product.proofs.writing.both_accept.Statement.{statement}
 use Rattle.product.proofs.writing.both_accept.Tie as tie
 
-pub both-accept-spec : {M : Type 1} → statement M
-both-accept-spec = tie.close (tie.spec (λ c. search tests) (λ c. search tests))
+pub both_accept_spec : {M : Type 1} → statement M
+both_accept_spec = tie.close (tie.spec (λ c. search tests) (λ c. search tests))

@@ -11,16 +11,16 @@ use Rattle.product.proofs.Sections.{words_laws}
 use Rattle.product.proofs.writing.put_accept_words.Statement.{statement}
 use Rattle.product.proofs.writing.put_accept_words.Tie as tie
 
-abbrev invariant-loop : tie.invariant-loop
-invariant-loop a b queue n out₀ at end₀ i₀ out end i = (i ≤ n) × (end ≡ at + i) × (length out ≡ length out₀) × Written out₀ at (map (pair_accept (read a) (read b)) (table_of queue i)) out end
+abbrev invariant-loop-i : tie.invariant-loop-i
+invariant-loop-i a b queue n out₀ at end₀ i₀ out end i = (i ≤ n) × (end ≡ at + i) × (length out ≡ length out₀) × Written out₀ at (map (pair_accept (read a) (read b)) (table_of queue i)) out end
 
-abbrev decreases-loop : tie.decreases-loop
-decreases-loop a b queue n out₀ at end₀ i₀ out end i = n - i
+abbrev decreases-loop-i : tie.decreases-loop-i
+decreases-loop-i a b queue n out₀ at end₀ i₀ out end i = n - i
 
-pub put-accept-words-spec : {M : Type 1} → statement M
-put-accept-words-spec =
+pub put_accept_words_spec : {M : Type 1} → statement M
+put_accept_words_spec =
     tie.close
     (tie.spec
-    invariant-loop decreases-loop (λ c. search words_laws) (λ c. search words_laws) (λ c. search words_laws) (λ c κs. search words_laws)
+    invariant-loop-i decreases-loop-i (λ c. search words_laws) (λ c. search words_laws) (λ c. search words_laws) (λ c κs. search words_laws)
     (λ c. search words_laws) (λ c. search words_laws) (λ c. search words_laws) (λ c. search words_laws) (λ c. search words_laws)
     (λ c. search words_laws) (λ c. search words_laws) (λ c. search words_laws))

@@ -9,16 +9,16 @@ use Rattle.product.proofs.Sections.{labels_laws}
 use Rattle.product.proofs.writing.write_labels.Statement.{statement}
 use Rattle.product.proofs.writing.write_labels.Tie as tie
 
-abbrev invariant-loop : tie.invariant-loop
-invariant-loop queue n names₀ at₀ i₀ names at i = (i ≤ n) × Written names₀ at₀ (write_entries (map pair_label_of (table_of queue i))) names at
+abbrev invariant-loop-i : tie.invariant-loop-i
+invariant-loop-i queue n names₀ at₀ i₀ names at i = (i ≤ n) × Written names₀ at₀ (write_entries (map pair_label_of (table_of queue i))) names at
 
-abbrev decreases-loop : tie.decreases-loop
-decreases-loop queue n names₀ at₀ i₀ names at i = n - i
+abbrev decreases-loop-i : tie.decreases-loop-i
+decreases-loop-i queue n names₀ at₀ i₀ names at i = n - i
 
-pub write-labels-spec : {M : Type 1} → statement M
-write-labels-spec =
+pub write_labels_spec : {M : Type 1} → statement M
+write_labels_spec =
     tie.close
     (tie.spec
-    invariant-loop decreases-loop (λ c κs. search labels_laws) (λ c. search labels_laws) (λ c. search labels_laws) (λ c. search labels_laws)
+    invariant-loop-i decreases-loop-i (λ c κs. search labels_laws) (λ c. search labels_laws) (λ c. search labels_laws) (λ c. search labels_laws)
     (λ c κs. search labels_laws) (λ c. search labels_laws) (λ c. search labels_laws) (λ c. search labels_laws)
     (λ c. search labels_laws) (λ c. search labels_laws))

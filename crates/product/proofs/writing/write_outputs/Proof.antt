@@ -4,12 +4,12 @@ use Rattle.product.proofs.Making.{product_made, within_256}
 use Rattle.product.proofs.writing.write_outputs.Statement.{statement}
 use Rattle.product.proofs.writing.write_outputs.Tie as tie
 
-pub write-outputs-spec : {M : Type 1} → statement M
-write-outputs-spec =
+pub write_outputs_spec : {M : Type 1} → statement M
+write_outputs_spec =
     tie.close
     (tie.spec
     (λ c κs. search rules)
-    (λ c κs. let s = c.before.before.before.before.before.before.before.before.before.before.before.requires in (s.2, s.3, within_256 _ _ s.0 s.1 _ s.4, s.9))
+    (λ c κs. let s = c.requires in (s.2, s.3, within_256 _ _ s.0 s.1 _ s.4, s.9))
     (λ c. search rules) (λ c. search rules)
-    (λ c. let s = c.before.before.before.before.before.before.before.before.before.before.before.before.before.before.requires in
-    product_made _ _ _ _ s.5 _ s.6 s.7 s.2 _ _ _ _ _ _ c.before.before.before.before.before.before.write-sheet.ensures c.before.before.write-labels.ensures))
+    (λ c. let s = c.requires in
+    product_made _ _ _ _ s.5 _ s.6 s.7 s.2 _ _ _ _ _ _ c.write_sheet-words.ensures c.write_labels-bytes.ensures))

@@ -7,25 +7,25 @@ use Rattle.product.proofs.Queueing.{queued_room}
 use Rattle.product.proofs.writing.write_product.Statement.{statement}
 use Rattle.product.proofs.writing.write_product.Tie as tie
 
-pub write-product-spec : {M : Type 1} → statement M
-write-product-spec =
+pub write_product_spec : {M : Type 1} → statement M
+write_product_spec =
     tie.close
     (tie.spec
     (λ c. search rules) (λ c κs. search rules) (λ c. search rules) (λ c. search rules) (λ c. search rules)
-    (λ c. search rules) (λ c κs. let s = c.before.before.before.before.before.before.before.before.before.before.requires in (s.0, s.1, s.2, s.3, s.4, s.5, small_memory))
+    (λ c. search rules) (λ c κs. let s = c.requires in (s.0, s.1, s.2, s.3, s.4, s.5, small_memory))
     (λ c κs. search rules) (λ c. search rules) (λ c. search rules) (λ c. search rules)
     (λ c. search rules)
-    (λ c. part_count _ _ _ _ _ _ c.before.before.before.collect-pairs.ensures (omega (arith, c.before.if2.false)))
-    (λ c κs. let s = c.before.before.before.before.before.before.before.before.before.before.before.before.before.before.before.before.requires in
-    let p = c.before.before.before.before.before.collect-pairs.ensures in (
+    (λ c. part_count _ _ _ _ _ _ c.collect_pairs-behind.ensures (omega (arith, c.if-behind-gt640.false)))
+    (λ c κs. let s = c.requires in
+    let p = c.collect_pairs-behind.ensures in (
       s.0.accepted,
       s.1.accepted,
       queued_room _ _ _ s.3,
       s.4,
       s.5,
       s.6,
-      part_words _ _ _ _ _ _ p (omega (arith, c.before.before.before.if2.false)),
-      part_few _ _ _ _ _ _ p (omega (arith, c.before.before.before.if2.false)),
+      part_words _ _ _ _ _ _ p (omega (arith, c.if-behind-gt640.false)),
+      part_few _ _ _ _ _ _ p (omega (arith, c.if-behind-gt640.false)),
       s.7,
       s.8,
     ))

@@ -3,8 +3,8 @@ use Rattle.sweep.proofs.Putting.{order_laws}
 use Rattle.sweep.proofs.ordering.order_events.Statement.{statement}
 use Rattle.sweep.proofs.ordering.order_events.Tie as tie
 
-pub order-events-spec : {M : Type 1} → statement M
-order-events-spec =
+pub order_events_spec : {M : Type 1} → statement M
+order_events_spec =
     tie.close
     (tie.spec (λ c. search order_laws) (λ c κs. search order_laws) (λ c. search order_laws) (λ c κs. search order_laws) (λ c. search order_laws)
     (λ c. search order_laws) (λ c. search order_laws) (λ c κs. search order_laws) (λ c. search order_laws) (λ c. search order_laws) (λ c. search order_laws))

@@ -3,7 +3,7 @@ use Rattle.totality.proofs.Writing.{word_laws}
 use Rattle.totality.proofs.total.flipped_word_if.Statement.{statement}
 use Rattle.totality.proofs.total.flipped_word_if.Tie as tie
 
-pub flipped-word-if-spec : {M : Type 1} → statement M
-flipped-word-if-spec =
+pub flipped_word_if_spec : {M : Type 1} → statement M
+flipped_word_if_spec =
     tie.close
     (tie.spec (λ c. search word_laws) (λ c. search word_laws) (λ c. search word_laws))

@@ -9,16 +9,16 @@ use Rattle.totality.proofs.Writing.{accepts_laws}
 use Rattle.totality.proofs.total.put_accepts.Statement.{statement}
 use Rattle.totality.proofs.total.put_accepts.Tie as tie
 
-abbrev invariant-loop : tie.invariant-loop
-invariant-loop words flip out₀ at end₀ i₀ out end i = (i ≤ length words) × (end ≡ at + i) × (length out ≡ length out₀) × Written out₀ at (map (flipped_word_if flip) (take i words)) out end
+abbrev invariant-loop-i : tie.invariant-loop-i
+invariant-loop-i words flip out₀ at end₀ i₀ out end i = (i ≤ length words) × (end ≡ at + i) × (length out ≡ length out₀) × Written out₀ at (map (flipped_word_if flip) (take i words)) out end
 
-abbrev decreases-loop : tie.decreases-loop
-decreases-loop words flip out₀ at end₀ i₀ out end i = length words - i
+abbrev decreases-loop-i : tie.decreases-loop-i
+decreases-loop-i words flip out₀ at end₀ i₀ out end i = length words - i
 
-pub put-accepts-spec : {M : Type 1} → statement M
-put-accepts-spec =
+pub put_accepts_spec : {M : Type 1} → statement M
+put_accepts_spec =
     tie.close
-    (tie.spec invariant-loop decreases-loop (λ c. search accepts_laws) (λ c. search accepts_laws) (λ c. search accepts_laws)
+    (tie.spec invariant-loop-i decreases-loop-i (λ c. search accepts_laws) (λ c. search accepts_laws) (λ c. search accepts_laws)
     (λ c κs. search accepts_laws) (λ c. search accepts_laws) (λ c. search accepts_laws) (λ c. search accepts_laws)
     (λ c. search accepts_laws) (λ c. search accepts_laws) (λ c. search accepts_laws) (λ c. search accepts_laws)
     (λ c. search accepts_laws))

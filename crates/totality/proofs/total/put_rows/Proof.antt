@@ -12,26 +12,25 @@ use Rattle.totality.proofs.Rows.{rows_laws, rows_next}
 use Rattle.totality.proofs.total.put_rows.Statement.{statement}
 use Rattle.totality.proofs.total.put_rows.Tie as tie
 
-abbrev invariant-loop : tie.invariant-loop
-invariant-loop s starts lower upper holes₀ out₀ at n end₀ q₀ holes out end q =
+abbrev invariant-loop-q : tie.invariant-loop-q
+invariant-loop-q s starts lower upper holes₀ out₀ at n end₀ q₀ holes out end q =
     (n ≡ state_count s) × (q ≤ n) × (length holes ≡ length holes₀) × (length out ≡ length out₀)
     × Left out₀ at (write_records (filled_in lower upper (read s) (states (state_count s)))) out end (write_records (filled_in lower upper (read s) (drop q (states (state_count s)))))
 
-abbrev decreases-loop : tie.decreases-loop
-decreases-loop s starts lower upper holes₀ out₀ at n end₀ q₀ holes out end q = n - q
+abbrev decreases-loop-q : tie.decreases-loop-q
+decreases-loop-q s starts lower upper holes₀ out₀ at n end₀ q₀ holes out end q = n - q
 
-pub put-rows-spec : {M : Type 1} → statement M
-put-rows-spec =
+pub put_rows_spec : {M : Type 1} → statement M
+put_rows_spec =
     tie.close
-    (tie.spec invariant-loop decreases-loop (λ c. search rows_laws) (λ c. search rows_laws) (λ c κs. search rows_laws) (λ c κs. search rows_laws) (λ c. search rows_laws) (λ c. search rows_laws)
+    (tie.spec invariant-loop-q decreases-loop-q (λ c. search rows_laws) (λ c. search rows_laws) (λ c κs. search rows_laws) (λ c κs. search rows_laws) (λ c. search rows_laws) (λ c. search rows_laws)
     (λ c.
-    let run = c.before.before.before.before.before.before.before in
-    let turn = run.before.before in (
+    (
       search rules,
       search rules,
       search rules,
       search rules,
-      rows_next _ _ _ _ _ _ _ turn.before.before.before.before.before.before.args.s.now _ turn.loop.invariant.4 run.before.loop-test.true
-          _ run.run.ensures _ _ c.before.before.before.before.put-filled.ensures,
+      rows_next _ _ _ _ _ _ _ c.args.s.now _ c.loop-q.invariant.4 c.loop-q-test.true
+          _ c.run-run.ensures _ _ c.put_filled-end.ensures,
     ))
     (λ c. search rows_laws) (λ c. search rows_laws) (λ c. search rows_laws))

@@ -8,15 +8,15 @@ use Rattle.totality.proofs.Merging.{leading_laws}
 use Rattle.totality.proofs.total.records_before.Statement.{statement}
 use Rattle.totality.proofs.total.records_before.Tie as tie
 
-abbrev invariant-loop : tie.invariant-loop
-invariant-loop run i first k₀ k = (k ≤ length run) × (i + 5 * leading first (read_records (drop i run)) ≡ k + 5 * leading first (read_records (drop k run)))
+abbrev invariant-loop-k : tie.invariant-loop-k
+invariant-loop-k run i first k₀ k = (k ≤ length run) × (i + 5 * leading first (read_records (drop i run)) ≡ k + 5 * leading first (read_records (drop k run)))
 
-abbrev decreases-loop : tie.decreases-loop
-decreases-loop run i first k₀ k = length run - k
+abbrev decreases-loop-k : tie.decreases-loop-k
+decreases-loop-k run i first k₀ k = length run - k
 
-pub records-before-spec : {M : Type 1} → statement M
-records-before-spec =
+pub records_before_spec : {M : Type 1} → statement M
+records_before_spec =
     tie.close
-    (tie.spec invariant-loop decreases-loop (λ c. search leading_laws) (λ c. search leading_laws) (λ c. search leading_laws)
+    (tie.spec invariant-loop-k decreases-loop-k (λ c. search leading_laws) (λ c. search leading_laws) (λ c. search leading_laws)
     (λ c. search leading_laws) (λ c. search leading_laws) (λ c. search leading_laws) (λ c. search leading_laws)
     (λ c. search leading_laws) (λ c. search leading_laws) (λ c. search leading_laws))
