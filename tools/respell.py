@@ -23,7 +23,7 @@ TYPES = re.compile(rf"(?m)^(?:pub )?(?:record|data) ({NAME})[^\n]*\bwhere\n((?: 
 FIELD = re.compile(rf"(?m)^  (?:pub )?({NAME}) :(?= |$)")
 QUIET = re.compile(r'"(?:[^"\\\n]|\\.)*"|(?<![^\s(){}.;,@"«»])--[^\n]*')
 BLOCK = re.compile(r"\b(?:requires|ensures)\s*\*?\s*(?:\w+\s*)?\{|\bghost\s+(?:invariant\s*)?(?:\w+\s*:\s*)?\{|\bghost use\b")
-MADE = re.compile(r"/proofs/(?:.*/)?(?:Proof|Answers|Invariants)\.antt$")
+MADE = re.compile(r"/proofs/.+/(?:Proof|Answers|Invariants)\.antt$")
 
 
 def snake(name):
