@@ -5,13 +5,13 @@ ghost use Rattle.grammar.specs.Grammar.{run, space, needed_space, token, name};
 ghost use Rattle.grammar.specs.inner.Pieces.{piece_of, name_of};
 
 // A place in a text.
-#[derive(Drop)]
+#[derive(Clone, Copy)]
 pub struct Cursor {
     pub at: usize,
 }
 
 // The bytes of a text from start to end.
-#[derive(Drop)]
+#[derive(Clone, Copy)]
 pub struct TextSpan {
     pub start: usize,
     pub end: usize,
