@@ -10,7 +10,7 @@ ghost use Rattle.dsu.specs.Laws.{Valid};
 
 use refusal::StateRefusal;
 
-#[derive(Drop)]
+#[derive(Clone, Copy)]
 pub struct DSU {
     pub repr: [u32; 512],
     pub size: [u32; 512],

@@ -11,7 +11,7 @@ pub struct Cursor {
 }
 
 // The bytes of a text from start to end.
-#[derive(Drop)]
+#[derive(Clone, Copy)]
 pub struct TextSpan {
     pub start: usize,
     pub end: usize,

@@ -6,8 +6,10 @@ ghost use Rattle.std.proofs.lemmas.List.Edits.{sets};
 ghost use Rattle.sheets.specs.Fault.{fault};
 ghost use Rattle.limits.specs.Limits.{loops, loop_sheet};
 
-use libc::STDOUT_FILENO;
 use sheets::Checked;
+
+// Standard output.
+const STDOUT: i32 = 1;
 
 // Stores the count m and m records from state 0 to state 0, whose ranges are (0, 0), (1, 1) and so on; answers the place behind.
 fn put_records(sheet: &mut [u32], at: usize, m: u32) -> usize
@@ -39,10 +41,10 @@ fn fault(n: u32, m: u32) -> u32
 }
 
 fn say(count: u32, what: &[u8], fault: u32) {
-    io::print_decimal(STDOUT_FILENO, count as u64);
-    io::write_all(STDOUT_FILENO, what);
-    io::print_decimal(STDOUT_FILENO, fault as u64);
-    io::write_all(STDOUT_FILENO, b"\n");
+    io::print_decimal(STDOUT, count as u64);
+    io::write_all(STDOUT, what);
+    io::print_decimal(STDOUT, fault as u64);
+    io::write_all(STDOUT, b"\n");
 }
 
 fn main() {

@@ -7,8 +7,10 @@ ghost use Rattle.stores.specs.Written.{Written};
 ghost use Rattle.lookups.specs.Lookups.{links, chain, number, to_state, to_set, to_sets, colliding};
 
 use determinize::Determinized;
-use libc::STDOUT_FILENO;
 use sheets::Checked;
+
+// Standard output.
+const STDOUT: i32 = 1;
 
 // Writes what a sheet has ahead of its records: the start 0, the number n of states, their accept words and the number m of records; answers the place behind.
 fn put_front(sheet: &mut [u32], n: u32, accepts: &[u32], m: u32) -> usize
@@ -136,15 +138,15 @@ fn count(sheet: &[u32]) -> Counted {
 }
 
 fn say(what: &[u8], count: Counted) {
-    io::write_all(STDOUT_FILENO, what);
-    io::print_decimal(STDOUT_FILENO, count.states as u64);
-    io::write_all(STDOUT_FILENO, b" states, ");
-    io::print_decimal(STDOUT_FILENO, count.compared);
-    io::write_all(STDOUT_FILENO, b" sets compared");
+    io::write_all(STDOUT, what);
+    io::print_decimal(STDOUT, count.states as u64);
+    io::write_all(STDOUT, b" states, ");
+    io::print_decimal(STDOUT, count.compared);
+    io::write_all(STDOUT, b" sets compared");
     if count.compared <= 4096 {
-        io::write_all(STDOUT_FILENO, b", at most 4096\n");
+        io::write_all(STDOUT, b", at most 4096\n");
     } else {
-        io::write_all(STDOUT_FILENO, b", over 4096\n");
+        io::write_all(STDOUT, b", over 4096\n");
     }
 }
 

@@ -11,7 +11,7 @@ ghost use Rattle.ranges.specs.Missing.{SortedRanges, missing};
 ghost use Rattle.ranges.specs.inner.Missing.{gap, span_words};
 
 // The two ends of a stretch of symbols: the least and the greatest.
-#[derive(Drop)]
+#[derive(Clone, Copy)]
 pub struct Ends {
     pub lower: u32,
     pub upper: u32,

@@ -9,7 +9,8 @@ ghost use Rattle.replay.specs.Lines.{ended, told, answer, line_at};
 ghost use Rattle.replay.specs.Cases.{list_at, is_last, bytes_before};
 ghost use Rattle.replay.specs.Counting.{case_at, fresh_tally, begun, Bounded, tallied};
 
-use libc::STDOUT_FILENO;
+// Standard output.
+const STDOUT: i32 = 1;
 
 // A 32-bit word as a size or an index.
 pub fn wide(x: u32) -> usize
@@ -224,9 +225,9 @@ impl Tally {
             return self;
         }
         self.differed += 1;
-        io::write_all(STDOUT_FILENO, b"case ");
-        io::print_decimal(STDOUT_FILENO, self.agreed + self.differed);
-        io::write_all(STDOUT_FILENO, b" differs\n");
+        io::write_all(STDOUT, b"case ");
+        io::print_decimal(STDOUT, self.agreed + self.differed);
+        io::write_all(STDOUT, b" differs\n");
         self
     }
 }

@@ -23,11 +23,14 @@
 #![tactic(auto)]
 
 ghost use Rattle.std.specs.Prelude.{◌≡◌, ◌<◌};
+ghost use Rattle.io.specs.Counts.{IsPrefixLen};
 ghost use Rattle.replay.specs.Counting.{Bounded};
 ghost use Rattle.replay_all.specs.Agreement.{Agrees, Counted, Turned};
 
-use libc::STDOUT_FILENO;
 use replay::Tally;
+use std::fs;
+use std::io::Read;
+use std::rt::Files;
 
 mod acceptance;
 mod closures;
@@ -38,7 +41,10 @@ mod symbols;
 mod texts;
 mod verdicts;
 
-#[derive(Drop)]
+// Standard output.
+const STDOUT: i32 = 1;
+
+#[derive(Clone, Copy)]
 enum ListKind {
     Sheets,
     Labels,
@@ -111,46 +117,68 @@ fn replay_list(kind: ListKind, text: &[u8]) -> Tally
 
 // Prints how many cases agreed and how many differed.
 fn print_counts(t: Tally) {
-    io::write_all(STDOUT_FILENO, b"agreed ");
-    io::print_decimal(STDOUT_FILENO, t.agreed);
-    io::write_all(STDOUT_FILENO, b", differed ");
-    io::print_decimal(STDOUT_FILENO, t.differed);
-    io::write_all(STDOUT_FILENO, b"\n");
+    io::write_all(STDOUT, b"agreed ");
+    io::print_decimal(STDOUT, t.agreed);
+    io::write_all(STDOUT, b", differed ");
+    io::print_decimal(STDOUT, t.differed);
+    io::write_all(STDOUT, b"\n");
 }
 
-// Replays the list in a file, and prints its name and the counts.
-fn replay_file(kind: ListKind, name: &[u8]) {
-    let file = os::open_read(name);
-    if file < 0 {
-        os::fail(name);
-        return;
+// Reads a file into the room for its bytes, until the room is full or the file ends; answers how many bytes stand there. A read that fails counts as
+// the end.
+fn read_text(file: &mut impl Read, text: &mut [u8]) -> usize
+    ensures { IsPrefixLen result text.new }
+{
+    let mut got = 0;
+    while got < text.len() {
+        match file.read(&mut text[got..]) {
+            Ok(n) => {
+                if n == 0 {
+                    return got;
+                }
+                got += n;
+            }
+            Err(_) => {
+                return got;
+            }
+        }
     }
+    got
+}
+
+// Replays the list in a file, and prints its name and the counts. Of a file that can't be opened it prints the name and the reason to standard error.
+fn replay_file(rt: &(impl Files + Eprint), kind: ListKind, name: &str) {
     let mut text = io::large_buffer();
-    let got = io::read_full(file, &mut text);
-    libc::close(file);
+    let got = match fs::open(rt, name) {
+        Ok(mut file) => read_text(&mut file, &mut text),
+        Err(error) => {
+            let _ = eprintln!(rt; "{name}: {error}");
+            return;
+        }
+    };
     let t = replay_list(kind, &text[..got]);
-    io::write_all(STDOUT_FILENO, name);
-    io::write_all(STDOUT_FILENO, b": ");
+    io::write_all(STDOUT, name.as_bytes());
+    io::write_all(STDOUT, b": ");
     print_counts(t);
 }
 
-fn main() {
-    replay_file(ListKind::Sheets, b"sheets");
-    replay_file(ListKind::Labels, b"labels");
-    replay_file(ListKind::Accepts, b"accepts");
-    replay_file(ListKind::Text, b"text");
-    replay_file(ListKind::Ranges, b"ranges");
-    replay_file(ListKind::Closures, b"closures");
-    replay_file(ListKind::Determinize, b"determinize");
-    replay_file(ListKind::Product, b"product");
-    replay_file(ListKind::Totalize, b"totalize");
-    replay_file(ListKind::Complement, b"complement");
-    replay_file(ListKind::EpsilonEliminate, b"epsilon_eliminate");
-    replay_file(ListKind::IsNfa, b"is_nfa");
-    replay_file(ListKind::Nonempty, b"nonempty");
-    replay_file(ListKind::IsEquivalent, b"is_equivalent");
-    replay_file(ListKind::IsSubautomaton, b"is_subautomaton");
-    replay_file(ListKind::Parse, b"parse");
-    replay_file(ListKind::Write, b"write");
-    replay_file(ListKind::Equality, b"equality");
+fn main(rt: HostRuntime) {
+    replay_file(&rt, ListKind::Sheets, "sheets");
+    replay_file(&rt, ListKind::Labels, "labels");
+    replay_file(&rt, ListKind::Accepts, "accepts");
+    replay_file(&rt, ListKind::Text, "text");
+    replay_file(&rt, ListKind::Ranges, "ranges");
+    replay_file(&rt, ListKind::Closures, "closures");
+    replay_file(&rt, ListKind::Determinize, "determinize");
+    replay_file(&rt, ListKind::Product, "product");
+    replay_file(&rt, ListKind::Totalize, "totalize");
+    replay_file(&rt, ListKind::Complement, "complement");
+    replay_file(&rt, ListKind::EpsilonEliminate, "epsilon_eliminate");
+    replay_file(&rt, ListKind::IsNfa, "is_nfa");
+    replay_file(&rt, ListKind::Nonempty, "nonempty");
+    replay_file(&rt, ListKind::IsEquivalent, "is_equivalent");
+    replay_file(&rt, ListKind::IsSubautomaton, "is_subautomaton");
+    replay_file(&rt, ListKind::Parse, "parse");
+    replay_file(&rt, ListKind::Write, "write");
+    replay_file(&rt, ListKind::Equality, "equality");
 }

@@ -1,4 +1,4 @@
-// The public face for other languages: one C function for each public call. A slice is a pointer and a length. The result is 0, or
+// The public face for other languages: one function for each public call, which the crate ringmatch_c gives to C. The result is 0, or
 // the refusal's number, and then nothing else was written.
 #![tactic(auto)]
 
@@ -35,7 +35,7 @@ fn reply_acceptance(r: Acceptance, answer: &mut u32) -> u32
 
 // The number of an operation's refusal, or 0 with the lengths of its outputs stored.
 fn reply_made(r: Made, words: &mut u64, bytes: &mut u64) -> u32
-    ensures { (o l : List ℕ) → outputs_reply result words.exit.now bytes.new o l ≡ reply (record { words = words.entry.now; bytes = bytes.old }) (output_of r o l) }
+    ensures { (o l : List ℕ) → outputs_reply result words.new bytes.new o l ≡ reply (record { words = words.old; bytes = bytes.old }) (output_of r o l) }
 {
     match r {
         Made::Lengths(w, b) => {
@@ -113,16 +113,14 @@ fn reply_verdict(r: Verdict, same: &mut u32, number: &mut u64) -> u32
 }
 
 // Whether a sheet accepts a word of u32 symbols: answer is 1 if so, else 0. Refusals: 1 to 6.
-#[unsafe(no_mangle)]
-pub extern "C" fn ringmatch_accepts_words(sheet: &[u32], word: &[u32], answer: &mut u32) -> u32
+pub fn ringmatch_accepts_words(sheet: &[u32], word: &[u32], answer: &mut u32) -> u32
     ensures { number_reply result answer.new ≡ accepts_words_reply sheet.now word.now answer.old }
 {
     reply_acceptance(words::accepts_words(sheet, word), answer)
 }
 
 // Whether a sheet accepts a text in UTF-8, as the word of its code points: answer is 1 if so, else 0. Refusals: 1 to 6, then 9.
-#[unsafe(no_mangle)]
-pub extern "C" fn ringmatch_accepts_text(sheet: &[u32], text: &[u8], answer: &mut u32) -> u32
+pub fn ringmatch_accepts_text(sheet: &[u32], text: &[u8], answer: &mut u32) -> u32
     ensures { number_reply result answer.new ≡ accepts_text_reply sheet.now text.now answer.old }
 {
     reply_acceptance(words::accepts_text(sheet, text), answer)
@@ -130,13 +128,7 @@ pub extern "C" fn ringmatch_accepts_text(sheet: &[u32], text: &[u8], answer: &mu
 
 // Whether a sheet accepts a ring series with an outer mark, 0 for a whole last ring and 1 for an unfinished one, which is left off: answer is 1 if
 // so, else 0. Refusals: 1 to 6, then 34.
-#[unsafe(no_mangle)]
-pub extern "C" fn ringmatch_accepts_series(
-    sheet: &[u32],
-    series: &[u32],
-    mark: u32,
-    answer: &mut u32,
-) -> u32
+pub fn ringmatch_accepts_series(sheet: &[u32], series: &[u32], mark: u32, answer: &mut u32) -> u32
     ensures { number_reply result answer.new ≡ accepts_series_reply sheet.now series.now mark answer.old }
 {
     reply_acceptance(marked_series::accepts_series(sheet, series, mark), answer)
@@ -144,8 +136,7 @@ pub extern "C" fn ringmatch_accepts_series(
 
 // The determinization of a sheet and its labels D0, D1 and so on: words is the number of words of the sheet, bytes that of the labels.
 // Outputs of at least 10,500 words and 16,642 bytes. Refusals: 20, 1 to 6, 21, 22.
-#[unsafe(no_mangle)]
-pub extern "C" fn ringmatch_determinize(
+pub fn ringmatch_determinize(
     sheet: &[u32],
     out: &mut [u32],
     names: &mut [u8],
@@ -159,8 +150,7 @@ pub extern "C" fn ringmatch_determinize(
 
 // A sheet with a sink to which each state's holes lead, and its labels with `sink` behind them. Outputs as for `ringmatch_determinize`.
 // Refusals: 20, 1 to 6, 10, 21, 22.
-#[unsafe(no_mangle)]
-pub extern "C" fn ringmatch_totalize(
+pub fn ringmatch_totalize(
     sheet: &[u32],
     labels: &[u8],
     out: &mut [u32],
@@ -175,8 +165,7 @@ pub extern "C" fn ringmatch_totalize(
 
 // A sheet, totalized only if `ringmatch_is_nfa`, with acceptance flipped, and its labels. Outputs as for `ringmatch_determinize`.
 // Refusals: 20, 1 to 6, 10, 21, 22.
-#[unsafe(no_mangle)]
-pub extern "C" fn ringmatch_complement(
+pub fn ringmatch_complement(
     sheet: &[u32],
     labels: &[u8],
     out: &mut [u32],
@@ -194,8 +183,7 @@ pub extern "C" fn ringmatch_complement(
 }
 
 // A sheet without epsilons that accepts the same words, and its labels. Outputs as for `ringmatch_determinize`. Refusals: 20, 1 to 6, 10, 22.
-#[unsafe(no_mangle)]
-pub extern "C" fn ringmatch_epsilon_eliminate(
+pub fn ringmatch_epsilon_eliminate(
     sheet: &[u32],
     labels: &[u8],
     out: &mut [u32],
@@ -213,16 +201,14 @@ pub extern "C" fn ringmatch_epsilon_eliminate(
 }
 
 // Whether a sheet has an epsilon, an overlap or a hole: answer is 1 if so, else 0. Refusals: 1 to 6.
-#[unsafe(no_mangle)]
-pub extern "C" fn ringmatch_is_nfa(sheet: &[u32], answer: &mut u32) -> u32
+pub fn ringmatch_is_nfa(sheet: &[u32], answer: &mut u32) -> u32
     ensures { number_reply result answer.new ≡ is_nfa_reply sheet.now answer.old }
 {
     reply_decision(nondeterminism::is_nfa(sheet), answer)
 }
 
 // Whether a state that accepts is reached from the start: answer is 1 if so, else 0, and then no word is accepted. Refusals: 1 to 6.
-#[unsafe(no_mangle)]
-pub extern "C" fn ringmatch_has_reachable_accepting_state(sheet: &[u32], answer: &mut u32) -> u32
+pub fn ringmatch_has_reachable_accepting_state(sheet: &[u32], answer: &mut u32) -> u32
     ensures { number_reply result answer.new ≡ reachable_reply sheet.now answer.old }
 {
     reply_decision(emptiness::has_reachable_accepting_state(sheet), answer)
@@ -230,8 +216,7 @@ pub extern "C" fn ringmatch_has_reachable_accepting_state(sheet: &[u32], answer:
 
 // Whether two sheets have the same accept words and the same triggers, and so have all pairs of states that equal triggers reach: answer is 1 if
 // so, else 0. Without epsilons or overlaps 1 implies equal words. Refusals: 1 to 6 of a, then of b.
-#[unsafe(no_mangle)]
-pub extern "C" fn ringmatch_is_equivalent(a: &[u32], b: &[u32], answer: &mut u32) -> u32
+pub fn ringmatch_is_equivalent(a: &[u32], b: &[u32], answer: &mut u32) -> u32
     ensures { number_reply result answer.new ≡ equivalent_reply a.now b.now answer.old }
 {
     reply_decision(equivalence::is_equivalent(a, b), answer)
@@ -239,8 +224,7 @@ pub extern "C" fn ringmatch_is_equivalent(a: &[u32], b: &[u32], answer: &mut u32
 
 // Whether the states, accepting states and start of a are those of b by their labels, and each transition of a is covered by one of b between
 // equal labels: answer is 1 if so, else 0. Refusals: 1 to 6 of a, then of b, 10 of a_labels, then of b_labels.
-#[unsafe(no_mangle)]
-pub extern "C" fn ringmatch_is_subautomaton(
+pub fn ringmatch_is_subautomaton(
     a: &[u32],
     a_labels: &[u8],
     b: &[u32],
@@ -256,8 +240,7 @@ pub extern "C" fn ringmatch_is_subautomaton(
 }
 
 // The product of two sheets and its labels `(0, 1)`. Outputs as for `ringmatch_determinize`. Refusals: 20, 1 to 6 of a, then of b, 21, 7, 22.
-#[unsafe(no_mangle)]
-pub extern "C" fn ringmatch_intersection(
+pub fn ringmatch_intersection(
     a: &[u32],
     b: &[u32],
     out: &mut [u32],
@@ -272,8 +255,7 @@ pub extern "C" fn ringmatch_intersection(
 
 // The pattern at the front of a text: its sheet, its labels, and bytes_read. Outputs as for `ringmatch_determinize`.
 // Refusals: 20, 8, 21, 22.
-#[unsafe(no_mangle)]
-pub extern "C" fn ringmatch_parse_automaton(
+pub fn ringmatch_parse_automaton(
     text: &[u8],
     out: &mut [u32],
     names: &mut [u8],
@@ -293,8 +275,7 @@ pub extern "C" fn ringmatch_parse_automaton(
 
 // The text of a sheet and its labels in the grammar of patterns, at the front of text_out, of at least 65,536 bytes: bytes is its length.
 // Refusals: 20, 1 to 6, 10, 30, 31, 32.
-#[unsafe(no_mangle)]
-pub extern "C" fn ringmatch_write_automaton(
+pub fn ringmatch_write_automaton(
     sheet: &[u32],
     labels: &[u8],
     text_out: &mut [u8],
@@ -308,8 +289,7 @@ pub extern "C" fn ringmatch_write_automaton(
 // Whether two sheets accept the same words: same is 1 and number the joins made, or same is 0 and number the length of a word that
 // exactly one accepts, which then stands at the front of word, of at least 510 words. Refusals: 20, 1 to 6 of a, then of b, 21 and
 // 22 of a, then of b.
-#[unsafe(no_mangle)]
-pub extern "C" fn ringmatch_equality(
+pub fn ringmatch_equality(
     a: &[u32],
     b: &[u32],
     word: &mut [u32],

@@ -7,22 +7,24 @@
 
 mod tested;
 
-use libc::STDOUT_FILENO;
 use tested::Tested;
 use words::Acceptance;
+
+// Standard output.
+const STDOUT: i32 = 1;
 
 fn say_acceptance(a: Acceptance) {
     match a {
         Acceptance::Kind(k) => {
             if k == 0 {
-                io::write_all(STDOUT_FILENO, b"not ");
+                io::write_all(STDOUT, b"not ");
             }
-            io::write_all(STDOUT_FILENO, b"accepted\n");
+            io::write_all(STDOUT, b"accepted\n");
         }
         Acceptance::Refused(r) => {
-            io::write_all(STDOUT_FILENO, b"refused ");
-            io::print_decimal(STDOUT_FILENO, refusal::input_number(r) as u64);
-            io::write_all(STDOUT_FILENO, b"\n");
+            io::write_all(STDOUT, b"refused ");
+            io::print_decimal(STDOUT, refusal::input_number(r) as u64);
+            io::write_all(STDOUT, b"\n");
         }
     }
 }
@@ -33,7 +35,7 @@ fn main() {
     match tested::test(&text[..got]) {
         Tested::Answered(a) => say_acceptance(a),
         Tested::Unreadable => {
-            io::write_all(STDOUT_FILENO, b"unreadable\n");
+            io::write_all(STDOUT, b"unreadable\n");
         }
     }
 }

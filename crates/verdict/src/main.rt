@@ -2,12 +2,10 @@
 // joins, `differ` and the symbols of a word that exactly one accepts, or `refused` and the refusal's number (document 01, program `verdict`).
 #![tactic(auto)]
 
-use libc::STDOUT_FILENO;
-
 fn main() {
     let mut input = [0u8; 65537];
     let got = io::read_full(0, &mut input);
     let mut out = [0u8; 5617];
     let n = verdict_line::line(&input[0..got], &mut out);
-    io::write_all(STDOUT_FILENO, &out[0..n]);
+    io::write_all(1, &out[0..n]);
 }
