@@ -73,7 +73,7 @@ fn link_original(source: &Path, out: &Path, parser: bool) {
     }
 }
 
-/// Links the archive, where it is present, and sets `has_CALL` for each call found in it.
+/// Links the archive, where `tools/archive` or RINGMATCH_LIB put one, and sets `has_CALL` for each call found in it.
 fn link_port(archive: &Path, out: &Path) {
     println!("cargo::rerun-if-changed={}", archive.display());
     for call in CALLS {

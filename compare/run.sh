@@ -7,11 +7,14 @@ seed=${1:-1}
 rounds=${2:-10000}
 here=$(cd "$(dirname "$0")" && pwd)
 cd "$here/.."
-rt staticlib ringmatch > /dev/null
-rt check verdict dsu_replay > /dev/null
+tools/archive > /dev/null
+# A program that is run is proved and built first, and stays as out/NAME.
+for program in verdict dsu_replay; do
+    (cd "crates/$program" && rt run < stdin > /dev/null)
+done
 cd "$here"
 cargo build --release --quiet
 cargo test --release --quiet
 cargo run --release --quiet -- --seed "$seed" --rounds "$rounds"
-cargo run --release --quiet --bin verdict_runs -- ../target/bin/verdict "$seed" "$rounds"
-cargo run --release --quiet --bin dsu_runs -- "$seed" | ../target/bin/dsu_replay
+cargo run --release --quiet --bin verdict_runs -- ../crates/verdict/out/verdict "$seed" "$rounds"
+cargo run --release --quiet --bin dsu_runs -- "$seed" | ../crates/dsu_replay/out/dsu_replay

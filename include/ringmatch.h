@@ -1,4 +1,4 @@
-/* Ringmatch automata: the C functions of the static library libringmatch.a (`rt staticlib ringmatch`).
+/* Ringmatch automata: the C functions of the static library libringmatch.a (`tools/archive`).
  *
  * A pattern is a sheet, a list of 32-bit words in three sections, each after its count:
  *   1, the start state's index;

@@ -1,4 +1,4 @@
-//! Links the static library that `rt staticlib ringmatch` writes at the top of the repository, or the one that the variable
+//! Links the static library that `tools/archive` puts below `target` at the top of the repository, or the one that the variable
 //! RINGMATCH_LIB names.
 
 use std::path::PathBuf;
@@ -11,7 +11,7 @@ fn main() {
     println!("cargo::rerun-if-changed={}", archive.display());
     assert!(
         archive.is_file(),
-        "{} is missing: run `rt staticlib ringmatch`, or name the archive in RINGMATCH_LIB",
+        "{} is missing: run `tools/archive`, or name the archive in RINGMATCH_LIB",
         archive.display()
     );
     let folder = archive.parent().expect("an archive stands in a folder");

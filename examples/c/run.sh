@@ -4,7 +4,7 @@ set -eu
 top=$(cd "$(dirname "$0")/../.." && pwd)
 out=$(mktemp -d)
 trap 'rm -rf "$out"' EXIT
-[ -f "$top/target/staticlib/libringmatch.a" ] || (cd "$top" && rt staticlib ringmatch)
+[ -f "$top/target/staticlib/libringmatch.a" ] || "$top/tools/archive"
 ${CC:-cc} -std=c99 -Wall -Wextra -Werror -pedantic -I "$top/include" "$top/examples/c/patterns.c" \
     "$top/target/staticlib/libringmatch.a" -o "$out/patterns"
 "$out/patterns" > "$out/printed"
