@@ -26,7 +26,7 @@ use Rattle.sheets.proofs.Accepted.{accepted}
 use Rattle.sheets.proofs.Meaning.{read_well, read_write_sheet, write_accepted}
 use Rattle.totality.specs.Answers.{limited, complement_pattern, complement_answer}
 use Rattle.totality.specs.Totality.{flipped, complemented}
-use Rattle.totality.proofs.Answers.{limited-given}
+use Rattle.totality.proofs.Answers.{limited_given}
 use Rattle.totality.proofs.Theorems.{complement_words}
 use Rattle.totality.proofs.Totalized.{flipped_well}
 use Rattle.crossed.specs.Calls.{sheet_of, labels_of}
@@ -99,7 +99,7 @@ module _ (s : List ℕ) (f : fault s ≡ 0) (D : Automaton) (e : determinize 0 l
   unfolding sheet_first labels_first complement_pattern flipped
   complement_answer_lem =
       rw (no_fault, read_back, labels_pass, read_write (numbered_labels D.size), complement_flips, no_nfa)
-      (limited-given other fits.few_states fits.few_transitions_lem)
+      (limited_given other fits.few_states fits.few_transitions_lem)
 
   -- the two calls, the second on what the first wrote
   module _ (x : Side s) where

@@ -26,7 +26,7 @@ use Rattle.determinize.specs.Reached.{MoreThan}
 use Rattle.determinize.proofs.Theorems.{determinize_words, determinize_deterministic, determinize_wellformed, determinize_fits, determinize_given, refused_21, refused_22}
 use Rattle.determinizations.specs.Two.{Two, total_size}
 use Rattle.determinizations.specs.Determinizations.{with_second, with_first, determinized, Overfull, Limits}
-use Rattle.determinizations.proofs.Answers.{not-given, one_number}
+use Rattle.determinizations.proofs.Answers.{not_given, one_number}
 
 -- one determinization
 module _ (lower upper : ℕ) (A : Automaton) (ok : InBounds A) where
@@ -37,8 +37,8 @@ module _ (lower upper : ℕ) (A : Automaton) (ok : InBounds A) where
   some_limits : Some ↔ Limits lower upper A
   some_limits = (
     λ (D, e).
-        let few : MoreThan 255 lower upper A → ⊥ = λ m. not-given ((refused_21 lower upper A ok).1 m) e in
-        (few, λ m. not-given ((refused_22 lower upper A ok).1 (few, m)) e),
+        let few : MoreThan 255 lower upper A → ⊥ = λ m. not_given ((refused_21 lower upper A ok).1 m) e in
+        (few, λ m. not_given ((refused_22 lower upper A ok).1 (few, m)) e),
     λ l. determinize_given lower upper A ok l.0 l.1,
   )
 
@@ -47,7 +47,7 @@ module _ (lower upper : ℕ) (A : Automaton) (ok : InBounds A) where
   some_number n e x y =
       let few : MoreThan 255 lower upper A → ⊥ = λ m. x (one_number e ((refused_21 lower upper A ok).1 m)) in
       let d = determinize_given lower upper A ok few (λ m. y (one_number e ((refused_22 lower upper A ok).1 (few, m)))) in
-      not-given e d.1
+      not_given e d.1
 
 -- t are both determinizations
 pub record BothGiven (lower upper : ℕ) (A B : Automaton) (t : Two) : Type 0 where
@@ -61,12 +61,12 @@ module _ (lower upper : ℕ) where
   unfolding with_first with_second
   answers_refused n (refused k) y e = inl (ap refused (one_number refl e))
   answers_refused n (given D) (refused k) e = inr ((D, refl), ap refused (one_number refl e))
-  answers_refused n (given D) (given E) e = absurd (not-given e refl)
+  answers_refused n (given D) (given E) e = absurd (not_given e refl)
 
   answers_given : (t : Two) (x y : Answer Automaton) → with_first lower upper x y ≡ given t → (x ≡ given t.one) × (y ≡ given t.two) × (t ≡ record { one = t.one; two = t.two; lower = lower; upper = upper })
   unfolding with_first with_second
-  answers_given t (refused k) y e = absurd (not-given refl e)
-  answers_given t (given D) (refused k) e = absurd (not-given refl e)
+  answers_given t (refused k) y e = absurd (not_given refl e)
+  answers_given t (given D) (refused k) e = absurd (not_given refl e)
   answers_given t (given D) (given E) e =
       let z : ◌≡◌ {A = Two} (record { one = D; two = E; lower = lower; upper = upper }) t = cc in
       subst (λ (u : Two). (◌≡◌ {A = Answer Automaton} (given D) (given u.one)) × (◌≡◌ {A = Answer Automaton} (given E) (given u.two)) × (u ≡ record { one = u.one; two = u.two; lower = lower; upper = upper })) z

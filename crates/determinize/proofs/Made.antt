@@ -7,7 +7,7 @@ use Rattle.labels.specs.Labels.{write_labels}
 use Rattle.output.specs.declared.Made.TheVariants
 use Rattle.output.specs.Made.{output_of}
 use Rattle.output.specs.Output.{outputs}
-use Rattle.output.proofs.Answers.{made-given, room-lacking, room-enough, room-words, room-bytes}
+use Rattle.output.proofs.Answers.{made_given, room_lacking, room_enough, room_words, room_bytes}
 use Rattle.refusal.specs.Answer.{Answer, refused, given}
 use Rattle.refusal.specs.Number.{state_number}
 use Rattle.refusal.specs.declared.InputRefusal.{InputRefusal}
@@ -32,17 +32,17 @@ use Rattle.determinize.proofs.Theorems.{determinize_fits}
 module _ (s o l : List ℕ) (b : Bool) (f : b ≡ (ltb (length o) 10500 || ltb (length l) 16642)) where
   pub made_short : b ≡ true → output_of (TheVariants.Refused (State OutputLength)) o l ≡ outputs o l (determinize_answer s o l)
   unfolding determinize_answer outputs
-  made_short h = sym (ap (outputs o l) (room-lacking o l _ b f h))
+  made_short h = sym (ap (outputs o l) (room_lacking o l _ b f h))
 
   module _ (h : b ≡ false) (c : Checked) (e : checked_number c ≡ fault s) where
     pub made_faulty : (i : InputRefusal) → c ≡ checked.Refused i → output_of (TheVariants.Refused (Input i)) o l ≡ outputs o l (determinize_answer s o l)
     unfolding determinize_answer outputs
-    made_faulty i q = sym (ap (outputs o l) (room-enough o l _ b f h ∙ sheet_refused s _ c e i q))
+    made_faulty i q = sym (ap (outputs o l) (room_enough o l _ b f h ∙ sheet_refused s _ c e i q))
 
     module _ (g : c ≡ checked.Accepted) (d : Determinized) (o' : List ℕ) (k : determinized_of d o' ≡ sheet_output o (determinize 0 4294967295 (read s))) where
       answer : determinize_answer s o l ≡ subset_pattern (determinize 0 4294967295 (read s))
       unfolding determinize_answer
-      answer = room-enough o l _ b f h ∙ sheet_passed s _ c e g
+      answer = room_enough o l _ b f h ∙ sheet_passed s _ c e g
 
       pub made_refused : (q : StateRefusal) → d ≡ Refused q → output_of (TheVariants.Refused (State q)) o' l ≡ outputs o l (determinize_answer s o l)
       unfolding sheet_output subset_pattern outputs
@@ -90,7 +90,7 @@ module _ (s o l : List ℕ) (b : Bool) (f : b ≡ (ltb (length o) 10500 || ltb (
         made_done l' m v =
             let r = the_given in
             let D = r.result in
-            made-given o l o' l' w m (record { automaton = D; labels = numbered_labels D.size }) r.written (subst (λ i. Written l 0 (write_labels (numbered_labels i)) l' m) r.states v)
+            made_given o l o' l' w m (record { automaton = D; labels = numbered_labels D.size }) r.written (subst (λ i. Written l 0 (write_labels (numbered_labels i)) l' m) r.states v)
             ∙ ap (outputs o l) (sym (answer ∙ ap subset_pattern r.is))
 
-pub ruleset made_laws = (made_short, made_faulty, made_refused, made_few, made_done, check_accepted, room-words, room-bytes, rules)
+pub ruleset made_laws = (made_short, made_faulty, made_refused, made_few, made_done, check_accepted, room_words, room_bytes, rules)

@@ -17,7 +17,7 @@ use Rattle.sets.proofs.Stores.{put_same}
 use Rattle.sheets.specs.Sheet.{state_count, read}
 use Rattle.words.specs.Simulation.{start_set}
 use Rattle.words.specs.inner.Gather.{Tables}
-use Rattle.words.proofs.Answers.{start-canon}
+use Rattle.words.proofs.Answers.{start_canon}
 use Rattle.lists.proofs.Members.{at_in}
 use Rattle.determinize.specs.declared.Progress.{Progress}
 use Rattle.determinize.specs.declared.Progress.TheVariants.{Sets, Over}
@@ -146,5 +146,5 @@ pub start_canonical : (s starts c t : List ℕ) → Tables s starts c → set_at
 unfolding entries tabulate
 start_canonical s starts c t x e =
     record {
-      each = λ S m. subst (Canon (state_count s)) (sym (Memᴰ.eq_of_singleton m)) (start-canon s starts c t x e);
+      each = λ S m. subst (Canon (state_count s)) (sym (Memᴰ.eq_of_singleton m)) (start_canon s starts c t x e);
     }

@@ -22,7 +22,7 @@ use Rattle.determinize.specs.Determinize.{sets_and_sink, subset_automaton, deter
 use Rattle.determinize.specs.inner.Notes.{notes_from, noted_transition, Canonical, TableFinished, TableResult}
 use Rattle.determinize.specs.inner.Attempts.{TableResultWithRoom}
 use Rattle.determinize.specs.inner.Sheets.{noted_automaton, sheet_output, determinized_of}
-use Rattle.determinize.proofs.Answers.{answer-over, answer-many, answer-given}
+use Rattle.determinize.proofs.Answers.{answer_over, answer_many, answer_given}
 use Rattle.determinize.proofs.Notes.{noted_states}
 
 take_sets : (l vs : List ℕ) → length vs ≤ length l → take (length vs) (sets l 0 vs) ≡ vs
@@ -73,7 +73,7 @@ module _ (lower upper : ℕ) (A : Automaton) (ok : InBounds A) (before t r : Lis
 module _ (lower upper : ℕ) (s : List ℕ) (a : Accepted s) (t r : List ℕ) (x : Progress) (p : TableResultWithRoom lower upper (read s) t r x) where
   pub accepted_over : (o : List ℕ) → x ≡ Over → determinized_of (Refused States) o ≡ sheet_output o (determinize lower upper (read s))
   unfolding TableResult sheet_output
-  accepted_over o e = sym (ap (sheet_output o) (answer-over lower upper (read s) (subst (TableResult lower upper (read s) p.before t r) e p.explored)))
+  accepted_over o e = sym (ap (sheet_output o) (answer_over lower upper (read s) (subst (TableResult lower upper (read s) p.before t r) e p.explored)))
 
   module _ (n m : ℕ) (e : x ≡ Sets n m) where
     finished : TableFinished lower upper (read s) p.before t r n m
@@ -102,7 +102,7 @@ module _ (lower upper : ℕ) (s : List ℕ) (a : Accepted s) (t r : List ℕ) (x
         let k : 2048 < m = omega arith in
         sym
         (ap (sheet_output o)
-        (answer-many lower upper (read s) (entries t n) finished.whole (subst (λ k. 2048 < k) (finished_count lower upper (read s) ok p.before t r n m finished) k)))
+        (answer_many lower upper (read s) (entries t n) finished.whole (subst (λ k. 2048 < k) (finished_count lower upper (read s) ok p.before t r n m finished) k)))
 
     pub accepted_given : m ≤ 2048 → (o o' : List ℕ) (w : ℕ) → Written o 0 (write (noted_automaton (read s) (entries t n) (read_records (take (5 * m) r)))) o' w
         → determinized_of (Sheet w (n + 1)) o' ≡ sheet_output o (determinize lower upper (read s))
@@ -113,4 +113,4 @@ module _ (lower upper : ℕ) (s : List ℕ) (a : Accepted s) (t r : List ℕ) (x
         let c : w ≡ length (write D) = u.behind ∙ omega arith in
         let k : n + 1 ≡ suc (length (entries t n)) = add-one n ∙ ap suc (sym (length_entries t n)) in
         rw (u.stored, c, k)
-        (sym (ap (sheet_output o) (answer-given lower upper (read s) (entries t n) finished.whole (subst (λ k. k ≤ 2048) (finished_count lower upper (read s) ok p.before t r n m finished) h))))
+        (sym (ap (sheet_output o) (answer_given lower upper (read s) (entries t n) finished.whole (subst (λ k. k ≤ 2048) (finished_count lower upper (read s) ok p.before t r n m finished) h))))

@@ -53,7 +53,7 @@ use Rattle.determinize.proofs.Runs.{transition_facts, words_kept, kind_kept, sta
 use Rattle.determinize.proofs.Written.{built_well_formed}
 use Rattle.determinize.proofs.Sink.{state_same, part_transition, hole_transition, only_transition, sink_loop, sink_rejects}
 use Rattle.determinize.proofs.Degrees.{listed_states, listed_transitions, many_exact}
-use Rattle.determinize.proofs.Answers.{Outcome, too-many-sets, too-many-transitions, fits, outcome, Built, made-built, refused-above, refused_over, refused-many, answer-over}
+use Rattle.determinize.proofs.Answers.{Outcome, too_many_sets, too_many_transitions, fits, outcome, Built, made_built, refused_above, refused_over, refused_many, answer_over}
 
 module _ (lower upper : ℕ) (A : Automaton) (ok : InBounds A) where
   -- the parts of a set are those of document 01
@@ -72,7 +72,7 @@ module _ (lower upper : ℕ) (A : Automaton) (ok : InBounds A) where
 
   module _ (D : Automaton) (e : determinize lower upper A ≡ given D) where
     by : Built lower upper A D
-    by = made-built lower upper A D e
+    by = made_built lower upper A D e
 
     -- the words are kept
     pub determinize_words : (w : List ℕ) → Word lower upper w → Accepts D w ↔ Accepts A w
@@ -181,13 +181,13 @@ module _ (lower upper : ℕ) (A : Automaton) (ok : InBounds A) where
   reached_listed n = go (outcome lower upper A)
     where
       go : Outcome lower upper A → (T : List Set) × AllReached lower upper A T
-      go (too-many-sets e q) = absurd (n ((over_exact lower upper A ok).0 e))
-      go (too-many-transitions T e h q) = (T, table_all lower upper A ok T e)
+      go (too_many_sets e q) = absurd (n ((over_exact lower upper A ok).0 e))
+      go (too_many_transitions T e h q) = (T, table_all lower upper A ok T e)
       go (fits T e h q) = (T, table_all lower upper A ok T e)
 
   -- 21 is given exactly where words reach more than 255 nonempty sets
   pub refused_21 : (determinize lower upper A ≡ refused 21) ↔ MoreThan 255 lower upper A
-  refused_21 = (λ e. (over_exact lower upper A ok).0 (refused_over lower upper A e), λ m. answer-over lower upper A ((over_exact lower upper A ok).1 m))
+  refused_21 = (λ e. (over_exact lower upper A ok).0 (refused_over lower upper A e), λ m. answer_over lower upper A ((over_exact lower upper A ok).1 m))
 
   found_few : {T : List Set} → set_table lower upper A ≡ found T → MoreThan 255 lower upper A → ⊥
   found_few {T} e m = let c : found T ≡ over = sym e ∙ (over_exact lower upper A ok).1 m in let z : ◌≡◌ {A = ℕ} 0 1 = cc in absurd (omega arith)
@@ -195,13 +195,13 @@ module _ (lower upper : ℕ) (A : Automaton) (ok : InBounds A) where
   -- 22 is given exactly where they don't, and the parts and the holes of the sets with the sink's loop are more than 2,048
   pub refused_22 : (determinize lower upper A ≡ refused 22) ↔ ((MoreThan 255 lower upper A → ⊥) × MoreTransitions 2048 lower upper A)
   refused_22 = (
-    λ e. let r = refused-many lower upper A e in (found_few r.whole, (many_exact lower upper A ok r.sets r.whole).0 r.many),
+    λ e. let r = refused_many lower upper A e in (found_few r.whole, (many_exact lower upper A ok r.sets r.whole).0 r.many),
     λ m. go m.0 m.1 (outcome lower upper A),
   )
     where
       go : (MoreThan 255 lower upper A → ⊥) → MoreTransitions 2048 lower upper A → Outcome lower upper A → determinize lower upper A ≡ refused 22
-      go n m (too-many-sets e q) = absurd (n ((over_exact lower upper A ok).0 e))
-      go n m (too-many-transitions T e h q) = q
+      go n m (too_many_sets e q) = absurd (n ((over_exact lower upper A ok).0 e))
+      go n m (too_many_transitions T e h q) = q
       go n m (fits T e h q) = let k = (many_exact lower upper A ok T e).1 m in absurd (omega arith)
 
   -- an automaton is given where neither holds
@@ -209,8 +209,8 @@ module _ (lower upper : ℕ) (A : Automaton) (ok : InBounds A) where
   determinize_given n k = go (outcome lower upper A)
     where
       go : Outcome lower upper A → (D : Automaton) × (determinize lower upper A ≡ given D)
-      go (too-many-sets e q) = absurd (n ((over_exact lower upper A ok).0 e))
-      go (too-many-transitions T e h q) = absurd (k ((many_exact lower upper A ok T e).0 h))
+      go (too_many_sets e q) = absurd (n ((over_exact lower upper A ok).0 e))
+      go (too_many_transitions T e h q) = absurd (k ((many_exact lower upper A ok T e).0 h))
       go (fits T e h q) = (subset_automaton lower upper A T, q)
 
 -- the answer with labels is refused and given where the answer is
@@ -246,7 +246,7 @@ module _ (s o l o' l' : List ℕ) (r : Made) (call : output_of r o' l' ≡ outpu
   well f = read_well s (accepted s f)
 
   over_20 : (n : ℕ) → answer ≡ refused n → 20 < n
-  over_20 n e = refused-above 0 last_symbol (read s) n ((pattern_refused (determinize 0 last_symbol (read s)) n).0 e)
+  over_20 n e = refused_above 0 last_symbol (read s) n ((pattern_refused (determinize 0 last_symbol (read s)) n).0 e)
 
   module _ (w b : ℕ) (lengths : r ≡ Lengths w b) where
     made : (fault s ≡ 0) × ((D : Automaton) × (determinize 0 last_symbol (read s) ≡ given D))

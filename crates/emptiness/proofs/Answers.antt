@@ -25,32 +25,32 @@ use Rattle.emptiness.specs.inner.Marks.{Unmarked, targets_below, UnmarkedSearch}
 use Rattle.emptiness.specs.Reachable.{has_reachable_accepting, reachable_answer}
 use Rattle.emptiness.proofs.Targets.{targets_all}
 
-pub no-marks : Unmarked (replicate 256 0)
-no-marks = record { wide = length-replicate {A = ℕ} 256 0; nothing = blank_at 256 }
+pub no_marks : Unmarked (replicate 256 0)
+no_marks = record { wide = length-replicate {A = ℕ} 256 0; nothing = blank_at 256 }
 
-pub all-indexed : (s old starts : List ℕ) → Accepted.Accepted s → starts ≡ sets old 0 (starts_of s) → length old ≡ 257 → Indexed s starts
-all-indexed s old starts a e l = starts_indexed s old starts e (omega (arith, a.few_states))
+pub all_indexed : (s old starts : List ℕ) → Accepted.Accepted s → starts ≡ sets old 0 (starts_of s) → length old ≡ 257 → Indexed s starts
+all_indexed s old starts a e l = starts_indexed s old starts e (omega (arith, a.few_states))
 
-pub all-ready : (s old starts targets : List ℕ) → Accepted.Accepted s → starts ≡ sets old 0 (starts_of s) → length old ≡ 257
+pub all_ready : (s old starts targets : List ℕ) → Accepted.Accepted s → starts ≡ sets old 0 (starts_of s) → length old ≡ 257
     → targets ≡ targets_below (read s) (replicate 256 0) (state_count s) → UnmarkedSearch s starts targets (replicate 256 0) (replicate 256 0)
-all-ready s old starts targets a e l f =
+all_ready s old starts targets a e l f =
     record {
       accepted = a;
-      indexed = all-indexed s old starts a e l;
+      indexed = all_indexed s old starts a e l;
       first = targets_all (read s) (replicate 256 0) targets f (length-replicate {A = ℕ} 256 0) a.few_states;
-      unmarked = no-marks;
+      unmarked = no_marks;
       long = length-replicate {A = ℕ} 256 0;
     }
 
-pub ruleset reachedLaws = (all-indexed, all-ready, length-replicate, rules)
+pub ruleset reached_laws = (all_indexed, all_ready, length-replicate, rules)
 
 module _ (s : List ℕ) (r : Checked) (e : checked_number r ≡ fault s) where
-  pub answer-given : r ≡ Accepted → (b : Bool) → b ≡ has_reachable_accepting (read s) → given b ≡ reachable_answer s
+  pub answer_given : r ≡ Accepted → (b : Bool) → b ≡ has_reachable_accepting (read s) → given b ≡ reachable_answer s
   unfolding reachable_answer
-  answer-given h b q = ap given q ∙ sym (sheet_passed s _ r e h)
+  answer_given h b q = ap given q ∙ sym (sheet_passed s _ r e h)
 
-  pub answer-refused : (i : InputRefusal) → r ≡ Refused i → refused (input_number i) ≡ reachable_answer s
+  pub answer_refused : (i : InputRefusal) → r ≡ Refused i → refused (input_number i) ≡ reachable_answer s
   unfolding reachable_answer
-  answer-refused i h = sym (sheet_refused s _ r e i h)
+  answer_refused i h = sym (sheet_refused s _ r e i h)
 
-pub ruleset answer_laws = (check_accepted, answer-given, answer-refused, rules)
+pub ruleset answer_laws = (check_accepted, answer_given, answer_refused, rules)

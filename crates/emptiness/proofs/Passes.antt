@@ -24,7 +24,7 @@ use Rattle.emptiness.specs.declared.Pass.TheVariants.{Accepts, Rejects, Undecide
 use Rattle.emptiness.specs.inner.Marks.{Marked, Unmarked}
 use Rattle.emptiness.specs.inner.Passes.{MetStates, PassTells, accepts, rejects, undecided, PassInvariant, backward}
 use Rattle.emptiness.specs.Reachable.{Path, stay, has_reachable_accepting}
-use Rattle.emptiness.proofs.Answers.{no-marks}
+use Rattle.emptiness.proofs.Answers.{no_marks}
 use Rattle.emptiness.proofs.Marks.{mark_here, mark_out, mark_old}
 use Rattle.emptiness.proofs.Search.{path_more, done_rejects, start_inside, start_only}
 use Rattle.emptiness.proofs.Theorems.{accepting_paths}
@@ -49,7 +49,7 @@ module _ (A : Automaton) (marks : List ℕ) (r : Pass) (t : PassTells A marks r)
       go : PassTells A marks Undecided → MetStates A marks
       go (undecided m) = m
 
-pub ruleset tells_laws = (no-marks, tells_accepts, tells_rejects, length-replicate, rules)
+pub ruleset tells_laws = (no_marks, tells_accepts, tells_rejects, length-replicate, rules)
 
 -- one transition of a pass
 module _ (A : Automaton) (ok : InBounds A) (R : ℕ → ℕ → Type 0) (marks : List ℕ) (c : Transition) (es : List Transition) (i : PassInvariant R A marks (c ∷ es)) where

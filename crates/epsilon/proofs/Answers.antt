@@ -24,7 +24,7 @@ use Rattle.output.specs.Output as output
 use Rattle.output.specs.Output.{Outputs, Pattern, outputs, labels_first, transitions_first}
 use Rattle.output.specs.declared.Made.TheVariants.{Lengths, Refused}
 use Rattle.output.proofs.Collecting.{small_memory, large_memory}
-use Rattle.output.proofs.Answers.{made-given, made_refused, labels_accepted, labels-passed, labels_refused, room-lacking, room-enough, room-words, room-bytes}
+use Rattle.output.proofs.Answers.{made_given, made_refused, labels_accepted, labels_passed, labels_refused, room_lacking, room_enough, room_words, room_bytes}
 use Rattle.refusal.specs.Answer.{Answer}
 use Rattle.refusal.specs.Outcome.{Outcome}
 use Rattle.refusal.specs.declared.InputRefusal.{InputRefusal}
@@ -54,58 +54,58 @@ module _ (s buf : List ℕ) (end : ℕ) (t : Collected buf end (flat_map (closur
   unfolding eliminated
   few h = record { few = omega (arith, (t.listed h).behind, t.memory.most); whole = (t.listed h).words }
 
-  pub few-small : length buf ≡ 720 → end ≤ 640 → TransitionsOf s (take (end - 0) (drop 0 buf))
-  few-small n h = few (omega arith)
+  pub few_small : length buf ≡ 720 → end ≤ 640 → TransitionsOf s (take (end - 0) (drop 0 buf))
+  few_small n h = few (omega arith)
 
-  pub few-large : length buf ≡ 11520 → end ≤ 10240 → TransitionsOf s (take (end - 0) (drop 0 buf))
-  few-large n h = few (omega arith)
+  pub few_large : length buf ≡ 11520 → end ≤ 10240 → TransitionsOf s (take (end - 0) (drop 0 buf))
+  few_large n h = few (omega arith)
 
-pub ruleset memoryLaws = (small_memory, large_memory, tables_closures, too_many, few-small, few-large, rules)
+pub ruleset memory_laws = (small_memory, large_memory, tables_closures, too_many, few_small, few_large, rules)
 
 -- and written
-pub all-written : (s recs : List ℕ) → TransitionsOf s recs → (o l o' l' : List ℕ) (w k : ℕ) (ls : List (List ℕ)) → Written o 0 (write (eliminated (read s))) o' w → Written l 0 (write_labels ls) l' k
+pub all_written : (s recs : List ℕ) → TransitionsOf s recs → (o l o' l' : List ℕ) (w k : ℕ) (ls : List (List ℕ)) → Written o 0 (write (eliminated (read s))) o' w → Written l 0 (write_labels ls) l' k
     → output_of (Lengths w k) o' l' ≡ outputs o l (eliminated_with (read s) ls)
 unfolding eliminated_with transitions_first
-all-written s recs t o l o' l' w k ls p q =
-    made-given o l o' l' w k (record { automaton = eliminated (read s); labels = ls }) p q
+all_written s recs t o l o' l' w k ls p q =
+    made_given o l o' l' w k (record { automaton = eliminated (read s); labels = ls }) p q
     ∙ ap (outputs o l) (sym (rw (le-ltb 2048 (length (eliminated (read s)).transitions) t.few)))
 
 -- the labels that are kept
 module _ (s b : List ℕ) (a : Accepted s) (h : labels_fault (state_count s) b ≡ 0) where
-  pub kept-list : LabelList b
-  kept-list = label_list (state_count s) b h
+  pub kept_list : LabelList b
+  kept_list = label_list (state_count s) b h
 
-  pub kept-count : label_count b ≤ 256
-  kept-count = omega (arith, count_read (state_count s) b h, a.few_states)
+  pub kept_count : label_count b ≤ 256
+  kept_count = omega (arith, count_read (state_count s) b h, a.few_states)
 
-pub ruleset resultLaws = (all-written, kept-list, kept-count, written_length, rules)
+pub ruleset result_laws = (all_written, kept_list, kept_count, written_length, rules)
 
 -- the check of the labels
 module _ (n : ℕ) (b : List ℕ) (r : labelled.Checked) (e : labelCheck.checkedNumber r ≡ labels_fault n b) (a : Answer Pattern) where
   pub labels_given : r ≡ labelAnswer.Accepted → (o l : List ℕ) (x : Outcome output.Lengths Outputs) → x ≡ outputs o l a → x ≡ outputs o l (labels_first n b a)
-  labels_given h o l x p = p ∙ ap (outputs o l) (sym (labels-passed n b a r e h))
+  labels_given h o l x p = p ∙ ap (outputs o l) (sym (labels_passed n b a r e h))
 
-  pub labels-stopped : (i : InputRefusal) → r ≡ labelAnswer.Refused i → (o l : List ℕ) → output_of (Refused (Input i)) o l ≡ outputs o l (labels_first n b a)
-  labels-stopped i h o l = made_refused o l (Input i) _ (labels_refused n b a r e i h)
+  pub labels_stopped : (i : InputRefusal) → r ≡ labelAnswer.Refused i → (o l : List ℕ) → output_of (Refused (Input i)) o l ≡ outputs o l (labels_first n b a)
+  labels_stopped i h o l = made_refused o l (Input i) _ (labels_refused n b a r e i h)
 
-pub ruleset checkedLaws = (labels_accepted, labels_given, labels-stopped, rules)
+pub ruleset checked_laws = (labels_accepted, labels_given, labels_stopped, rules)
 
 -- the room of the outputs, and the check of the sheet
-pub sheet-ready : (o l s : List ℕ) (w : Bool) → w ≡ (ltb (length o) 10500 || ltb (length l) 16642) → w ≡ false → (r : Checked)
+pub sheet_ready : (o l s : List ℕ) (w : Bool) → w ≡ (ltb (length o) 10500 || ltb (length l) 16642) → w ≡ false → (r : Checked)
     → checked_number r ≡ fault s → r ≡ sheetAnswer.Accepted → EliminationInputs s o l
-sheet-ready o l s w e h r f g = record { accepted = check_accepted r s f g; words = room-words o l w e h; bytes = room-bytes o l w e h }
+sheet_ready o l s w e h r f g = record { accepted = check_accepted r s f g; words = room_words o l w e h; bytes = room_bytes o l w e h }
 
 module _ (o l s b : List ℕ) (w : Bool) (e : w ≡ (ltb (length o) 10500 || ltb (length l) 16642)) where
-  pub room-stopped : w ≡ true → output_of (Refused (State OutputLength)) o l ≡ outputs o l (eliminate_answer s b o l)
+  pub room_stopped : w ≡ true → output_of (Refused (State OutputLength)) o l ≡ outputs o l (eliminate_answer s b o l)
   unfolding eliminate_answer
-  room-stopped h = made_refused o l (State OutputLength) _ (room-lacking o l _ w e h)
+  room_stopped h = made_refused o l (State OutputLength) _ (room_lacking o l _ w e h)
 
   module _ (h : w ≡ false) (r : Checked) (f : checked_number r ≡ fault s) where
-    pub sheet-stopped : (i : InputRefusal) → r ≡ sheetAnswer.Refused i → output_of (Refused (Input i)) o l ≡ outputs o l (eliminate_answer s b o l)
+    pub sheet_stopped : (i : InputRefusal) → r ≡ sheetAnswer.Refused i → output_of (Refused (Input i)) o l ≡ outputs o l (eliminate_answer s b o l)
     unfolding eliminate_answer
-    sheet-stopped i g = made_refused o l (Input i) _ (room-enough o l _ w e h ∙ sheet_refused s _ r f i g)
+    sheet_stopped i g = made_refused o l (Input i) _ (room_enough o l _ w e h ∙ sheet_refused s _ r f i g)
 
     pub sheet_given : r ≡ sheetAnswer.Accepted → (x : Outcome output.Lengths Outputs)
         → x ≡ outputs o l (labels_first (state_count s) b (eliminated_with (read s) (read_labels b))) → x ≡ outputs o l (eliminate_answer s b o l)
     unfolding eliminate_answer
-    sheet_given g x p = p ∙ ap (outputs o l) (sym (room-enough o l _ w e h ∙ sheet_passed s _ r f g))
+    sheet_given g x p = p ∙ ap (outputs o l) (sym (room_enough o l _ w e h ∙ sheet_passed s _ r f g))

@@ -20,7 +20,7 @@ use Rattle.sheets.proofs.Numbers.{sheet_first_lem, sheet_given, sheet_number}
 use Rattle.output.proofs.Left.{number_some}
 use Rattle.determinizations.specs.Two.{Two}
 use Rattle.determinizations.specs.Determinizations.{determinized, Limits}
-use Rattle.determinizations.proofs.Answers.{not-given, one_number}
+use Rattle.determinizations.proofs.Answers.{not_given, one_number}
 use Rattle.determinizations.proofs.Theorems.{determinized_number, determinized_given}
 use Rattle.equality.specs.declared.Verdict.{Verdict}
 use Rattle.equality.specs.declared.Verdict.TheVariants.{Same, Different, Refused}
@@ -34,15 +34,15 @@ module _ (o o' : List ℕ) where
   judged_number (refused k) (Same j) h n s = absurd h
   judged_number (refused k) (Different m) h n s = absurd h
   judged_number (refused k) (Refused q) h n s = (λ e. ap refused (sym h.0 ∙ e), λ e. h.0 ∙ one_number refl e)
-  judged_number (given t) (Same j) h n s = (λ e. absurd (s (sym e)), λ e. absurd (not-given e refl))
-  judged_number (given t) (Different m) h n s = (λ e. absurd (s (sym e)), λ e. absurd (not-given e refl))
+  judged_number (given t) (Same j) h n s = (λ e. absurd (s (sym e)), λ e. absurd (not_given e refl))
+  judged_number (given t) (Different m) h n s = (λ e. absurd (s (sym e)), λ e. absurd (not_given e refl))
   judged_number (given t) (Refused q) h n s = absurd h
 
   pub judged_given : (x : Answer Two) (r : Verdict) → Judged x o o' r → (verdict_number r ≡ 0) ↔ ((t : Two) × (x ≡ given t))
   unfolding Judged Decided
   judged_given (refused k) (Same j) h = absurd h
   judged_given (refused k) (Different m) h = absurd h
-  judged_given (refused k) (Refused q) h = (λ e. absurd (number_some q e), λ g. absurd (not-given refl g.1))
+  judged_given (refused k) (Refused q) h = (λ e. absurd (number_some q e), λ g. absurd (not_given refl g.1))
   judged_given (given t) (Same j) h = (λ e. (t, refl), λ g. refl)
   judged_given (given t) (Different m) h = (λ e. (t, refl), λ g. refl)
   judged_given (given t) (Refused q) h = absurd h
@@ -139,7 +139,7 @@ module _ (lower upper : ℕ) (a b o : List ℕ) where
   )
     where
       out : (length o < word_size) ⊎ (word_size ≤ length o) → (t : Two) → equality_answer lower upper a b o ≡ given t → Clear a b o × Limits lower upper (read a) × Limits lower upper (read b)
-      out (inl h) t e = absurd (not-given (without_room h) e)
+      out (inl h) t e = absurd (not_given (without_room h) e)
       out (inr h) t e =
           let p = (sheet_given a _ t).0 (sym (with_room h) ∙ e) in
           let q = (sheet_given b _ t).0 p.1 in

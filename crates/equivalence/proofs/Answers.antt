@@ -17,17 +17,17 @@ use Rattle.sheets.proofs.Checking.{sheet_passed, sheet_refused}
 use Rattle.equivalence.specs.Equivalent.{equivalent, equivalent_answer}
 
 module _ (a b : List ℕ) (r : Checked) (e : checked_number r ≡ fault a) where
-  pub answer-first : (i : InputRefusal) → r ≡ Refused i → refused (input_number i) ≡ equivalent_answer a b
+  pub answer_first : (i : InputRefusal) → r ≡ Refused i → refused (input_number i) ≡ equivalent_answer a b
   unfolding equivalent_answer
-  answer-first i h = sym (sheet_refused a _ r e i h)
+  answer_first i h = sym (sheet_refused a _ r e i h)
 
   module _ (p : r ≡ Accepted) (s : Checked) (f : checked_number s ≡ fault b) where
-    pub answer-second : (i : InputRefusal) → s ≡ Refused i → refused (input_number i) ≡ equivalent_answer a b
+    pub answer_second : (i : InputRefusal) → s ≡ Refused i → refused (input_number i) ≡ equivalent_answer a b
     unfolding equivalent_answer
-    answer-second i h = sym (sheet_passed a _ r e p ∙ sheet_refused b _ s f i h)
+    answer_second i h = sym (sheet_passed a _ r e p ∙ sheet_refused b _ s f i h)
 
-    pub answer-given : s ≡ Accepted → (t : Bool) → t ≡ equivalent (read a) (read b) → given t ≡ equivalent_answer a b
+    pub answer_given : s ≡ Accepted → (t : Bool) → t ≡ equivalent (read a) (read b) → given t ≡ equivalent_answer a b
     unfolding equivalent_answer
-    answer-given h t q = ap given q ∙ sym (sheet_passed a _ r e p ∙ sheet_passed b _ s f h)
+    answer_given h t q = ap given q ∙ sym (sheet_passed a _ r e p ∙ sheet_passed b _ s f h)
 
-pub ruleset answer_laws = (check_accepted, answer-first, answer-second, answer-given, rules)
+pub ruleset answer_laws = (check_accepted, answer_first, answer_second, answer_given, rules)

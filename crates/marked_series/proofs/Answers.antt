@@ -18,23 +18,23 @@ use Rattle.marked_series.specs.Series.{whole_rings, accepts_series_answer}
 
 module _ (s w : List ℕ) (mark : ℕ) where
   -- with the mark 0 or 1 it is the answer for the whole rings as a bare word
-  pub answer-words : mark ≤ 1 → accepts_series_answer s w mark ≡ accepts_words_answer s (whole_rings mark w)
+  pub answer_words : mark ≤ 1 → accepts_series_answer s w mark ≡ accepts_words_answer s (whole_rings mark w)
   unfolding accepts_series_answer accepts_words_answer
-  answer-words h = rw (le-ltb 1 mark h)
+  answer_words h = rw (le-ltb 1 mark h)
 
   -- with another mark it is 34 behind the sheet's faults
-  pub answer-refused : 1 < mark → accepts_series_answer s w mark ≡ sheet_first s (refused 34)
+  pub answer_refused : 1 < mark → accepts_series_answer s w mark ≡ sheet_first s (refused 34)
   unfolding accepts_series_answer
-  answer-refused h = rw (lt-ltb 1 mark h)
+  answer_refused h = rw (lt-ltb 1 mark h)
 
-  pub series-matched : mark ≤ 1 → (v : List ℕ) (r : Acceptance) → v ≡ whole_rings mark w → acceptance_of r ≡ accepts_words_answer s v → acceptance_of r ≡ accepts_series_answer s w mark
-  series-matched h v r e call = call ∙ ap (accepts_words_answer s) e ∙ sym (answer-words h)
+  pub series_matched : mark ≤ 1 → (v : List ℕ) (r : Acceptance) → v ≡ whole_rings mark w → acceptance_of r ≡ accepts_words_answer s v → acceptance_of r ≡ accepts_series_answer s w mark
+  series_matched h v r e call = call ∙ ap (accepts_words_answer s) e ∙ sym (answer_words h)
 
   module _ (h : 1 < mark) (c : Checked) (e : checked_number c ≡ fault s) where
-    pub mark-refused : c ≡ Accepted → refused 34 ≡ accepts_series_answer s w mark
-    mark-refused a = sym (answer-refused h ∙ sheet_passed s _ c e a)
+    pub mark_refused : c ≡ Accepted → refused 34 ≡ accepts_series_answer s w mark
+    mark_refused a = sym (answer_refused h ∙ sheet_passed s _ c e a)
 
-    pub fault-refused : (i : InputRefusal) → c ≡ Refused i → refused (input_number i) ≡ accepts_series_answer s w mark
-    fault-refused i a = sym (answer-refused h ∙ sheet_refused s _ c e i a)
+    pub fault_refused : (i : InputRefusal) → c ≡ Refused i → refused (input_number i) ≡ accepts_series_answer s w mark
+    fault_refused i a = sym (answer_refused h ∙ sheet_refused s _ c e i a)
 
-pub ruleset series_laws = (series-matched, mark-refused, fault-refused, rules)
+pub ruleset series_laws = (series_matched, mark_refused, fault_refused, rules)

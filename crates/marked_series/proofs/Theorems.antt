@@ -28,21 +28,21 @@ use Rattle.words.specs.declared.Acceptance.TheVariants.{Kind}
 use Rattle.words.specs.Simulation.{kind}
 use Rattle.words.proofs.Theorems.{accepts_words, accepts_words_bit}
 use Rattle.marked_series.specs.Series.{whole_rings, mark_first, accepts_series_answer}
-use Rattle.marked_series.proofs.Answers.{answer-words}
+use Rattle.marked_series.proofs.Answers.{answer_words}
 use Rattle.marked_series.proofs.Rings.{drop_last_append}
 
 module _ (s w : List ℕ) where
   pub series_unfinished : (x : ℕ) → accepts_series_answer s (w ++ x ∷ []) 1 ≡ accepts_words_answer s w
   unfolding whole_rings
-  series_unfinished x = answer-words s (w ++ x ∷ []) 1 (omega arith) ∙ ap (accepts_words_answer s) (drop_last_append w x)
+  series_unfinished x = answer_words s (w ++ x ∷ []) 1 (omega arith) ∙ ap (accepts_words_answer s) (drop_last_append w x)
 
   pub series_whole : accepts_series_answer s w 0 ≡ accepts_words_answer s w
   unfolding whole_rings
-  series_whole = answer-words s w 0 (omega arith)
+  series_whole = answer_words s w 0 (omega arith)
 
 pub series_empty : (s : List ℕ) (mark : ℕ) → mark ≤ 1 → accepts_series_answer s [] mark ≡ accepts_words_answer s []
 unfolding whole_rings
-series_empty s mark h = answer-words s [] mark h ∙ ap (accepts_words_answer s) (none mark)
+series_empty s mark h = answer_words s [] mark h ∙ ap (accepts_words_answer s) (none mark)
   where
     none : (m : ℕ) → whole_rings m [] ≡ []
     none zero = refl
@@ -69,7 +69,7 @@ module _ (s w : List ℕ) (mark : ℕ) where
 
   module _ (k : ℕ) (e : accepts_series_answer s w mark ≡ given k) where
     of_words : given k ≡ accepts_words_answer s (whole_rings mark w)
-    of_words = sym e ∙ answer-words s w mark (series_given.0 (k, e)).1
+    of_words = sym e ∙ answer_words s w mark (series_given.0 (k, e)).1
 
     pub series_accepts : (0 < k) ↔ Accepts (read s) (whole_rings mark w)
     series_accepts = accepts_words s (whole_rings mark w) (Kind k) of_words k refl

@@ -17,12 +17,12 @@ use Rattle.sheets.proofs.Checking.{sheet_passed, sheet_refused}
 use Rattle.nondeterminism.specs.Nondeterminism.{is_nfa, is_nfa_answer}
 
 module _ (lower upper : ℕ) (s : List ℕ) (r : sheets.Checked) (e : checked_number r ≡ fault s) where
-  pub nfa-given : r ≡ sheet.Accepted → (b : Bool) → b ≡ is_nfa lower upper (read s) → given b ≡ is_nfa_answer lower upper s
+  pub nfa_given : r ≡ sheet.Accepted → (b : Bool) → b ≡ is_nfa lower upper (read s) → given b ≡ is_nfa_answer lower upper s
   unfolding is_nfa_answer
-  nfa-given h b f = ap given f ∙ sym (sheet_passed s _ r e h)
+  nfa_given h b f = ap given f ∙ sym (sheet_passed s _ r e h)
 
-  pub nfa-refused : (i : InputRefusal) → r ≡ sheet.Refused i → refused (input_number i) ≡ is_nfa_answer lower upper s
+  pub nfa_refused : (i : InputRefusal) → r ≡ sheet.Refused i → refused (input_number i) ≡ is_nfa_answer lower upper s
   unfolding is_nfa_answer
-  nfa-refused i h = sym (sheet_refused s _ r e i h)
+  nfa_refused i h = sym (sheet_refused s _ r e i h)
 
-pub ruleset isNfaLaws = (check_accepted, nfa-given, nfa-refused, rules)
+pub ruleset is_nfa_laws = (check_accepted, nfa_given, nfa_refused, rules)

@@ -25,10 +25,10 @@ use Rattle.output.specs.Made.{output_of}
 use Rattle.output.specs.Output.{Pattern, outputs, room_first, labels_first}
 
 -- a sheet and its labels written at the fronts of the outputs
-pub made-given : (o l o' l' : List ℕ) (w b : ℕ) (P : Pattern) → Written o 0 (write P.automaton) o' w → Written l 0 (write_labels P.labels) l' b
+pub made_given : (o l o' l' : List ℕ) (w b : ℕ) (P : Pattern) → Written o 0 (write P.automaton) o' w → Written l 0 (write_labels P.labels) l' b
     → output_of (Lengths w b) o' l' ≡ outputs o l (given P)
 unfolding outputs
-made-given o l o' l' w b P p q =
+made_given o l o' l' w b P p q =
     let m : w ≡ length (write P.automaton) = omega (arith, p.behind) in
     let n : b ≡ length (write_labels P.labels) = omega (arith, q.behind) in
     rw (p.stored, m, q.stored, n)
@@ -40,33 +40,33 @@ made_refused o l x a e = rw e
 
 -- the answer of `lacks_room`
 module _ {X : Type 0} (o l : List ℕ) (a : Answer X) (r : Bool) (e : r ≡ (ltb (length o) 10500 || ltb (length l) 16642)) where
-  pub room-lacking : r ≡ true → room_first o l a ≡ refused 20
+  pub room_lacking : r ≡ true → room_first o l a ≡ refused 20
   unfolding room_first
-  room-lacking h =
+  room_lacking h =
       ⊎_elim (λ (t : ltb (length o) 10500 ≡ true). rw t)
       (λ (f : ltb (length o) 10500 ≡ false).
       ⊎_elim (λ (t : ltb (length o) 10500 ≡ true). rw t) (λ (t : ltb (length l) 16642 ≡ true). rw (f, t)) (or_cases (ltb (length o) 10500) _ (sym e ∙ h)))
       (test (ltb (length o) 10500))
 
-  pub room-enough : r ≡ false → room_first o l a ≡ a
+  pub room_enough : r ≡ false → room_first o l a ≡ a
   unfolding room_first
-  room-enough h = let f = or_false (ltb (length o) 10500) _ (sym e ∙ h) in rw (f.0, f.1)
+  room_enough h = let f = or_false (ltb (length o) 10500) _ (sym e ∙ h) in rw (f.0, f.1)
 
 module _ (o l : List ℕ) (r : Bool) (e : r ≡ (ltb (length o) 10500 || ltb (length l) 16642)) (h : r ≡ false) where
-  pub room-words : 10500 ≤ length o
-  room-words = ltb-false _ _ (or_false (ltb (length o) 10500) _ (sym e ∙ h)).0
+  pub room_words : 10500 ≤ length o
+  room_words = ltb-false _ _ (or_false (ltb (length o) 10500) _ (sym e ∙ h)).0
 
-  pub room-bytes : 16642 ≤ length l
-  room-bytes = ltb-false _ _ (or_false (ltb (length o) 10500) _ (sym e ∙ h)).1
+  pub room_bytes : 16642 ≤ length l
+  room_bytes = ltb-false _ _ (or_false (ltb (length o) 10500) _ (sym e ∙ h)).1
 
 -- what the check of the labels says of them, and of an answer that their fault precedes
 pub labels_accepted : (n : ℕ) (b : List ℕ) (r : Checked) → checked_number r ≡ labels_fault n b → r ≡ TheVariants.Accepted → labels_fault n b ≡ 0
 labels_accepted n b r e h = sym e ∙ ap checked_number h
 
 module _ {X : Type 0} (n : ℕ) (b : List ℕ) (a : Answer X) (r : Checked) (e : checked_number r ≡ labels_fault n b) where
-  pub labels-passed : r ≡ TheVariants.Accepted → labels_first n b a ≡ a
+  pub labels_passed : r ≡ TheVariants.Accepted → labels_first n b a ≡ a
   unfolding labels_first
-  labels-passed h = rw (eq-eqb (labels_fault n b) 0 (labels_accepted n b r e h))
+  labels_passed h = rw (eq-eqb (labels_fault n b) 0 (labels_accepted n b r e h))
 
   pub labels_refused : (i : InputRefusal) → r ≡ TheVariants.Refused i → labels_first n b a ≡ refused (input_number i)
   unfolding labels_first

@@ -30,7 +30,7 @@ use Rattle.automata.specs.Records.{write_records}
 use Rattle.automata.proofs.Records.{length_write}
 use Rattle.labels.specs.Labels.{write_labels, sameLabel}
 use Rattle.lists.specs.Lists.{all}
-use Rattle.output.proofs.Answers.{room-lacking, room-enough, room-words, room-bytes}
+use Rattle.output.proofs.Answers.{room_lacking, room_enough, room_words, room_bytes}
 use Rattle.output.proofs.Collecting.{records_count}
 use Rattle.output.proofs.Halves.{in_order_length}
 use Rattle.output.specs.declared.gathering.Filled.{Filled}
@@ -217,19 +217,19 @@ module _ (t : List ℕ) (x : TextSpan) (arrows : Cursor) (b buf : List ℕ) (r :
 module _ (t o n : List ℕ) (f : Bool) (room : f ≡ (ltb (length o) 10500 || ltb (length n) 16642)) where
   pub over_20 : f ≡ true → parsed_of (Refused (State OutputLength)) o n ≡ parsed o n (parse_answer t o n)
   unfolding parsed parse_answer
-  over_20 h = sym (ap (parsed o n) (room-lacking o n (reading_answer t) f room h))
+  over_20 h = sym (ap (parsed o n) (room_lacking o n (reading_answer t) f room h))
 
   module _ (h : f ≡ false) (p : NamePiece) (told : name_of p ≡ opening t) where
     pub outside_8 : p ≡ NoName → parsed_of (Refused (Input Grammar)) o n ≡ parsed o n (parse_answer t o n)
     unfolding parsed reading_answer parse_answer
-    outside_8 e = sym (ap (parsed o n) (room-enough o n (reading_answer t) f room h ∙ ap (meaning t) (opens_nothing t p told e)))
+    outside_8 e = sym (ap (parsed o n) (room_enough o n (reading_answer t) f room h ∙ ap (meaning t) (opens_nothing t p told e)))
 
     pub text_read : (x : TextSpan) (c : Cursor) → p ≡ NameRead x c → (y : Outcome ReadLengths Outputs) → y ≡ parsed o n (meaning t (told_from t x c.at)) → y ≡ parsed o n (parse_answer t o n)
     unfolding reading_answer parse_answer
-    text_read x c e y q = q ∙ sym (ap (parsed o n) (room-enough o n (reading_answer t) f room h ∙ ap (meaning t) (opens_found t p told x c e)))
+    text_read x c e y q = q ∙ sym (ap (parsed o n) (room_enough o n (reading_answer t) f room h ∙ ap (meaning t) (opens_found t p told x c e)))
 
 pub ruleset recorded_laws = (over_33, within_33, accepts_marked, words_inside, words_counted, over_22, few_22, within_22, gathered_held, rules)
 
 pub ruleset closed_laws = (open_8, laid, over_21, states_table, states_gathered, states_fitting, within_21, rules)
 
-pub ruleset text_laws = (over_20, outside_8, start_spelt, text_read, room-words, room-bytes, rules)
+pub ruleset text_laws = (over_20, outside_8, start_spelt, text_read, room_words, room_bytes, rules)

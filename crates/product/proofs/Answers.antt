@@ -19,26 +19,26 @@ use Rattle.product.specs.Product.{meeting_pairs, product_automaton, blocked_at, 
 
 module _ (A B : Automaton) where
   -- the four answers
-  pub answer-over : table (meeting_pairs A B) most_states ≡ over → product A B ≡ refused 21
+  pub answer_over : table (meeting_pairs A B) most_states ≡ over → product A B ≡ refused 21
   unfolding product pairs_answer
-  answer-over e = ap (pairs_answer A B) e
+  answer_over e = ap (pairs_answer A B) e
 
   module _ (T : List Pair) (e : table (meeting_pairs A B) most_states ≡ found T) where
-    pub answer-blocked : any (blocked_at A B) T ≡ true → product A B ≡ refused 7
+    pub answer_blocked : any (blocked_at A B) T ≡ true → product A B ≡ refused 7
     unfolding product pairs_answer
-    answer-blocked h = ap (pairs_answer A B) e ∙ rw h
+    answer_blocked h = ap (pairs_answer A B) e ∙ rw h
 
-    pub answer-many : any (blocked_at A B) T ≡ false → most_transitions < length (product_automaton A B T).transitions → product A B ≡ refused 22
+    pub answer_many : any (blocked_at A B) T ≡ false → most_transitions < length (product_automaton A B T).transitions → product A B ≡ refused 22
     unfolding product pairs_answer labelled transitions_first
-    answer-many h l = ap (pairs_answer A B) e ∙ rw (h, lt-ltb most_transitions (length (product_automaton A B T).transitions) l)
+    answer_many h l = ap (pairs_answer A B) e ∙ rw (h, lt-ltb most_transitions (length (product_automaton A B T).transitions) l)
 
-    pub answer-given : any (blocked_at A B) T ≡ false → length (product_automaton A B T).transitions ≤ most_transitions → product A B ≡ given (record { automaton = product_automaton A B T; labels = map pair_label_of T })
+    pub answer_given : any (blocked_at A B) T ≡ false → length (product_automaton A B T).transitions ≤ most_transitions → product A B ≡ given (record { automaton = product_automaton A B T; labels = map pair_label_of T })
     unfolding product pairs_answer labelled transitions_first
-    answer-given h l = ap (pairs_answer A B) e ∙ rw (h, le-ltb most_transitions (length (product_automaton A B T).transitions) l)
+    answer_given h l = ap (pairs_answer A B) e ∙ rw (h, le-ltb most_transitions (length (product_automaton A B T).transitions) l)
 
   -- which of them it is
   pub data Outcome : Type 0 where
-    many-pairs : table (meeting_pairs A B) most_states ≡ over → product A B ≡ refused 21 → Outcome
+    many_pairs : table (meeting_pairs A B) most_states ≡ over → product A B ≡ refused 21 → Outcome
     stopped : (T : List Pair) → table (meeting_pairs A B) most_states ≡ found T → any (blocked_at A B) T ≡ true → product A B ≡ refused 7 → Outcome
     many_transitions : (T : List Pair) → table (meeting_pairs A B) most_states ≡ found T → any (blocked_at A B) T ≡ false → most_transitions < length (product_automaton A B T).transitions
         → product A B ≡ refused 22 → Outcome
@@ -49,11 +49,11 @@ module _ (A B : Automaton) where
   outcome = go (table (meeting_pairs A B) most_states) refl
     where
       go : (f : SearchResult Pair) → table (meeting_pairs A B) most_states ≡ f → Outcome
-      go over e = many-pairs e (answer-over e)
+      go over e = many_pairs e (answer_over e)
       go (found T) e =
           let n = length (product_automaton A B T).transitions in
-          ⊎_elim (λ b. stopped T e b (answer-blocked T e b))
+          ⊎_elim (λ b. stopped T e b (answer_blocked T e b))
           (λ b.
-          ⊎_elim (λ t. let h = ltb-true most_transitions n t in many_transitions T e b h (answer-many T e b h)) (λ t. let h = ltb-false most_transitions n t in made T e b h (answer-given T e b h))
+          ⊎_elim (λ t. let h = ltb-true most_transitions n t in many_transitions T e b h (answer_many T e b h)) (λ t. let h = ltb-false most_transitions n t in made T e b h (answer_given T e b h))
           (test (ltb most_transitions n)))
           (test (any (blocked_at A B) T))

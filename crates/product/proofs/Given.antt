@@ -23,7 +23,7 @@ use Rattle.product.specs.Product
 use Rattle.product.specs.Product.{product_automaton, pair_label_of, product}
 use Rattle.product.specs.Reached.{PairReached, start, step}
 use Rattle.product.specs.inner.Tables.{PairsBelow}
-use Rattle.product.proofs.Answers.{Outcome, many-pairs, stopped, many_transitions, made, outcome}
+use Rattle.product.proofs.Answers.{Outcome, many_pairs, stopped, many_transitions, made, outcome}
 use Rattle.product.proofs.Pairs.{pairs_decides}
 use Rattle.product.proofs.Refusals.{in_reached}
 use Rattle.product.proofs.Sections.{labels_all}
@@ -46,7 +46,7 @@ module _ (A B : Automaton) where
   built_by P p = go (outcome A B)
     where
       go : Outcome A B → Built P
-      go (many-pairs e q) = let z : ◌≡◌ {A = ℕ} 0 1 = cc in absurd (omega arith)
+      go (many_pairs e q) = let z : ◌≡◌ {A = ℕ} 0 1 = cc in absurd (omega arith)
       go (stopped T e b q) = let z : ◌≡◌ {A = ℕ} 0 1 = cc in absurd (omega arith)
       go (many_transitions T e b h q) = let z : ◌≡◌ {A = ℕ} 0 1 = cc in absurd (omega arith)
       go (made T e b h q) = record { pairs = T; whole = e; is = cc; few = h }
@@ -56,7 +56,7 @@ module _ (A B : Automaton) where
   product_other m i j k p = go (outcome A B)
     where
       go : Outcome A B → ⊥
-      go (many-pairs e q) = let z : m ≡ 21 = cc in i z
+      go (many_pairs e q) = let z : m ≡ 21 = cc in i z
       go (stopped T e b q) = let z : m ≡ 7 = cc in j z
       go (many_transitions T e b h q) = let z : m ≡ 22 = cc in k z
       go (made T e b h q) = let z : ◌≡◌ {A = ℕ} 0 1 = cc in absurd (omega arith)

@@ -20,7 +20,7 @@ use Rattle.output.specs.declared.Made.TheVariants as made
 use Rattle.output.specs.inner.Gathering.{Collected}
 use Rattle.output.specs.Made.{output_of}
 use Rattle.output.specs.Output.{outputs}
-use Rattle.output.proofs.Answers.{made-given, made_refused, room-lacking, room-enough}
+use Rattle.output.proofs.Answers.{made_given, made_refused, room_lacking, room_enough}
 use Rattle.refusal.specs.declared.InputRefusal.{InputRefusal}
 use Rattle.refusal.specs.declared.InputRefusal.TheVariants.{Epsilon}
 use Rattle.refusal.specs.declared.Refusal.TheVariants.{Input, State}
@@ -39,14 +39,14 @@ use Rattle.sheets.proofs.Runs.{starts_indexed}
 use Rattle.automata.specs.Pairs.{Pair}
 use Rattle.product.specs.Product.{meeting_pairs, transitions_from, place_in, pair_accept, product_automaton, blocked_at, pair_label_of, product, intersection_answer}
 use Rattle.product.specs.inner.Tables.{table_of, Queued, PairsBelow, found_in, sheet_words, Whole}
-use Rattle.product.proofs.Answers.{answer-over, answer-blocked, answer-many, answer-given}
+use Rattle.product.proofs.Answers.{answer_over, answer_blocked, answer_many, answer_given}
 use Rattle.product.proofs.Queueing.{length_table}
 
 -- what the code gathers are the transitions of the product
 module _ (A B : Automaton) (words : List ℕ) (n : ℕ) where
   module _ (buf : List ℕ) (end : ℕ) (s : Collected buf end (transitions_from (place_in (table_of words n)) A B 0 (table_of words n))) where
     pub product_many : Whole A B (table_of words n) → length buf ≡ 11520 → 10240 < end → product A B ≡ refused 22
-    product_many v l h = answer-many A B (table_of words n) v.all v.free (unfold product_automaton in let o = s.over (omega arith) in omega arith)
+    product_many v l h = answer_many A B (table_of words n) v.all v.free (unfold product_automaton in let o = s.over (omega arith) in omega arith)
 
     module _ (h : end ≤ length buf / 9 * 8) where
       pub part_words : take end buf ≡ write_records (product_automaton A B (table_of words n)).transitions
@@ -74,8 +74,8 @@ module _ (A B : Automaton) (words : List ℕ) (n : ℕ) where
         → Written names 0 (write_labels (map pair_label_of (table_of words n))) names' y → output_of (made.Lengths x y) out' names' ≡ outputs out names (product A B)
     product_made l out names out' names' x y p q =
         let few : length (product_automaton A B (table_of words n)).transitions ≤ most_transitions = omega (arith, count) in
-        made-given out names out' names' x y (record { automaton = product_automaton A B (table_of words n); labels = map pair_label_of (table_of words n) }) (subst (λ t. Written out 0 t out' x) (sheet l) p) q
-        ∙ ap (outputs out names) (sym (answer-given A B (table_of words n) v.all v.free few))
+        made_given out names out' names' x y (record { automaton = product_automaton A B (table_of words n); labels = map pair_label_of (table_of words n) }) (subst (λ t. Written out 0 t out' x) (sheet l) p) q
+        ∙ ap (outputs out names) (sym (answer_given A B (table_of words n) v.all v.free few))
 
 -- what the functions ask of each other
 pub within_256 : (a b : List ℕ) → Accepted a → Accepted b → (T : List Pair) → PairsBelow (state_count a) (state_count b) T → PairsBelow 256 256 T
@@ -104,7 +104,7 @@ table_bytes m l = omega (arith, length-replicate {A = ℕ} m 0)
 module _ (A B : Automaton) (words : List ℕ) (n : ℕ) (e : found_in words n ≡ table (meeting_pairs A B) most_states) where
   pub found_over : (out names : List ℕ) → 256 < n → output_of (made.Refused (State States)) out names ≡ outputs out names (product A B)
   unfolding found_in
-  found_over out names h = made_refused out names (State States) (product A B) (answer-over A B (sym e ∙ rw (lt-ltb 256 n h)))
+  found_over out names h = made_refused out names (State States) (product A B) (answer_over A B (sym e ∙ rw (lt-ltb 256 n h)))
 
   module _ (h : n ≤ 256) (r : Bool) (o : r ≡ any (blocked_at A B) (table_of words n)) where
     found_all : table (meeting_pairs A B) most_states ≡ found (table_of words n)
@@ -112,7 +112,7 @@ module _ (A B : Automaton) (words : List ℕ) (n : ℕ) (e : found_in words n �
     found_all = sym e ∙ rw (le-ltb 256 n h)
 
     pub found_blocked : (out names : List ℕ) → r ≡ true → output_of (made.Refused (Input Epsilon)) out names ≡ outputs out names (product A B)
-    found_blocked out names t = made_refused out names (Input Epsilon) (product A B) (answer-blocked A B (table_of words n) found_all (sym o ∙ t))
+    found_blocked out names t = made_refused out names (Input Epsilon) (product A B) (answer_blocked A B (table_of words n) found_all (sym o ∙ t))
 
     pub found_whole : r ≡ false → Whole A B (table_of words n)
     found_whole t = record { all = found_all; free = sym o ∙ t }
@@ -134,14 +134,14 @@ module _ (a b : List ℕ) (out names : List ℕ) where
   pub no_room : (l : Bool) → l ≡ (ltb (length out) 10500 || ltb (length names) 16642) → l ≡ true
       → output_of (made.Refused (State OutputLength)) out names ≡ outputs out names (intersection_answer a b out names)
   unfolding intersection_answer
-  no_room l o h = made_refused out names (State OutputLength) _ (room-lacking out names _ l o h)
+  no_room l o h = made_refused out names (State OutputLength) _ (room_lacking out names _ l o h)
 
   module _ (l : Bool) (o : l ≡ (ltb (length out) 10500 || ltb (length names) 16642)) (f : l ≡ false) (r : Checked) (e : checked_number r ≡ fault a) where
     pub first_passed : r ≡ checked.Accepted → (x : Made) (out' names' : List ℕ) → output_of x out' names' ≡ outputs out names (sheet_first b (product (read a) (read b)))
         → output_of x out' names' ≡ outputs out names (intersection_answer a b out names)
     unfolding intersection_answer
-    first_passed h x out' names' p = p ∙ ap (outputs out names) (sym (room-enough out names _ l o f ∙ sheet_passed a _ r e h))
+    first_passed h x out' names' p = p ∙ ap (outputs out names) (sym (room_enough out names _ l o f ∙ sheet_passed a _ r e h))
 
     pub first_refused : (i : InputRefusal) → r ≡ checked.Refused i → output_of (made.Refused (Input i)) out names ≡ outputs out names (intersection_answer a b out names)
     unfolding intersection_answer
-    first_refused i h = made_refused out names (Input i) _ (room-enough out names _ l o f ∙ sheet_refused a _ r e i h)
+    first_refused i h = made_refused out names (Input i) _ (room_enough out names _ l o f ∙ sheet_refused a _ r e i h)

@@ -47,7 +47,7 @@ use Rattle.sheets.proofs.Meaning.{read_well, read_write_sheet, write_accepted}
 use Rattle.product.specs.Product.{product_automaton, blocked_at, pair_label_of, product, intersection_answer}
 use Rattle.product.specs.Product
 use Rattle.product.specs.Reached.{PairReached, ManyPairs, Blocked, ManyTransitions}
-use Rattle.product.proofs.Answers.{Outcome, many-pairs, stopped, many_transitions, made, outcome, answer-over}
+use Rattle.product.proofs.Answers.{Outcome, many_pairs, stopped, many_transitions, made, outcome, answer_over}
 use Rattle.product.proofs.Given.{built_by, product_other, given_well, given_fits, given_writable, sheets_given, sheets_number, sheets_fault}
 use Rattle.product.proofs.Pairs.{pairs_decides, over_pairs}
 use Rattle.product.proofs.Refusals.{reached_in, in_reached, blocked_exact, many_exact}
@@ -86,10 +86,10 @@ module _ (A B : Automaton) where
 
   -- 21 exactly where over 256 pairs are reached
   pub refused_21 : (product A B ≡ refused 21) ↔ ManyPairs most_states A B
-  refused_21 = (λ p. out p (outcome A B), λ m. answer-over A B ((over_pairs A B).1 m))
+  refused_21 = (λ p. out p (outcome A B), λ m. answer_over A B ((over_pairs A B).1 m))
     where
       out : product A B ≡ refused 21 → Outcome A B → ManyPairs most_states A B
-      out p (many-pairs e q) = (over_pairs A B).0 e
+      out p (many_pairs e q) = (over_pairs A B).0 e
       out p (stopped T e b q) = let z : ◌≡◌ {A = ℕ} 21 7 = cc in absurd (omega arith)
       out p (many_transitions T e b h q) = let z : ◌≡◌ {A = ℕ} 21 22 = cc in absurd (omega arith)
       out p (made T e b h q) = let z : ◌≡◌ {A = ℕ} 0 1 = cc in absurd (omega arith)
@@ -99,13 +99,13 @@ module _ (A B : Automaton) where
   refused_7 = (λ p. out p (outcome A B), λ m. into m.0 m.1 (outcome A B))
     where
       out : product A B ≡ refused 7 → Outcome A B → (ManyPairs most_states A B → ⊥) × Blocked A B
-      out p (many-pairs e q) = let z : ◌≡◌ {A = ℕ} 21 7 = cc in absurd (omega arith)
+      out p (many_pairs e q) = let z : ◌≡◌ {A = ℕ} 21 7 = cc in absurd (omega arith)
       out p (stopped T e b q) = (few_found e, (blocked_exact A B T e).0 b)
       out p (many_transitions T e b h q) = let z : ◌≡◌ {A = ℕ} 7 22 = cc in absurd (omega arith)
       out p (made T e b h q) = let z : ◌≡◌ {A = ℕ} 0 1 = cc in absurd (omega arith)
 
       into : (ManyPairs most_states A B → ⊥) → Blocked A B → Outcome A B → product A B ≡ refused 7
-      into n m (many-pairs e q) = absurd (n ((over_pairs A B).0 e))
+      into n m (many_pairs e q) = absurd (n ((over_pairs A B).0 e))
       into n m (stopped T e b q) = q
       into n m (many_transitions T e b h q) = absurd (free T e b m)
       into n m (made T e b h q) = absurd (free T e b m)
@@ -115,13 +115,13 @@ module _ (A B : Automaton) where
   refused_22 = (λ p. out p (outcome A B), λ m. into m.0 m.1 m.2 (outcome A B))
     where
       out : product A B ≡ refused 22 → Outcome A B → (ManyPairs most_states A B → ⊥) × (Blocked A B → ⊥) × ManyTransitions most_transitions A B
-      out p (many-pairs e q) = let z : ◌≡◌ {A = ℕ} 21 22 = cc in absurd (omega arith)
+      out p (many_pairs e q) = let z : ◌≡◌ {A = ℕ} 21 22 = cc in absurd (omega arith)
       out p (stopped T e b q) = let z : ◌≡◌ {A = ℕ} 7 22 = cc in absurd (omega arith)
       out p (many_transitions T e b h q) = (few_found e, free T e b, (many_exact A B T e).0 h)
       out p (made T e b h q) = let z : ◌≡◌ {A = ℕ} 0 1 = cc in absurd (omega arith)
 
       into : (ManyPairs most_states A B → ⊥) → (Blocked A B → ⊥) → ManyTransitions most_transitions A B → Outcome A B → product A B ≡ refused 22
-      into n m k (many-pairs e q) = absurd (n ((over_pairs A B).0 e))
+      into n m k (many_pairs e q) = absurd (n ((over_pairs A B).0 e))
       into n m k (stopped T e b q) = absurd (m ((blocked_exact A B T e).0 b))
       into n m k (many_transitions T e b h q) = q
       into n m k (made T e b h q) = let l = (many_exact A B T e).1 k in absurd (omega arith)
@@ -131,7 +131,7 @@ module _ (A B : Automaton) where
   product_given n m k = go (outcome A B)
     where
       go : Outcome A B → (P : Pattern) × (product A B ≡ given P)
-      go (many-pairs e q) = absurd (n ((over_pairs A B).0 e))
+      go (many_pairs e q) = absurd (n ((over_pairs A B).0 e))
       go (stopped T e b q) = absurd (m ((blocked_exact A B T e).0 b))
       go (many_transitions T e b h q) = absurd (k ((many_exact A B T e).0 h))
       go (made T e b h q) = (record { automaton = product_automaton A B T; labels = map pair_label_of T }, q)

@@ -13,7 +13,7 @@ use Rattle.labels.specs.Labels.{labels_fault}
 use Rattle.labels.specs.Checked.{checked_number as labelsNumber}
 use Rattle.labels.specs.declared.Checked.{Checked as LabelsChecked}
 use Rattle.labels.specs.declared.Checked.TheVariants as labels
-use Rattle.output.proofs.Answers.{labels_accepted, labels-passed, labels_refused}
+use Rattle.output.proofs.Answers.{labels_accepted, labels_passed, labels_refused}
 use Rattle.refusal.specs.Answer.{refused, given}
 use Rattle.refusal.specs.Number.{input_number}
 use Rattle.refusal.specs.declared.InputRefusal.{InputRefusal}
@@ -29,8 +29,8 @@ use Rattle.subautomaton.specs.Inclusion.{is_subautomaton}
 use Rattle.subautomaton.specs.inner.Tables.{LabelledSheets}
 use Rattle.subautomaton.specs.Answer.{subautomaton_answer}
 
-pub count-inside : (s : List ℕ) → Accepted s → 2 < length s
-count-inside s a = omega (arith, a.whole)
+pub count_inside : (s : List ℕ) → Accepted s → 2 < length s
+count_inside s a = omega (arith, a.whole)
 
 pub count_fits : (s : List ℕ) → Accepted s → Fits w64 (get_or s 2 0)
 count_fits s a = record { fits = omega (arith, a.few_states) }
@@ -46,18 +46,18 @@ module _ (a al b bl : List ℕ) (r : Checked) (e : checked_number r ≡ fault a)
     second_faulty i g = sym (sheet_passed a _ r e h ∙ sheet_refused b _ q f i g)
 
     module _ (g : q ≡ sheets.Accepted) (s : LabelsChecked) (k : labelsNumber s ≡ labels_fault (state_count a) al) where
-      pub first-labels-faulty : (i : InputRefusal) → s ≡ labels.Refused i → refused (input_number i) ≡ subautomaton_answer a al b bl
+      pub first_labels_faulty : (i : InputRefusal) → s ≡ labels.Refused i → refused (input_number i) ≡ subautomaton_answer a al b bl
       unfolding subautomaton_answer
-      first-labels-faulty i l = sym (sheet_passed a _ r e h ∙ sheet_passed b _ q f g ∙ labels_refused (state_count a) al _ s k i l)
+      first_labels_faulty i l = sym (sheet_passed a _ r e h ∙ sheet_passed b _ q f g ∙ labels_refused (state_count a) al _ s k i l)
 
       module _ (l : s ≡ labels.Accepted) (t : LabelsChecked) (m : labelsNumber t ≡ labels_fault (state_count b) bl) where
-        pub second-labels-faulty : (i : InputRefusal) → t ≡ labels.Refused i → refused (input_number i) ≡ subautomaton_answer a al b bl
+        pub second_labels_faulty : (i : InputRefusal) → t ≡ labels.Refused i → refused (input_number i) ≡ subautomaton_answer a al b bl
         unfolding subautomaton_answer
-        second-labels-faulty i n = sym (sheet_passed a _ r e h ∙ sheet_passed b _ q f g ∙ labels-passed (state_count a) al _ s k l ∙ labels_refused (state_count b) bl _ t m i n)
+        second_labels_faulty i n = sym (sheet_passed a _ r e h ∙ sheet_passed b _ q f g ∙ labels_passed (state_count a) al _ s k l ∙ labels_refused (state_count b) bl _ t m i n)
 
         module _ (n : t ≡ labels.Accepted) where
-          pub inputs-passed : LabelledSheets a al b bl
-          inputs-passed = record {
+          pub inputs_passed : LabelledSheets a al b bl
+          inputs_passed = record {
             first = check_accepted r a e h;
             second = check_accepted q b f g;
             first_labels = labels_accepted (state_count a) al s k l;
@@ -66,6 +66,6 @@ module _ (a al b bl : List ℕ) (r : Checked) (e : checked_number r ≡ fault a)
 
           pub answered : (x : Bool) → x ≡ is_subautomaton (read_pattern a al) (read_pattern b bl) → given x ≡ subautomaton_answer a al b bl
           unfolding subautomaton_answer
-          answered x o = ap given o ∙ sym (sheet_passed a _ r e h ∙ sheet_passed b _ q f g ∙ labels-passed (state_count a) al _ s k l ∙ labels-passed (state_count b) bl _ t m n)
+          answered x o = ap given o ∙ sym (sheet_passed a _ r e h ∙ sheet_passed b _ q f g ∙ labels_passed (state_count a) al _ s k l ∙ labels_passed (state_count b) bl _ t m n)
 
-pub ruleset answer_laws = (first_faulty, second_faulty, first-labels-faulty, second-labels-faulty, inputs-passed, answered, check_accepted, count-inside, count_fits, rules)
+pub ruleset answer_laws = (first_faulty, second_faulty, first_labels_faulty, second_labels_faulty, inputs_passed, answered, check_accepted, count_inside, count_fits, rules)

@@ -24,44 +24,44 @@ use Rattle.totality.proofs.Passing.{passed_inputs, refused_inputs}
 
 -- the limits of a pattern
 module _ (P : Pattern) where
-  pub limited-states : 256 < P.automaton.size → limited P ≡ refused 21
+  pub limited_states : 256 < P.automaton.size → limited P ≡ refused 21
   unfolding limited states_first transitions_first
-  limited-states h = rw (lt-ltb 256 P.automaton.size h)
+  limited_states h = rw (lt-ltb 256 P.automaton.size h)
 
-  pub limited-transitions : P.automaton.size ≤ 256 → 2048 < length P.automaton.transitions → limited P ≡ refused 22
+  pub limited_transitions : P.automaton.size ≤ 256 → 2048 < length P.automaton.transitions → limited P ≡ refused 22
   unfolding limited states_first transitions_first
-  limited-transitions h l = rw (le-ltb 256 P.automaton.size h, lt-ltb 2048 (length P.automaton.transitions) l)
+  limited_transitions h l = rw (le-ltb 256 P.automaton.size h, lt-ltb 2048 (length P.automaton.transitions) l)
 
-  pub limited-given : P.automaton.size ≤ 256 → length P.automaton.transitions ≤ 2048 → limited P ≡ given P
+  pub limited_given : P.automaton.size ≤ 256 → length P.automaton.transitions ≤ 2048 → limited P ≡ given P
   unfolding limited states_first transitions_first
-  limited-given h l = rw (le-ltb 256 P.automaton.size h, le-ltb 2048 (length P.automaton.transitions) l)
+  limited_given h l = rw (le-ltb 256 P.automaton.size h, le-ltb 2048 (length P.automaton.transitions) l)
 
 -- what the operations require after the check, and their answers
 module _ (s b o l : List ℕ) (r : inputs.Inputs) (e : inputs_of r ≡ inputs_first s b o l passed) where
-  pub inputs-accepted : r ≡ input.Good → Accepted s × (labels_fault (state_count s) b ≡ 0) × (10500 ≤ length o) × (16642 ≤ length l)
-  inputs-accepted h = let p = (passed_inputs s b o l passed r e h).0 in (p.sheet, p.label_list, p.words, p.bytes)
+  pub inputs_accepted : r ≡ input.Good → Accepted s × (labels_fault (state_count s) b ≡ 0) × (10500 ≤ length o) × (16642 ≤ length l)
+  inputs_accepted h = let p = (passed_inputs s b o l passed r e h).0 in (p.sheet, p.label_list, p.words, p.bytes)
 
   module _ (lower upper : ℕ) where
-    pub totalize-made : r ≡ input.Good → (m : Made) (o' l' : List ℕ)
+    pub totalize_made : r ≡ input.Good → (m : Made) (o' l' : List ℕ)
         → output_of m o' l' ≡ outputs o l (limited (total_pattern_flipped_if false lower upper (read s) (read_labels b)))
         → output_of m o' l' ≡ outputs o l (totalize_answer lower upper s b o l)
     unfolding totalize_answer inputs_first total_pattern total_pattern_flipped_if
-    totalize-made h m o' l' f = f ∙ ap (outputs o l) (sym (passed_inputs s b o l (limited (total_pattern lower upper (read s) (read_labels b))) r e h).1)
+    totalize_made h m o' l' f = f ∙ ap (outputs o l) (sym (passed_inputs s b o l (limited (total_pattern lower upper (read s) (read_labels b))) r e h).1)
 
-    pub totalize-refused : (x : Refusal) → r ≡ input.Refused x → output_of (Refused x) o l ≡ outputs o l (totalize_answer lower upper s b o l)
+    pub totalize_refused : (x : Refusal) → r ≡ input.Refused x → output_of (Refused x) o l ≡ outputs o l (totalize_answer lower upper s b o l)
     unfolding totalize_answer inputs_first outputs
-    totalize-refused x h = ap (outputs o l) (sym (refused_inputs s b o l (limited (total_pattern lower upper (read s) (read_labels b))) r e x h))
+    totalize_refused x h = ap (outputs o l) (sym (refused_inputs s b o l (limited (total_pattern lower upper (read s) (read_labels b))) r e x h))
 
-    pub complement-made : r ≡ input.Good → (m : Made) (o' l' : List ℕ)
+    pub complement_made : r ≡ input.Good → (m : Made) (o' l' : List ℕ)
         → output_of m o' l' ≡ outputs o l (limited (complement_pattern lower upper (read s) (read_labels b)))
         → output_of m o' l' ≡ outputs o l (complement_answer lower upper s b o l)
     unfolding complement_answer inputs_first
-    complement-made h m o' l' f = f ∙ ap (outputs o l) (sym (passed_inputs s b o l (limited (complement_pattern lower upper (read s) (read_labels b))) r e h).1)
+    complement_made h m o' l' f = f ∙ ap (outputs o l) (sym (passed_inputs s b o l (limited (complement_pattern lower upper (read s) (read_labels b))) r e h).1)
 
-    pub complement-refused : (x : Refusal) → r ≡ input.Refused x → output_of (Refused x) o l ≡ outputs o l (complement_answer lower upper s b o l)
+    pub complement_refused : (x : Refusal) → r ≡ input.Refused x → output_of (Refused x) o l ≡ outputs o l (complement_answer lower upper s b o l)
     unfolding complement_answer inputs_first outputs
-    complement-refused x h = ap (outputs o l) (sym (refused_inputs s b o l (limited (complement_pattern lower upper (read s) (read_labels b))) r e x h))
+    complement_refused x h = ap (outputs o l) (sym (refused_inputs s b o l (limited (complement_pattern lower upper (read s) (read_labels b))) r e x h))
 
-pub ruleset totalizeLaws = (inputs-accepted, totalize-made, totalize-refused, rules)
+pub ruleset totalize_laws = (inputs_accepted, totalize_made, totalize_refused, rules)
 
-pub ruleset complementedLaws = (inputs-accepted, complement-made, complement-refused, rules)
+pub ruleset complemented_laws = (inputs_accepted, complement_made, complement_refused, rules)

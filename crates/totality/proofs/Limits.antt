@@ -30,7 +30,7 @@ use Rattle.sheets.proofs.Accepted.{accepted}
 use Rattle.sheets.proofs.Meaning.{read_well, read_fits}
 use Rattle.totality.specs.Answers.{limited, total_pattern, complement_pattern}
 use Rattle.totality.specs.Totality.{totalized, transition_count, flipped, complemented}
-use Rattle.totality.proofs.Answers.{limited-given}
+use Rattle.totality.proofs.Answers.{limited_given}
 use Rattle.totality.proofs.Rows.{length_totalized}
 use Rattle.totality.proofs.Totalized.{totalized_well, complemented_well}
 
@@ -66,7 +66,7 @@ module _ (s b : List ℕ) (P : Pattern) (o l o' l' : List ℕ) (r : Made) (call 
   made_lengths =
       let c = checked_given s b (limited P) o l o' l' r call in (
         λ h. let (k, f, g, x) = c.0 h in (k, f, g, limited_fits P x.0 x.1),
-        λ (k, f, g, i). c.1 (k, f, g, (P, limited-given P i.few_states i.few_transitions_lem)),
+        λ (k, f, g, i). c.1 (k, f, g, (P, limited_given P i.few_states i.few_transitions_lem)),
       )
 
   pub made_20 : (made_number r ≡ 20) ↔ (Room o l → ⊥)
@@ -92,7 +92,7 @@ module _ (s b : List ℕ) (P : Pattern) (o l o' l' : List ℕ) (r : Made) (call 
     pub made_leaves : (fault s ≡ 0 → labels_fault (state_count s) b ≡ 0 → Fits P.automaton → Writable P) → Leaves o l o' l' w n P.automaton P.labels
     made_leaves writable =
         let (k, f, g, i) = made_lengths.0 (ap made_number lengths) in
-        let e = (inputs_given s b (limited P) P).1 (f, g, limited-given P i.few_states i.few_transitions_lem) in
+        let e = (inputs_given s b (limited P) P).1 (f, g, limited_given P i.few_states i.few_transitions_lem) in
         call_leaves o l o' l' r (sheet_first s (labels_first (state_count s) b (limited P))) call w n lengths P e (writable f g i)
 
 -- `sink` behind labels is a label more

@@ -26,7 +26,7 @@ use Rattle.output.specs.declared.Made.{Made}
 use Rattle.output.specs.declared.Made.TheVariants.{Lengths, Refused}
 use Rattle.output.specs.Made.{output_of}
 use Rattle.output.specs.Output.{outputs}
-use Rattle.output.proofs.Answers.{made-given}
+use Rattle.output.proofs.Answers.{made_given}
 use Rattle.refusal.specs.declared.Refusal.TheVariants.{State}
 use Rattle.refusal.specs.declared.StateRefusal.TheVariants.{States, Transitions}
 use Rattle.refusal.specs.Answer.{given}
@@ -40,7 +40,7 @@ use Rattle.totality.specs.inner.Merging.{flipped_if, head_words, TotalizedRoom}
 use Rattle.totality.specs.Totality.{flipped, totalized, complemented, transition_count}
 use Rattle.totality.proofs.Rows.{length_totalized}
 use Rattle.totality.proofs.Writing.{head_length}
-use Rattle.totality.proofs.Answers.{limited-states, limited-transitions, limited-given}
+use Rattle.totality.proofs.Answers.{limited_states, limited_transitions, limited_given}
 
 -- flipping keeps states and transitions
 flipped_if_size : (b : Bool) (A : Automaton) → (flipped_if b A).size ≡ A.size
@@ -76,7 +76,7 @@ module _ (b : Bool) (lower upper : ℕ) (s : List ℕ) (ls : List (List ℕ)) (o
 
   pub total_states : 255 < state_count s → output_of (Refused (State States)) o l ≡ outputs o l (limited (total_pattern_flipped_if b lower upper (read s) ls))
   unfolding outputs
-  total_states h = ap (outputs o l) (sym (limited-states (total_pattern_flipped_if b lower upper (read s) ls) (rw size_is (omega arith))))
+  total_states h = ap (outputs o l) (sym (limited_states (total_pattern_flipped_if b lower upper (read s) ls) (rw size_is (omega arith))))
 
   module _ (starts holes : List ℕ) (r : HolesInputs s starts holes) (k : ℕ) (e : k ≡ length (holes_in lower upper (read s) (states (state_count s)))) (h : state_count s ≤ 255) where
     transitions_are : length (total_pattern_flipped_if b lower upper (read s) ls).automaton.transitions ≡ record_count s + k + 1
@@ -86,15 +86,15 @@ module _ (b : Bool) (lower upper : ℕ) (s : List ℕ) (ls : List (List ℕ)) (o
 
     pub total_transitions : 2048 < record_count s + k + 1 → output_of (Refused (State Transitions)) o l ≡ outputs o l (limited (total_pattern_flipped_if b lower upper (read s) ls))
     unfolding outputs
-    total_transitions g = ap (outputs o l) (sym (limited-transitions (total_pattern_flipped_if b lower upper (read s) ls) (rw size_is (omega arith)) (rw transitions_are g)))
+    total_transitions g = ap (outputs o l) (sym (limited_transitions (total_pattern_flipped_if b lower upper (read s) ls) (rw size_is (omega arith)) (rw transitions_are g)))
 
     pub total_given : record_count s + k + 1 ≤ 2048 → (o' l' : List ℕ) (w y : ℕ)
         → Written o 0 (write (flipped_if b (totalized lower upper (read s)))) o' w → Written l 0 (write_labels (ls ++ sink_label ∷ [])) l' y
         → output_of (Lengths w y) o' l' ≡ outputs o l (limited (total_pattern_flipped_if b lower upper (read s) ls))
     unfolding total_pattern_flipped_if
     total_given g o' l' w y p q =
-        made-given o l o' l' w y (total_pattern_flipped_if b lower upper (read s) ls) p q
-        ∙ ap (outputs o l) (sym (limited-given (total_pattern_flipped_if b lower upper (read s) ls) (rw size_is (omega arith)) (rw transitions_are g)))
+        made_given o l o' l' w y (total_pattern_flipped_if b lower upper (read s) ls) p q
+        ∙ ap (outputs o l) (sym (limited_given (total_pattern_flipped_if b lower upper (read s) ls) (rw size_is (omega arith)) (rw transitions_are g)))
 
 pub ruleset total_made_laws = (total_states, count_fits, total_fits, totalized_room, total_transitions, total_given, inputs_after, rules)
 
@@ -118,7 +118,7 @@ module _ (s : List ℕ) (a : Accepted s) (o o₁ : List ℕ) (e₁ : ℕ) (head 
 
     pub flipped_given : (l l' : List ℕ) (ls : List (List ℕ)) (y : ℕ) → Written l 0 (write_labels ls) l' y → output_of (Lengths w y) o₂ l' ≡ outputs o l (given (flipped_pattern (read s) ls))
     unfolding flipped_pattern
-    flipped_given l l' ls y q = made-given o l o₂ l' w y (flipped_pattern (read s) ls) flipped_written q
+    flipped_given l l' ls y q = made_given o l o₂ l' w y (flipped_pattern (read s) ls) flipped_written q
 
 -- what `copy_all` requires
 pub labels_few : (s b : List ℕ) → Accepted s → labels_fault (state_count s) b ≡ 0 → label_count b ≤ 256
@@ -139,6 +139,6 @@ module _ (m : Made) (o l o' l' : List ℕ) (lower upper : ℕ) (s : List ℕ) (l
     unfolding flipped_pattern complement_pattern complemented flipped
     complement_flipped h a e =
         let r = read_fits s a in
-        rw (← f, h) (e ∙ ap (outputs o l) (sym (limited-given (flipped_pattern (read s) ls) r.few_states r.few_transitions_lem)))
+        rw (← f, h) (e ∙ ap (outputs o l) (sym (limited_given (flipped_pattern (read s) ls) r.few_states r.few_transitions_lem)))
 
 pub ruleset complement_laws = (complement_totalized, complement_flipped, rules)

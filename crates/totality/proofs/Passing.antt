@@ -14,7 +14,7 @@ use Rattle.labels.specs.Labels.{labels_fault}
 use Rattle.labels.proofs.Labels.{label_list}
 use Rattle.output.specs.declared.Made.TheVariants.{Refused}
 use Rattle.output.specs.Output.{labels_first}
-use Rattle.output.proofs.Answers.{room-lacking, room-enough, room-words, room-bytes, labels-passed, labels_refused}
+use Rattle.output.proofs.Answers.{room_lacking, room_enough, room_words, room_bytes, labels_passed, labels_refused}
 use Rattle.refusal.specs.Answer.{Answer, refused}
 use Rattle.refusal.specs.declared.InputRefusal.{InputRefusal}
 use Rattle.refusal.specs.declared.Refusal.{Refusal}
@@ -38,21 +38,21 @@ use Rattle.totality.specs.declared.Inputs.TheVariants as input
 module _ (s b o l : List ℕ) (r : Bool) (e : r ≡ (ltb (length o) 10500 || ltb (length l) 16642)) where
   pub inputs_short : r ≡ true → refused 20 ≡ inputs_first s b o l passed
   unfolding inputs_first
-  inputs_short h = sym (room-lacking o l _ r e h)
+  inputs_short h = sym (room_lacking o l _ r e h)
 
   module _ (h : r ≡ false) (f : sheets.Checked) (g : checked_number f ≡ fault s) where
     pub inputs_sheet : (i : InputRefusal) → f ≡ sheet.Refused i → refused (input_number i) ≡ inputs_first s b o l passed
     unfolding inputs_first
-    inputs_sheet i p = sym (room-enough o l _ r e h ∙ sheet_refused s _ f g i p)
+    inputs_sheet i p = sym (room_enough o l _ r e h ∙ sheet_refused s _ f g i p)
 
     module _ (p : f ≡ sheet.Accepted) (k : labels.Checked) (m : labelsNumber k ≡ labels_fault (state_count s) b) where
       pub inputs_labels : (i : InputRefusal) → k ≡ label.Refused i → refused (input_number i) ≡ inputs_first s b o l passed
       unfolding inputs_first
-      inputs_labels i q = sym (room-enough o l _ r e h ∙ sheet_passed s _ f g p ∙ labels_refused (state_count s) b passed k m i q)
+      inputs_labels i q = sym (room_enough o l _ r e h ∙ sheet_passed s _ f g p ∙ labels_refused (state_count s) b passed k m i q)
 
       pub inputs_good : k ≡ label.Accepted → passed ≡ inputs_first s b o l passed
       unfolding inputs_first
-      inputs_good q = sym (room-enough o l _ r e h ∙ sheet_passed s _ f g p ∙ labels-passed (state_count s) b passed k m q)
+      inputs_good q = sym (room_enough o l _ r e h ∙ sheet_passed s _ f g p ∙ labels_passed (state_count s) b passed k m q)
 
 pub ruleset check_laws = (inputs_short, inputs_sheet, inputs_labels, inputs_good, check_accepted, rules)
 
@@ -71,7 +71,7 @@ module _ {X : Type 0} (s b o l : List ℕ) (a : Answer X) where
   unfolding inputs_first sheet_first labels_first
   inputs_cases =
       let r = ltb (length o) 10500 || ltb (length l) 16642 in
-      ⊎_elim (λ (t : r ≡ true). inr (20, room-lacking o l _ r refl t, room-lacking o l _ r refl t))
+      ⊎_elim (λ (t : r ≡ true). inr (20, room_lacking o l _ r refl t, room_lacking o l _ r refl t))
       (λ (t : r ≡ false).
       ⊎_elim
       (λ (u : eqb (fault s) 0 ≡ true).
@@ -81,16 +81,16 @@ module _ {X : Type 0} (s b o l : List ℕ) (a : Answer X) where
         record {
           sheet = accepted s (eqb-true _ _ u);
           label_list = eqb-true _ _ v;
-          words = room-words o l r refl t;
-          bytes = room-bytes o l r refl t;
+          words = room_words o l r refl t;
+          bytes = room_bytes o l r refl t;
         },
-        room-enough o l _ r refl t ∙ rw (u, v),
-        room-enough o l _ r refl t ∙ rw (u, v),
+        room_enough o l _ r refl t ∙ rw (u, v),
+        room_enough o l _ r refl t ∙ rw (u, v),
       ))
       (λ (v : eqb (labels_fault (state_count s) b) 0 ≡ false).
-      inr (labels_fault (state_count s) b, room-enough o l _ r refl t ∙ rw (u, v), room-enough o l _ r refl t ∙ rw (u, v)))
+      inr (labels_fault (state_count s) b, room_enough o l _ r refl t ∙ rw (u, v), room_enough o l _ r refl t ∙ rw (u, v)))
       (test (eqb (labels_fault (state_count s) b) 0)))
-      (λ (u : eqb (fault s) 0 ≡ false). inr (fault s, room-enough o l _ r refl t ∙ rw u, room-enough o l _ r refl t ∙ rw u))
+      (λ (u : eqb (fault s) 0 ≡ false). inr (fault s, room_enough o l _ r refl t ∙ rw u, room_enough o l _ r refl t ∙ rw u))
       (test (eqb (fault s) 0)))
       (test r)
 

@@ -32,7 +32,7 @@ use Rattle.words.specs.declared.Acceptance.TheVariants.{Kind, Refused}
 use Rattle.words.specs.Acceptance.{accepts_words_answer, accepts_text_answer, acceptance_of, acceptance_number}
 use Rattle.words.specs.Kinds
 use Rattle.words.specs.Simulation.{closure, simulate, start_set, kind_of, kind}
-use Rattle.words.proofs.Answers.{textAnswer}
+use Rattle.words.proofs.Answers.{text_answer}
 use Rattle.words.proofs.Closures.{join, closure_sound, closure_complete, closure_canon}
 use Rattle.words.proofs.Kind.{kind_of_some, kind_of_least}
 use Rattle.words.proofs.Simulation.{simulate_sound, simulate_complete, closure_shut, accepts_kind}
@@ -134,22 +134,22 @@ malformed_none t e ps c = let z : malformed ≡ points ps = sym e ∙ (decode_ex
 module _ (s t : List ℕ) (r : Acceptance) (call : acceptance_of r ≡ accepts_text_answer s t) where
   -- the answer behind the sheet's faults, by what the text decodes to
   data Text : Type 0 where
-    bad : textAnswer (read s) (decode t) ≡ refused 9 → ((ps : List ℕ) → Encoded t ps → ⊥) → Text
-    good : (ps : List ℕ) → textAnswer (read s) (decode t) ≡ given (kind (read s) ps) → Encoded t ps → Text
+    bad : text_answer (read s) (decode t) ≡ refused 9 → ((ps : List ℕ) → Encoded t ps → ⊥) → Text
+    good : (ps : List ℕ) → text_answer (read s) (decode t) ≡ given (kind (read s) ps) → Encoded t ps → Text
 
   text : Text
   text = go (decode t) refl
     where
       go : (d : Decoded) → decode t ≡ d → Text
-      go malformed e = bad (ap (textAnswer (read s)) e) (malformed_none t e)
-      go (points ps) e = good ps (ap (textAnswer (read s)) e) ((decode_exact t ps).0 e)
+      go malformed e = bad (ap (text_answer (read s)) e) (malformed_none t e)
+      go (points ps) e = good ps (ap (text_answer (read s)) e) ((decode_exact t ps).0 e)
 
   text_kind : (k : ℕ) → r ≡ Kind k → (fault s ≡ 0) × ((ps : List ℕ) × Encoded t ps × (kind (read s) ps ≡ k))
   unfolding accepts_text_answer
   text_kind k h = go text
     where
-      p : (fault s ≡ 0) × (textAnswer (read s) (decode t) ≡ given k)
-      p = (sheet_given s (textAnswer (read s) (decode t)) k).0 (sym call ∙ ap acceptance_of h)
+      p : (fault s ≡ 0) × (text_answer (read s) (decode t) ≡ given k)
+      p = (sheet_given s (text_answer (read s) (decode t)) k).0 (sym call ∙ ap acceptance_of h)
 
       go : Text → (fault s ≡ 0) × ((ps : List ℕ) × Encoded t ps × (kind (read s) ps ≡ k))
       go (bad e n) = let q : refused 9 ≡ given k = sym e ∙ p.1 in let z : ◌≡◌ {A = ℕ} 0 1 = cc in absurd (omega arith)
@@ -171,23 +171,23 @@ module _ (s t : List ℕ) (r : Acceptance) (call : acceptance_of r ≡ accepts_t
       out : Text → acceptance_number r ≡ 0 → (fault s ≡ 0) × ((ps : List ℕ) × Encoded t ps)
       out (bad e n) h =
           let (k, g) = number_given r h in
-          let q : refused 9 ≡ given k = sym e ∙ ((sheet_given s (textAnswer (read s) (decode t)) k).0 (sym call ∙ g)).1 in
+          let q : refused 9 ≡ given k = sym e ∙ ((sheet_given s (text_answer (read s) (decode t)) k).0 (sym call ∙ g)).1 in
           let z : ◌≡◌ {A = ℕ} 0 1 = cc in
           absurd (omega arith)
-      out (good ps e c) h = let (k, g) = number_given r h in (((sheet_given s (textAnswer (read s) (decode t)) k).0 (sym call ∙ g)).0, (ps, c))
+      out (good ps e c) h = let (k, g) = number_given r h in (((sheet_given s (text_answer (read s) (decode t)) k).0 (sym call ∙ g)).0, (ps, c))
 
       into : Text → fault s ≡ 0 → (ps : List ℕ) → Encoded t ps → acceptance_number r ≡ 0
       into (bad e n) f ps c = absurd (n ps c)
-      into (good qs e d) f ps c = given_number r (kind (read s) qs) (call ∙ sheet_first_lem s (textAnswer (read s) (decode t)) f ∙ e)
+      into (good qs e d) f ps c = given_number r (kind (read s) qs) (call ∙ sheet_first_lem s (text_answer (read s) (decode t)) f ∙ e)
 
   -- 1 to 6 are answered exactly where the sheet has that fault
   pub accepts_text_fault : (n : ℕ) → 0 < n → n ≤ 6 → (acceptance_number r ≡ n) ↔ (fault s ≡ n)
   unfolding accepts_text_answer
   accepts_text_fault n l m =
-      let p = sheet_fault s (textAnswer (read s) (decode t)) n l (other text) in
+      let p = sheet_fault s (text_answer (read s) (decode t)) n l (other text) in
       (λ e. p.0 (sym call ∙ (number_refused r n l).0 e), λ e. (number_refused r n l).1 (call ∙ p.1 e))
     where
-      other : Text → textAnswer (read s) (decode t) ≡ refused n → ⊥
+      other : Text → text_answer (read s) (decode t) ≡ refused n → ⊥
       other (bad e x) h = let q : refused 9 ≡ refused n = sym e ∙ h in let z : 9 ≡ n = cc in omega arith
       other (good ps e c) h = let q : given (kind (read s) ps) ≡ refused n = sym e ∙ h in let z : ◌≡◌ {A = ℕ} 0 1 = cc in omega arith
 
@@ -196,8 +196,8 @@ module _ (s t : List ℕ) (r : Acceptance) (call : acceptance_of r ≡ accepts_t
   unfolding accepts_text_answer
   accepts_text_9 = (out text, λ (f, n). into text f n)
     where
-      p : (accepts_text_answer s t ≡ refused 9) ↔ ((fault s ≡ 0) × (textAnswer (read s) (decode t) ≡ refused 9))
-      p = sheet_number s (textAnswer (read s) (decode t)) 9 (omega arith)
+      p : (accepts_text_answer s t ≡ refused 9) ↔ ((fault s ≡ 0) × (text_answer (read s) (decode t) ≡ refused 9))
+      p = sheet_number s (text_answer (read s) (decode t)) 9 (omega arith)
 
       out : Text → acceptance_number r ≡ 9 → (fault s ≡ 0) × ((ps : List ℕ) → Encoded t ps → ⊥)
       out (bad e n) h = ((p.0 (sym call ∙ (number_refused r 9 (omega arith)).0 h)).0, n)

@@ -20,7 +20,7 @@ use Rattle.labels.specs.declared.Checked.{Checked}
 use Rattle.labels.specs.declared.Checked.TheVariants as labels-checked
 use Rattle.output.specs.Output.{label_of, read_pattern, labels_first}
 use Rattle.output.proofs.Left.{front_written}
-use Rattle.output.proofs.Answers.{labels_accepted, labels-passed, labels_refused}
+use Rattle.output.proofs.Answers.{labels_accepted, labels_passed, labels_refused}
 use Rattle.parser.proofs.Memory.{zeros}
 use Rattle.refusal.specs.Answer.{Answer, refused, given}
 use Rattle.refusal.specs.Number.{number_of}
@@ -49,9 +49,9 @@ use Rattle.writer.proofs.Gathering.{written_few, written_in}
 use Rattle.writer.proofs.TextParts.{ready_count}
 
 -- a text at the front of the buffer, and a refusal that leaves the buffer as it was
-wrote-text : (o o' t : List ℕ) (n : ℕ) → Written o 0 t o' n → wrote_of (wrote.Text n) o' ≡ write_outcome o (given t)
+wrote_text : (o o' t : List ℕ) (n : ℕ) → Written o 0 t o' n → wrote_of (wrote.Text n) o' ≡ write_outcome o (given t)
 unfolding write_outcome
-wrote-text o o' t n w =
+wrote_text o o' t n w =
     let e : n ≡ length t = omega (arith, w.behind) in
     rw (w.stored, e)
 
@@ -71,8 +71,8 @@ good false true l h = refl
 good false false l h = absurd (let z : ◌≡◌ {A = ℕ} 0 1 = cc in omega arith)
 
 module _ (s b p ws qs : List ℕ) (k : TextTables s b p qs) (w : ws ≡ written_states (read s)) where
-  pub names-below : StatesBelow (label_count b) ws
-  names-below = record { at = λ i h. omega (arith, ready_count s b p qs k, written_in s (get_or ws i 0) (subst (λ (l : List ℕ). get_or ws i 0 ∈ l) w (at_in ws i 0 h))) }
+  pub names_below : StatesBelow (label_count b) ws
+  names_below = record { at = λ i h. omega (arith, ready_count s b p qs k, written_in s (get_or ws i 0) (subst (λ (l : List ℕ). get_or ws i 0 ∈ l) w (at_in ws i 0 h))) }
 
   pub names_few : length ws ≤ 256
   names_few = omega (arith, ap length w, written_few s, k.sheet.few_states)
@@ -82,9 +82,9 @@ module _ (s b p ws qs : List ℕ) (k : TextTables s b p qs) (w : ws ≡ written_
     unfolding are_names state_labels
     same = e ∙ ap (λ (l : List ℕ). are_names (state_labels b l)) w
 
-    pub names-refused : not r ≡ true → (o : List ℕ) → wrote_of (wrote.Refused (Input Names)) o ≡ write_outcome o (names_first (read_pattern s b) (given (pattern_text (read_pattern s b))))
+    pub names_refused : not r ≡ true → (o : List ℕ) → wrote_of (wrote.Refused (Input Names)) o ≡ write_outcome o (names_first (read_pattern s b) (given (pattern_text (read_pattern s b))))
     unfolding names_first
-    names-refused t o =
+    names_refused t o =
         let z = bad (has_twice (map (label_of (read_pattern s b)) (written_states (read s)))) _ (ltb text_size (length (pattern_text (read_pattern s b)))) (sym same ∙ not-true r t) in
         wrote_refused o (Input Names) _ (rw z)
 
@@ -96,19 +96,19 @@ module _ (s b p ws qs : List ℕ) (k : TextTables s b p qs) (w : ws ≡ written_
           good (has_twice (map (label_of (read_pattern s b)) (written_states (read s)))) _ (ltb text_size (length (pattern_text (read_pattern s b)))) (sym same ∙ not-false r t)
           ∙ ap (ltb text_size) (sym f)
 
-      pub long-refused : 65536 < n → (o : List ℕ) → wrote_of (wrote.Refused (Input Names)) o ≡ write_outcome o (names_first (read_pattern s b) (given (pattern_text (read_pattern s b))))
+      pub long_refused : 65536 < n → (o : List ℕ) → wrote_of (wrote.Refused (Input Names)) o ≡ write_outcome o (names_first (read_pattern s b) (given (pattern_text (read_pattern s b))))
       unfolding names_first
-      long-refused h o = wrote_refused o (Input Names) _ (rw (passed ∙ lt-ltb text_size n h))
+      long_refused h o = wrote_refused o (Input Names) _ (rw (passed ∙ lt-ltb text_size n h))
 
-      pub text-fits : n ≤ 65536 → (o : List ℕ) → text_size ≤ length o → length (pattern_text (read_pattern s b)) ≤ length o
-      text-fits h o l = omega (arith, f)
+      pub text_fits : n ≤ 65536 → (o : List ℕ) → text_size ≤ length o → length (pattern_text (read_pattern s b)) ≤ length o
+      text_fits h o l = omega (arith, f)
 
       pub names_given : n ≤ 65536 → (o o' : List ℕ) (x : ℕ) → Written o 0 (pattern_text (read_pattern s b)) o' x
           → wrote_of (wrote.Text x) o' ≡ write_outcome o (names_first (read_pattern s b) (given (pattern_text (read_pattern s b))))
       unfolding names_first
-      names_given h o o' x v = wrote-text o o' _ x v ∙ ap (write_outcome o) (sym (rw (passed ∙ le-ltb text_size n h)))
+      names_given h o o' x v = wrote_text o o' _ x v ∙ ap (write_outcome o) (sym (rw (passed ∙ le-ltb text_size n h)))
 
-pub ruleset readyWriteLaws = (names-below, names_few, names-refused, long-refused, text-fits, names_given, rules)
+pub ruleset ready_write_laws = (names_below, names_few, names_refused, long_refused, text_fits, names_given, rules)
 
 -- what stands at the front of a list after states were gathered there
 module _ (l v m : List ℕ) (n : ℕ) (w : Written l 0 v m n) (h : length v ≤ length l) where
@@ -119,87 +119,87 @@ module _ (l v m : List ℕ) (n : ℕ) (w : Written l 0 v m n) (h : length v ≤ 
 
 -- the written states, gathered in ws, and those that accept, gathered in qs
 module _ (s l ws : List ℕ) (n : ℕ) (a : Accepted s) (w : Written l 0 (written_states (read s)) ws n) (h : length l ≡ 256) where
-  pub gathered-end : n ≤ length ws
-  gathered-end = omega (arith, h, written_length l ws _ 0 n w, w.behind, written_few s, a.few_states)
+  pub gathered_end : n ≤ length ws
+  gathered_end = omega (arith, h, written_length l ws _ 0 n w, w.behind, written_few s, a.few_states)
 
-  pub gathered-states : take (n - 0) (drop 0 ws) ≡ written_states (read s)
-  gathered-states = front l (written_states (read s)) ws n w (omega (arith, written_few s, a.few_states))
+  pub gathered_states : take (n - 0) (drop 0 ws) ≡ written_states (read s)
+  gathered_states = front l (written_states (read s)) ws n w (omega (arith, written_few s, a.few_states))
 
-  pub gathered-below : StatesBelow (state_count s) (take (n - 0) (drop 0 ws))
-  gathered-below = rw gathered-states (record { at = λ i k. written_in s _ (at_in (written_states (read s)) i 0 k) })
+  pub gathered_below : StatesBelow (state_count s) (take (n - 0) (drop 0 ws))
+  gathered_below = rw gathered_states (record { at = λ i k. written_in s _ (at_in (written_states (read s)) i 0 k) })
 
-  pub gathered-few : length (take (n - 0) (drop 0 ws)) ≤ 256
-  gathered-few = rw gathered-states (omega (arith, written_few s, a.few_states))
+  pub gathered_few : length (take (n - 0) (drop 0 ws)) ≤ 256
+  gathered_few = rw gathered_states (omega (arith, written_few s, a.few_states))
 
   module _ (m qs : List ℕ) (k : ℕ) (v : Written m 0 (accepting_among (read s) (take (n - 0) (drop 0 ws))) qs k) (g : length m ≡ 256) where
     among : accepting_among (read s) (take (n - 0) (drop 0 ws)) ≡ accepting_states (read s)
     unfolding accepting_among accepting_states
-    among = ap (accepting_among (read s)) gathered-states
+    among = ap (accepting_among (read s)) gathered_states
 
     count : k ≡ length (accepting_states (read s))
     count = omega (arith, v.behind, ap length among)
 
-    accepting-few : length (accepting_states (read s)) ≤ length (written_states (read s))
+    accepting_few : length (accepting_states (read s)) ≤ length (written_states (read s))
     unfolding accepting_states
-    accepting-few = length_filter (λ q. ltb 0 (accept_of (read s) q)) (written_states (read s))
+    accepting_few = length_filter (λ q. ltb 0 (accept_of (read s) q)) (written_states (read s))
 
-    pub accepting-end : k ≤ length qs
-    accepting-end = omega (arith, g, written_length m qs _ 0 k v, count, accepting-few, written_few s, a.few_states)
+    pub accepting_end : k ≤ length qs
+    accepting_end = omega (arith, g, written_length m qs _ 0 k v, count, accepting_few, written_few s, a.few_states)
 
-    accepting-states : take (k - 0) (drop 0 qs) ≡ accepting_states (read s)
-    accepting-states = front m _ qs k v (omega (arith, ap length among, accepting-few, written_few s, a.few_states)) ∙ among
+    accepting_states_lem : take (k - 0) (drop 0 qs) ≡ accepting_states (read s)
+    accepting_states_lem = front m _ qs k v (omega (arith, ap length among, accepting_few, written_few s, a.few_states)) ∙ among
 
-    pub none-accepting : (x : Answer (List ℕ)) → k ≡ 0 → (o : List ℕ) → wrote_of (wrote.Refused (Input NoAcceptingState)) o ≡ write_outcome o (accepting_first (read s) x)
+    pub none_accepting : (x : Answer (List ℕ)) → k ≡ 0 → (o : List ℕ) → wrote_of (wrote.Refused (Input NoAcceptingState)) o ≡ write_outcome o (accepting_first (read s) x)
     unfolding accepting_first
-    none-accepting x e o =
+    none_accepting x e o =
         let z : length (accepting_states (read s)) ≡ 0 = sym count ∙ e in
         wrote_refused o (Input NoAcceptingState) _ (rw (eq-eqb (length (accepting_states (read s))) 0 z))
 
     module _ (e : k ≡ 0 → ⊥) where
-      pub some-accepting : (x : Answer (List ℕ)) (o o' : List ℕ) (r : Wrote) → wrote_of r o' ≡ write_outcome o x → wrote_of r o' ≡ write_outcome o (accepting_first (read s) x)
+      pub some_accepting : (x : Answer (List ℕ)) (o o' : List ℕ) (r : Wrote) → wrote_of r o' ≡ write_outcome o x → wrote_of r o' ≡ write_outcome o (accepting_first (read s) x)
       unfolding accepting_first
-      some-accepting x o o' r y = y ∙ ap (write_outcome o) (sym (rw (ne_eqb (length (accepting_states (read s))) 0 (λ z. e (count ∙ z)))))
+      some_accepting x o o' r y = y ∙ ap (write_outcome o) (sym (rw (ne_eqb (length (accepting_states (read s))) 0 (λ z. e (count ∙ z)))))
 
       pub ready : (b p : List ℕ) → labels_fault (state_count s) b ≡ 0 → LabelPlaces b p → TextTables s b p (take (k - 0) (drop 0 qs))
       ready b p f d =
-          record { sheet = a; labels = f; placed = d; accepting = accepting-states; some = let z : k ≡ 0 → ⊥ = e in omega (arith, count, ap length accepting-states) }
+          record { sheet = a; labels = f; placed = d; accepting = accepting_states_lem; some = let z : k ≡ 0 → ⊥ = e in omega (arith, count, ap length accepting_states_lem) }
 
-pub ruleset markedLaws = (gathered-end, gathered-states, gathered-below, gathered-few, accepting-end, none-accepting, some-accepting, ready, rules)
+pub ruleset marked_laws = (gathered_end, gathered_states, gathered_below, gathered_few, accepting_end, none_accepting, some_accepting, ready, rules)
 
 -- 30
 module _ (s b : List ℕ) (r : Bool) (e : r ≡ has_epsilon (read_records (take (length s - records_at s) (drop (records_at s) s)))) where
   same_records : r ≡ has_epsilon (read s).transitions
   same_records = e ∙ ap (λ (l : List ℕ). has_epsilon (read_records l)) (part_all (records_at s) s)
 
-  pub epsilon-refused : r ≡ true → (o : List ℕ) → wrote_of (wrote.Refused (Input EpsilonRecord)) o ≡ write_outcome o (pattern_answer (read_pattern s b))
+  pub epsilon_refused : r ≡ true → (o : List ℕ) → wrote_of (wrote.Refused (Input EpsilonRecord)) o ≡ write_outcome o (pattern_answer (read_pattern s b))
   unfolding pattern_answer epsilon_first
-  epsilon-refused t o = wrote_refused o (Input EpsilonRecord) _ (rw (sym same_records ∙ t))
+  epsilon_refused t o = wrote_refused o (Input EpsilonRecord) _ (rw (sym same_records ∙ t))
 
-  pub epsilon-passed : r ≡ false → (o o' : List ℕ) (x : Wrote)
+  pub epsilon_passed : r ≡ false → (o o' : List ℕ) (x : Wrote)
       → wrote_of x o' ≡ write_outcome o (accepting_first (read s) (names_first (read_pattern s b) (given (pattern_text (read_pattern s b)))))
       → wrote_of x o' ≡ write_outcome o (pattern_answer (read_pattern s b))
   unfolding pattern_answer epsilon_first
-  epsilon-passed t o o' x y = y ∙ ap (write_outcome o) (sym (rw (sym same_records ∙ t)))
+  epsilon_passed t o o' x y = y ∙ ap (write_outcome o) (sym (rw (sym same_records ∙ t)))
 
-pub ruleset patternLaws = (zeros, epsilon-refused, epsilon-passed, rules)
+pub ruleset pattern_laws = (zeros, epsilon_refused, epsilon_passed, rules)
 
 -- 10
 module _ (s b : List ℕ) (r : Checked) (e : checked_number r ≡ labels_fault (state_count s) b) where
-  pub labels-written : r ≡ labels-checked.Accepted → (o o' : List ℕ) (x : Wrote) → wrote_of x o' ≡ write_outcome o (pattern_answer (read_pattern s b))
+  pub labels_written : r ≡ labels-checked.Accepted → (o o' : List ℕ) (x : Wrote) → wrote_of x o' ≡ write_outcome o (pattern_answer (read_pattern s b))
       → wrote_of x o' ≡ write_outcome o (labels_first (state_count s) b (pattern_answer (read_pattern s b)))
-  labels-written h o o' x y = y ∙ ap (write_outcome o) (sym (labels-passed (state_count s) b _ r e h))
+  labels_written h o o' x y = y ∙ ap (write_outcome o) (sym (labels_passed (state_count s) b _ r e h))
 
-  pub labels-faulty : (i : InputRefusal) → r ≡ labels-checked.Refused i → (o : List ℕ)
+  pub labels_faulty : (i : InputRefusal) → r ≡ labels-checked.Refused i → (o : List ℕ)
       → wrote_of (wrote.Refused (Input i)) o ≡ write_outcome o (labels_first (state_count s) b (pattern_answer (read_pattern s b)))
-  labels-faulty i h o = wrote_refused o (Input i) _ (labels_refused (state_count s) b _ r e i h)
+  labels_faulty i h o = wrote_refused o (Input i) _ (labels_refused (state_count s) b _ r e i h)
 
-pub ruleset labelsWriteLaws = (labels_accepted, labels-written, labels-faulty, rules)
+pub ruleset labels_write_laws = (labels_accepted, labels_written, labels_faulty, rules)
 
 -- 20, and the sheet's faults
 module _ (s b o : List ℕ) where
-  pub buffer-short : length o < 65536 → wrote_of (wrote.Refused (State OutputLength)) o ≡ write_outcome o (write_answer s b o)
+  pub buffer_short : length o < 65536 → wrote_of (wrote.Refused (State OutputLength)) o ≡ write_outcome o (write_answer s b o)
   unfolding write_answer
-  buffer-short h = wrote_refused o (State OutputLength) _ (rw (lt-ltb (length o) text_size h))
+  buffer_short h = wrote_refused o (State OutputLength) _ (rw (lt-ltb (length o) text_size h))
 
   module _ (l : 65536 ≤ length o) (r : sheet-answer.Checked) (e : sheet-check.checkedNumber r ≡ fault s) where
     pub sheet_written : r ≡ sheet-checked.Accepted → (o' : List ℕ) (x : Wrote) → wrote_of x o' ≡ write_outcome o (labels_first (state_count s) b (pattern_answer (read_pattern s b)))
@@ -207,8 +207,8 @@ module _ (s b o : List ℕ) where
     unfolding write_answer
     sheet_written h o' x y = y ∙ ap (write_outcome o) (sym (rw (le-ltb (length o) text_size l) (sheet_passed s _ r e h)))
 
-    pub sheet-faulty : (i : InputRefusal) → r ≡ sheet-checked.Refused i → wrote_of (wrote.Refused (Input i)) o ≡ write_outcome o (write_answer s b o)
+    pub sheet_faulty : (i : InputRefusal) → r ≡ sheet-checked.Refused i → wrote_of (wrote.Refused (Input i)) o ≡ write_outcome o (write_answer s b o)
     unfolding write_answer
-    sheet-faulty i h = wrote_refused o (Input i) _ (rw (le-ltb (length o) text_size l) (sheet_refused s _ r e i h))
+    sheet_faulty i h = wrote_refused o (Input i) _ (rw (le-ltb (length o) text_size l) (sheet_refused s _ r e i h))
 
-pub ruleset sheetWriteLaws = (check_accepted, buffer-short, sheet_written, sheet-faulty, rules)
+pub ruleset sheet_write_laws = (check_accepted, buffer_short, sheet_written, sheet_faulty, rules)

@@ -4,7 +4,7 @@ use native.Mathlib.Omega.{arith}
 use Prim.Native.Nat.{ℕ, ◌-◌, ◌<◌}
 use borrow.Fn.Kinds.{In}
 use borrow.Fn.PlainCycle.{Measures, is, falls, and}
-use Rattle.epsilon.proofs.Answers.{memoryLaws}
+use Rattle.epsilon.proofs.Answers.{memory_laws}
 use Rattle.epsilon.proofs.eliminate_tables.Reads as eliminate-tables
 use Rattle.epsilon.proofs.eliminate_tables.Kinds as eliminate-tables-kinds
 use Rattle.epsilon.proofs.+eliminate_tables.Lts-eliminate_tables as eliminate-tables-lts
@@ -36,7 +36,7 @@ pub +eliminate_tables_spec : {M : Type 1} → statement M
     (λ c. search rules)
     (λ c. search rules)
     (λ c. search rules)
-    (λ c κs. search memoryLaws)
+    (λ c κs. search memory_laws)
     (λ c κs. (omega arith, search rules))
     (λ c. search rules)
     (λ c. search rules)
@@ -44,7 +44,7 @@ pub +eliminate_tables_spec : {M : Type 1} → statement M
     (λ c. search rules)
     (λ c. search rules)
     (λ c. search rules)
-    (λ c κs. search memoryLaws)
+    (λ c κs. search memory_laws)
     (λ c. search rules)
     (λ c. search rules)
     (λ c. search rules))

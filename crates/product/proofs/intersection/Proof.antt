@@ -1,6 +1,6 @@
 -- `intersectionAnswer` meets its contract: room for the outputs, and then the first sheet.
 use borrow.Author.Rules.{rules}
-use Rattle.output.proofs.Answers.{room-words, room-bytes}
+use Rattle.output.proofs.Answers.{room_words, room_bytes}
 use Rattle.sheets.proofs.Accepted.{check_accepted}
 use Rattle.product.proofs.Making.{no_room, first_passed, first_refused}
 use Rattle.product.proofs.intersection.Statement.{statement}
@@ -13,8 +13,8 @@ intersection_spec =
     (λ c κs. search rules) (λ c. search rules) (λ c. search rules) (λ c. search no_room) (λ c κs. search rules) (λ c. search rules)
     (λ c κs. let g = c.args in (
       search (check_accepted, rules),
-      room-words g.out.now g.names.now _ c.lacks_room.ensures c.if-lacks_room.false,
-      room-bytes g.out.now g.names.now _ c.lacks_room.ensures c.if-lacks_room.false,
+      room_words g.out.now g.names.now _ c.lacks_room.ensures c.if-lacks_room.false,
+      room_bytes g.out.now g.names.now _ c.lacks_room.ensures c.if-lacks_room.false,
     ))
     (λ c. search rules) (λ c. search rules) (λ c. search rules) (λ c. search first_passed) (λ c. search rules)
     (λ c. search rules) (λ c. search (first_passed, first_refused)))

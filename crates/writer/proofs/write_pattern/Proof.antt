@@ -1,7 +1,7 @@
 -- `write_pattern` meets its contract: no record is an epsilon, and the tables are made.
 use Prim.Native.Nat.{ℕ}
 use lib.ListN.{length-replicate}
-use Rattle.writer.proofs.Answers.{patternLaws}
+use Rattle.writer.proofs.Answers.{pattern_laws}
 use Rattle.writer.proofs.Places.{labels_placed}
 use Rattle.writer.proofs.write_pattern.Statement.{statement}
 use Rattle.writer.proofs.write_pattern.Tie as tie
@@ -10,16 +10,16 @@ pub write-pattern-spec : {M : Type 1} → statement M
 write-pattern-spec =
     tie.close
     (tie.spec
-    (λ c. search patternLaws) (λ c. search patternLaws) (λ c. search patternLaws) (λ c. search patternLaws) (λ c. search patternLaws)
-    (λ c. search patternLaws) (λ c. search patternLaws) (λ c κs. search patternLaws) (λ c. search patternLaws) (λ c. search patternLaws)
-    (λ c κs. search patternLaws) (λ c. search patternLaws) (λ c κs. search patternLaws) (λ c. search patternLaws) (λ c. search patternLaws)
+    (λ c. search pattern_laws) (λ c. search pattern_laws) (λ c. search pattern_laws) (λ c. search pattern_laws) (λ c. search pattern_laws)
+    (λ c. search pattern_laws) (λ c. search pattern_laws) (λ c κs. search pattern_laws) (λ c. search pattern_laws) (λ c. search pattern_laws)
+    (λ c κs. search pattern_laws) (λ c. search pattern_laws) (λ c κs. search pattern_laws) (λ c. search pattern_laws) (λ c. search pattern_laws)
     (λ c κs.
     let places = c.before.before.before.before in
     let pre = places.before.before.before.before.before.before.before.before.before.before.before.before.requires in (
-      search patternLaws,
-      search patternLaws,
-      search patternLaws,
+      search pattern_laws,
+      search pattern_laws,
+      search pattern_laws,
       labels_placed _ _ _ _ pre.1 pre.0.few_states (length-replicate {A = ℕ} 256 0) places.label-places.ensures,
-      search patternLaws,
+      search pattern_laws,
     ))
-    (λ c. search patternLaws) (λ c. search patternLaws))
+    (λ c. search pattern_laws) (λ c. search pattern_laws))

@@ -1,5 +1,5 @@
 -- `write_ready` meets its contract: names first, then the length, then the text.
-use Rattle.writer.proofs.Answers.{readyWriteLaws}
+use Rattle.writer.proofs.Answers.{ready_write_laws}
 use Rattle.writer.proofs.write_ready.Statement.{statement}
 use Rattle.writer.proofs.write_ready.Tie as tie
 
@@ -7,6 +7,6 @@ pub write-ready-spec : {M : Type 1} → statement M
 write-ready-spec =
     tie.close
     (tie.spec
-    (λ c κs. search readyWriteLaws) (λ c. search readyWriteLaws) (λ c κs. search readyWriteLaws)
-    (λ c. search readyWriteLaws) (λ c κs. search readyWriteLaws) (λ c. search readyWriteLaws)
-    (λ c. search readyWriteLaws))
+    (λ c κs. search ready_write_laws) (λ c. search ready_write_laws) (λ c κs. search ready_write_laws)
+    (λ c. search ready_write_laws) (λ c κs. search ready_write_laws) (λ c. search ready_write_laws)
+    (λ c. search ready_write_laws))

@@ -1,5 +1,5 @@
 -- `write_sheet` meets its contract: the check of the labels decides.
-use Rattle.writer.proofs.Answers.{labelsWriteLaws}
+use Rattle.writer.proofs.Answers.{labels_write_laws}
 use Rattle.writer.proofs.write_sheet.Statement.{statement}
 use Rattle.writer.proofs.write_sheet.Tie as tie
 
@@ -7,6 +7,6 @@ pub write-sheet-spec : {M : Type 1} → statement M
 write-sheet-spec =
     tie.close
     (tie.spec
-    (λ c. search labelsWriteLaws) (λ c. search labelsWriteLaws) (λ c κs. search labelsWriteLaws) (λ c. search labelsWriteLaws)
-    (λ c κs. search labelsWriteLaws) (λ c. search labelsWriteLaws) (λ c. search labelsWriteLaws) (λ c. search labelsWriteLaws)
-    (λ c. search labelsWriteLaws))
+    (λ c. search labels_write_laws) (λ c. search labels_write_laws) (λ c κs. search labels_write_laws) (λ c. search labels_write_laws)
+    (λ c κs. search labels_write_laws) (λ c. search labels_write_laws) (λ c. search labels_write_laws) (λ c. search labels_write_laws)
+    (λ c. search labels_write_laws))
