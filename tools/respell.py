@@ -3,7 +3,7 @@
 
 usage: tools/respell.py [--check] [FOLDER]
 
-FOLDER is the top of a repository, the current one if none is given. A name is respelled if a file of specs/ or proofs/ declares it, in every .antt file, in the clauses
+FOLDER is the top of a repository, the current one if none is given. A name is respelled if a file of specs/ or proofs/ declares it or brings it in with `as`, in every .antt file, in the clauses
 and `ghost use` lines of every .rt file, and in the edits of must-fail/. Types, facts and modules begin with a capital letter and stay, and so do the functions of src/.
 What Rattle makes for a function's proof (the names in Proof.antt, Answers.antt and Invariants.antt behind a dot, but for fields of records that the repository
 declares) stays too. A lemma that would have the name of a definition gets `_lem`. A line `together:` tells of names of a file that would become one. --check writes
@@ -20,6 +20,7 @@ NAME = r"[^\s(){}.;,@\"«»:]+"
 DECLARED = re.compile(rf"(?m)^( *)((?:(?:abbrev|unfoldable|pub|infixl?|infixr) )*)({NAME})((?: \{{[^}}\n]*\}})*) :(?= |$)")
 RULESET = re.compile(rf"(?m)^ *(?:pub )?ruleset ({NAME}) =")
 TYPES = re.compile(rf"(?m)^(?:pub )?(?:record|data) ({NAME})[^\n]*\bwhere\n((?:  [^\n]*\n|\n)*)")
+RENAMED = re.compile(rf"(?m)^ *(?:(?:unfoldable|abbrev|pub|ghost) )*use [^\n]*?\bas ({NAME})")
 FIELD = re.compile(rf"(?m)^  (?:pub )?({NAME}) :(?= |$)")
 QUIET = re.compile(r'"(?:[^"\\\n]|\\.)*"|(?<![^\s(){}.;,@"«»])--[^\n]*')
 BLOCK = re.compile(r"\b(?:requires|ensures)\s*\*?\s*(?:\w+\s*)?\{|\bghost\s+(?:invariant\s*)?(?:\w+\s*:\s*)?\{|\bghost use\b")
@@ -96,6 +97,7 @@ def main(argv):
         code = code_of(text)
         declared.update(m[3] for m in DECLARED.finditer(code))
         declared.update(RULESET.findall(code))
+        declared.update(RENAMED.findall(code))
         for _, body in TYPES.findall(code):
             fields.update(FIELD.findall(body))
     table = {name: snake(name) for name in declared | fields if turns(name)}

@@ -10,21 +10,21 @@ use Rattle.equality.specs.Equality.{word_size}
 use Rattle.output.specs.Left.{Room}
 use Rattle.ringmatch.specs.Reply.{number_reply, outputs_reply, verdict_reply}
 use Rattle.ringmatch.proofs.ringmatch_equality.Kinds as equality
-use Rattle.ringmatch.proofs.ringmatch_equality.Reads as ringmatch-equality
+use Rattle.ringmatch.proofs.ringmatch_equality.Reads as ringmatch_equality
 use Rattle.ringmatch.proofs.ringmatch_determinize.Kinds as determinize
-use Rattle.ringmatch.proofs.ringmatch_determinize.Reads as ringmatch-determinize
+use Rattle.ringmatch.proofs.ringmatch_determinize.Reads as ringmatch_determinize
 use Rattle.ringmatch.proofs.ringmatch_complement.Kinds as complement
-use Rattle.ringmatch.proofs.ringmatch_complement.Reads as ringmatch-complement
+use Rattle.ringmatch.proofs.ringmatch_complement.Reads as ringmatch_complement
 use Rattle.ringmatch.proofs.ringmatch_intersection.Kinds as intersection
-use Rattle.ringmatch.proofs.ringmatch_intersection.Reads as ringmatch-intersection
+use Rattle.ringmatch.proofs.ringmatch_intersection.Reads as ringmatch_intersection
 use Rattle.ringmatch.proofs.ringmatch_has_reachable_accepting_state.Kinds as reachable
-use Rattle.ringmatch.proofs.ringmatch_has_reachable_accepting_state.Reads as ringmatch-reachable
+use Rattle.ringmatch.proofs.ringmatch_has_reachable_accepting_state.Reads as ringmatch_reachable
 use Rattle.crossed.specs.Calls.{EqualityCall, DeterminizeCall, ComplementCall, IntersectionCall, ReachableCall}
 
 -- ringmatch_equality(a, b, word, same, number)
 module _ (κs : Lfts 5) (a : Dens κs equality.ps) (code : ℕ) (z : AtExit (ended_of 5 equality.ps equality.r) κs) where
   pub equality_contract : (room : word_size ≤ length a.1.1.0.now)
-      → ringmatch-equality.Learnt κs a code z ≡ EqualityCall a.0.now a.1.0.now (record {
+      → ringmatch_equality.Learnt κs a code z ≡ EqualityCall a.0.now a.1.0.now (record {
         word = a.1.1.0.now;
         same = a.1.1.1.0.now;
         number = a.1.1.1.1.0.now;
@@ -36,7 +36,7 @@ module _ (κs : Lfts 5) (a : Dens κs equality.ps) (code : ℕ) (z : AtExit (end
 -- ringmatch_determinize(sheet, out, names, words, bytes)
 module _ (κs : Lfts 5) (a : Dens κs determinize.ps) (code : ℕ) (z : AtExit (ended_of 5 determinize.ps determinize.r) κs) where
   pub determinize_contract : (room : Room a.1.0.now a.1.1.0.now)
-      → ringmatch-determinize.Learnt κs a code z ≡ DeterminizeCall a.0.now (record {
+      → ringmatch_determinize.Learnt κs a code z ≡ DeterminizeCall a.0.now (record {
         sheet = a.1.0.now;
         labels = a.1.1.0.now;
         words = a.1.1.1.0.now;
@@ -49,7 +49,7 @@ module _ (κs : Lfts 5) (a : Dens κs determinize.ps) (code : ℕ) (z : AtExit (
 -- ringmatch_complement(sheet, labels, out, names, words, bytes)
 module _ (κs : Lfts 6) (a : Dens κs complement.ps) (code : ℕ) (z : AtExit (ended_of 6 complement.ps complement.r) κs) where
   pub complement_contract : (room : Room a.1.1.0.now a.1.1.1.0.now)
-      → ringmatch-complement.Learnt κs a code z ≡ ComplementCall a.0.now a.1.0.now (record {
+      → ringmatch_complement.Learnt κs a code z ≡ ComplementCall a.0.now a.1.0.now (record {
         sheet = a.1.1.0.now;
         labels = a.1.1.1.0.now;
         words = a.1.1.1.1.0.now;
@@ -62,7 +62,7 @@ module _ (κs : Lfts 6) (a : Dens κs complement.ps) (code : ℕ) (z : AtExit (e
 -- ringmatch_intersection(a, b, out, names, words, bytes)
 module _ (κs : Lfts 6) (a : Dens κs intersection.ps) (code : ℕ) (z : AtExit (ended_of 6 intersection.ps intersection.r) κs) where
   pub intersection_contract : (room : Room a.1.1.0.now a.1.1.1.0.now)
-      → ringmatch-intersection.Learnt κs a code z ≡ IntersectionCall a.0.now a.1.0.now (record {
+      → ringmatch_intersection.Learnt κs a code z ≡ IntersectionCall a.0.now a.1.0.now (record {
         sheet = a.1.1.0.now;
         labels = a.1.1.1.0.now;
         words = a.1.1.1.1.0.now;
@@ -74,5 +74,5 @@ module _ (κs : Lfts 6) (a : Dens κs intersection.ps) (code : ℕ) (z : AtExit 
 
 -- ringmatch_has_reachable_accepting_state(sheet, answer)
 module _ (κs : Lfts 2) (a : Dens κs reachable.ps) (code : ℕ) (z : AtExit (ended_of 2 reachable.ps reachable.r) κs) where
-  pub reachable_contract : ringmatch-reachable.Learnt κs a code z ≡ ReachableCall a.0.now (record { answer = a.1.0.now; after = number_reply code z.1.0.now })
+  pub reachable_contract : ringmatch_reachable.Learnt κs a code z ≡ ReachableCall a.0.now (record { answer = a.1.0.now; after = number_reply code z.1.0.now })
   reachable_contract = refl

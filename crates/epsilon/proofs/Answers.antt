@@ -12,11 +12,11 @@ use Rattle.stores.specs.Written.{Written}
 use Rattle.stores.proofs.Written.{written_length}
 use Rattle.automata.specs.Automaton.{states}
 use Rattle.automata.specs.Ordered.{in_order}
-use Rattle.labels.specs.Checked as labelCheck
+use Rattle.labels.specs.Checked as label_check
 use Rattle.labels.specs.Labels.{labels_fault, read_labels, write_labels, label_count}
 use Rattle.labels.specs.inner.Places.{LabelList}
 use Rattle.labels.specs.declared.Checked as labelled
-use Rattle.labels.specs.declared.Checked.TheVariants as labelAnswer
+use Rattle.labels.specs.declared.Checked.TheVariants as label_answer
 use Rattle.labels.proofs.Labels.{label_list, count_read}
 use Rattle.output.specs.inner.Gathering.{Collected}
 use Rattle.output.specs.Made.{output_of}
@@ -33,7 +33,7 @@ use Rattle.refusal.specs.declared.StateRefusal.TheVariants.{OutputLength, Transi
 use Rattle.sheets.specs.inner.Accepted.{Accepted}
 use Rattle.sheets.specs.Checked.{checked_number}
 use Rattle.sheets.specs.declared.Checked.{Checked}
-use Rattle.sheets.specs.declared.Checked.TheVariants as sheetAnswer
+use Rattle.sheets.specs.declared.Checked.TheVariants as sheet_answer
 use Rattle.sheets.specs.Fault.{fault}
 use Rattle.sheets.specs.Sheet.{state_count, read, write}
 use Rattle.sheets.proofs.Accepted.{check_accepted}
@@ -81,18 +81,18 @@ module _ (s b : List ℕ) (a : Accepted s) (h : labels_fault (state_count s) b �
 pub ruleset result_laws = (all_written, kept_list, kept_count, written_length, rules)
 
 -- the check of the labels
-module _ (n : ℕ) (b : List ℕ) (r : labelled.Checked) (e : labelCheck.checkedNumber r ≡ labels_fault n b) (a : Answer Pattern) where
-  pub labels_given : r ≡ labelAnswer.Accepted → (o l : List ℕ) (x : Outcome output.Lengths Outputs) → x ≡ outputs o l a → x ≡ outputs o l (labels_first n b a)
+module _ (n : ℕ) (b : List ℕ) (r : labelled.Checked) (e : label_check.checked_number r ≡ labels_fault n b) (a : Answer Pattern) where
+  pub labels_given : r ≡ label_answer.Accepted → (o l : List ℕ) (x : Outcome output.Lengths Outputs) → x ≡ outputs o l a → x ≡ outputs o l (labels_first n b a)
   labels_given h o l x p = p ∙ ap (outputs o l) (sym (labels_passed n b a r e h))
 
-  pub labels_stopped : (i : InputRefusal) → r ≡ labelAnswer.Refused i → (o l : List ℕ) → output_of (Refused (Input i)) o l ≡ outputs o l (labels_first n b a)
+  pub labels_stopped : (i : InputRefusal) → r ≡ label_answer.Refused i → (o l : List ℕ) → output_of (Refused (Input i)) o l ≡ outputs o l (labels_first n b a)
   labels_stopped i h o l = made_refused o l (Input i) _ (labels_refused n b a r e i h)
 
 pub ruleset checked_laws = (labels_accepted, labels_given, labels_stopped, rules)
 
 -- the room of the outputs, and the check of the sheet
 pub sheet_ready : (o l s : List ℕ) (w : Bool) → w ≡ (ltb (length o) 10500 || ltb (length l) 16642) → w ≡ false → (r : Checked)
-    → checked_number r ≡ fault s → r ≡ sheetAnswer.Accepted → EliminationInputs s o l
+    → checked_number r ≡ fault s → r ≡ sheet_answer.Accepted → EliminationInputs s o l
 sheet_ready o l s w e h r f g = record { accepted = check_accepted r s f g; words = room_words o l w e h; bytes = room_bytes o l w e h }
 
 module _ (o l s b : List ℕ) (w : Bool) (e : w ≡ (ltb (length o) 10500 || ltb (length l) 16642)) where
@@ -101,11 +101,11 @@ module _ (o l s b : List ℕ) (w : Bool) (e : w ≡ (ltb (length o) 10500 || ltb
   room_stopped h = made_refused o l (State OutputLength) _ (room_lacking o l _ w e h)
 
   module _ (h : w ≡ false) (r : Checked) (f : checked_number r ≡ fault s) where
-    pub sheet_stopped : (i : InputRefusal) → r ≡ sheetAnswer.Refused i → output_of (Refused (Input i)) o l ≡ outputs o l (eliminate_answer s b o l)
+    pub sheet_stopped : (i : InputRefusal) → r ≡ sheet_answer.Refused i → output_of (Refused (Input i)) o l ≡ outputs o l (eliminate_answer s b o l)
     unfolding eliminate_answer
     sheet_stopped i g = made_refused o l (Input i) _ (room_enough o l _ w e h ∙ sheet_refused s _ r f i g)
 
-    pub sheet_given : r ≡ sheetAnswer.Accepted → (x : Outcome output.Lengths Outputs)
+    pub sheet_given : r ≡ sheet_answer.Accepted → (x : Outcome output.Lengths Outputs)
         → x ≡ outputs o l (labels_first (state_count s) b (eliminated_with (read s) (read_labels b))) → x ≡ outputs o l (eliminate_answer s b o l)
     unfolding eliminate_answer
     sheet_given g x p = p ∙ ap (outputs o l) (sym (room_enough o l _ w e h ∙ sheet_passed s _ r f g))

@@ -1,6 +1,6 @@
 -- Label lists of document 01: the count of labels in two bytes, low first, then each label after its one-byte length.
 use Rattle.std.specs.Prelude.{ℕ, zero, suc, ◌+◌, ◌*◌, ◌/◌, ◌%◌, ◌≤◌, Bool, true, false, cond, ◌&&◌, List, [], ◌∷◌, ◌++◌, leb, eqb, length, get_or, take, drop}
-unfoldable pub use Rattle.lists.specs.Index.{same as sameLabel}
+unfoldable pub use Rattle.lists.specs.Index.{same as same_label}
 
 -- a label after its length
 abbrev pub entry : List ℕ → List ℕ

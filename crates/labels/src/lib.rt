@@ -2,7 +2,7 @@
 #![tactic(auto)]
 
 ghost use Rattle.std.specs.Prelude.{◌≡◌, ◌+◌, ◌≤◌, ◌<◌, length, get_or, take, drop};
-ghost use Rattle.labels.specs.Labels.{entries_ok, labels_fault, sameLabel};
+ghost use Rattle.labels.specs.Labels.{entries_ok, labels_fault, same_label};
 ghost use Rattle.labels.specs.Checked.{checked_number};
 
 use refusal::InputRefusal;
@@ -96,7 +96,7 @@ pub fn label_from(b: &[u8], at: usize) -> &[u8]
 
 // Whether two labels are the same.
 pub fn same_label(a: &[u8], b: &[u8]) -> bool
-    ensures { result ≡ sameLabel a.now b.now }
+    ensures { result ≡ same_label a.now b.now }
 {
     if a.len() != b.len() {
         return false;

@@ -11,7 +11,7 @@ use Rattle.grammar.specs.Places.{spelled}
 use Rattle.grammar.specs.inner.Places.{Drawn, Spelt}
 use Rattle.grammar.specs.declared.tokens.TextSpan.{TextSpan}
 use Rattle.grammar.specs.declared.pieces.Arrow.{Arrow}
-use Rattle.labels.specs.Labels.{sameLabel}
+use Rattle.labels.specs.Labels.{same_label}
 use Rattle.lists.specs.Lists.{◌∈◌}
 use Rattle.lists.proofs.Index.{index_le, index_lt, index_before, index_behind, same_decides}
 use Rattle.name_table.specs.declared.Added.{Added}
@@ -32,32 +32,32 @@ use Rattle.parser.specs.declared.arrows.Entry.TheVariants.{At as EntryAt, Full a
 use Rattle.parser.proofs.Tables.{added_table, added_names, added_full}
 
 -- the number of a name among names to which others are added
-number_stays : (x : List ℕ) (xs T : List (List ℕ)) → x ∈ T → index sameLabel x (meet sameLabel xs T) ≡ index sameLabel x T
-number_stays x xs T m = let p = meet_extends sameLabel xs T in ap (index sameLabel x) p.is ∙ index_before sameLabel x T p.rest (index_lt sameLabel same_decides x m)
+number_stays : (x : List ℕ) (xs T : List (List ℕ)) → x ∈ T → index same_label x (meet same_label xs T) ≡ index same_label x T
+number_stays x xs T m = let p = meet_extends same_label xs T in ap (index same_label x) p.is ∙ index_before same_label x T p.rest (index_lt same_label same_decides x m)
 
 -- and a transition between them
-pub transition_stays : (m : Move) (xs T : List (List ℕ)) → m.from ∈ T → m.to ∈ T → transition_of_move T m ≡ transition_of_move (meet sameLabel xs T) m
+pub transition_stays : (m : Move) (xs T : List (List ℕ)) → m.from ∈ T → m.to ∈ T → transition_of_move T m ≡ transition_of_move (meet same_label xs T) m
 transition_stays m xs T p q = rw (number_stays m.from xs T p, number_stays m.to xs T q)
 
-added_in : (x : List ℕ) (T : List (List ℕ)) → x ∈ add sameLabel x T
+added_in : (x : List ℕ) (T : List (List ℕ)) → x ∈ add same_label x T
 unfolding meet
-added_in x T = meet_in sameLabel same_decides (x ∷ []) T x (Memᴰ.head refl)
+added_in x T = meet_in same_label same_decides (x ∷ []) T x (Memᴰ.head refl)
 
 -- a name that is added behind the others has their count for its number
-added_number : (x : List ℕ) (T : List (List ℕ)) → length T ≤ index sameLabel x T → index sameLabel x T ≡ index sameLabel x (add sameLabel x T)
+added_number : (x : List ℕ) (T : List (List ℕ)) → length T ≤ index same_label x T → index same_label x T ≡ index same_label x (add same_label x T)
 added_number x T h =
-    let e : index sameLabel x T ≡ length T = omega (arith, index_le sameLabel x T) in
-    e ∙ sym (ap (index sameLabel x) (add_new sameLabel x T h) ∙ index_behind sameLabel x x T h ∙ rw (same_decides.same_self x))
+    let e : index same_label x T ≡ length T = omega (arith, index_le same_label x T) in
+    e ∙ sym (ap (index same_label x) (add_new same_label x T h) ∙ index_behind same_label x x T h ∙ rw (same_decides.same_self x))
 
 -- a name whose number was sought
-module _ (text t : List ℕ) (n : ℕ) (k : SpeltTable text t n) (x : TextSpan) (i : ℕ) (e : i ≡ index sameLabel (spelled text x) (names_in text t n)) where
+module _ (text t : List ℕ) (n : ℕ) (k : SpeltTable text t n) (x : TextSpan) (i : ℕ) (e : i ≡ index same_label (spelled text x) (names_in text t n)) where
   pub enter_known : i < n → Entered text (spelled text x) (names_in text t n) t i n
   enter_known h =
-      let q = add_known sameLabel (spelled text x) (names_in text t n) (omega (arith, e, names_count text t n)) in
-      record { table = k; names = sym q; number = e ∙ ap (index sameLabel (spelled text x)) (sym q) }
+      let q = add_known same_label (spelled text x) (names_in text t n) (omega (arith, e, names_count text t n)) in
+      record { table = k; names = sym q; number = e ∙ ap (index same_label (spelled text x)) (sym q) }
 
-  module _ (m : List ℕ) (r : Added) (a : SpeltAddition text (add sameLabel (spelled text x) (names_in text t n)) m r) where
-    pub enter_full : r ≡ Full → 256 < length (add sameLabel (spelled text x) (names_in text t n))
+  module _ (m : List ℕ) (r : Added) (a : SpeltAddition text (add same_label (spelled text x) (names_in text t n)) m r) where
+    pub enter_full : r ≡ Full → 256 < length (add same_label (spelled text x) (names_in text t n))
     enter_full q = added_full _ _ m r a q
 
     pub enter_new : n ≤ i → (u : ℕ) → r ≡ Kept u → Entered text (spelled text x) (names_in text t n) m i u
@@ -75,7 +75,7 @@ module _ (text x : List ℕ) (ls : List (List ℕ)) (t : List ℕ) (r : Entry) (
   pub entry_at : (i n : ℕ) → r ≡ EntryAt i n → Entered text x ls t i n
   entry_at i n e = subst (Entering text x ls t) e a
 
-  pub entry_none : r ≡ NoEntry → 256 < length (add sameLabel x ls)
+  pub entry_none : r ≡ NoEntry → 256 < length (add same_label x ls)
   entry_none e = subst (Entering text x ls t) e a
 
   pub entry_table : (i n : ℕ) → r ≡ EntryAt i n → SpeltTable text t n
@@ -97,37 +97,37 @@ pub ruleset note_laws = (note_room, note_over, note_more, rules)
 
 -- the names of a transition, one after the other: r is the answer for the first
 module _ (text : List ℕ) (e : Arrow) (ls : List (List ℕ)) (t : List ℕ) (r : Entry) (a : Entering text (spelled text e.from) ls t r) where
-  pub first_full : r ≡ NoEntry → 256 < length (meet sameLabel (both_names (spell_move text e)) ls)
+  pub first_full : r ≡ NoEntry → 256 < length (meet same_label (both_names (spell_move text e)) ls)
   unfolding meet
-  first_full q = omega (arith, entry_none _ _ _ _ r a q, extends_length (meet_extends sameLabel (spelled text e.to ∷ []) (add sameLabel (spelled text e.from) ls)))
+  first_full q = omega (arith, entry_none _ _ _ _ r a q, extends_length (meet_extends same_label (spelled text e.to ∷ []) (add same_label (spelled text e.from) ls)))
 
   module _ (from n : ℕ) (q : r ≡ EntryAt from n) (u : List ℕ) (s : Entry) (b : Entering text (spelled text e.to) (names_in text t n) u s) where
     one : Entered text (spelled text e.from) ls t from n
     one = entry_at _ _ _ _ r a from n q
 
-    both : add sameLabel (spelled text e.to) (names_in text t n) ≡ meet sameLabel (both_names (spell_move text e)) ls
+    both : add same_label (spelled text e.to) (names_in text t n) ≡ meet same_label (both_names (spell_move text e)) ls
     unfolding meet
-    both = ap (add sameLabel (spelled text e.to)) one.names
+    both = ap (add same_label (spelled text e.to)) one.names
 
-    pub second_full : s ≡ NoEntry → 256 < length (meet sameLabel (both_names (spell_move text e)) ls)
+    pub second_full : s ≡ NoEntry → 256 < length (meet same_label (both_names (spell_move text e)) ls)
     second_full p = omega (arith, entry_none _ _ _ _ s b p, ap length both)
 
     module _ (to k : ℕ) (p : s ≡ EntryAt to k) where
       two : Entered text (spelled text e.to) (names_in text t n) u to k
       two = entry_at _ _ _ _ s b to k p
 
-      all : names_in text u k ≡ meet sameLabel (both_names (spell_move text e)) ls
+      all : names_in text u k ≡ meet same_label (both_names (spell_move text e)) ls
       all = two.names ∙ both
 
-      from_number : from ≡ index sameLabel (spelled text e.from) (names_in text u k)
+      from_number : from ≡ index same_label (spelled text e.from) (names_in text u k)
       unfolding meet
       from_number =
           one.number
-          ∙ sym (ap (index sameLabel (spelled text e.from)) all
-          ∙ number_stays (spelled text e.from) (spelled text e.to ∷ []) (add sameLabel (spelled text e.from) ls) (added_in (spelled text e.from) ls))
+          ∙ sym (ap (index same_label (spelled text e.from)) all
+          ∙ number_stays (spelled text e.from) (spelled text e.to ∷ []) (add same_label (spelled text e.from) ls) (added_in (spelled text e.from) ls))
 
-      to_number : to ≡ index sameLabel (spelled text e.to) (names_in text u k)
-      to_number = two.number ∙ ap (index sameLabel (spelled text e.to)) (sym two.names)
+      to_number : to ≡ index same_label (spelled text e.to) (names_in text u k)
+      to_number = two.number ∙ ap (index same_label (spelled text e.to)) (sym two.names)
 
       pub both_noted : (old : List ℕ) (f : Filled) (new : List ℕ) (g : Filled) → Noting old f (record { from = from; kind = 1; first = e.first; last = e.last; to = to }) new g
           → ArrowNoted text (spell_move text e) ls u old f new k g

@@ -21,7 +21,7 @@ use Rattle.lists.specs.Lists.{any, Distinct}
 use Rattle.lists.proofs.Tests.{test}
 use Rattle.lists.proofs.Index.{index_any, index_same, same_decides}
 use Rattle.lists.proofs.Lists.{map_at}
-use Rattle.labels.specs.Labels.{sameLabel}
+use Rattle.labels.specs.Labels.{same_label}
 use Rattle.search.specs.Search.{index}
 use Rattle.name_table.proofs.Finding.{names_count}
 use Rattle.parser.specs.inner.Accepts.{mark_one, mark_all}
@@ -30,7 +30,7 @@ use Rattle.parser.specs.inner.Names.{SpeltTable, names_in}
 use Rattle.parser.specs.Pattern.{accept_word, is_among}
 
 -- the state's word is marked, or there is none
-module _ (t b : List ℕ) (n : ℕ) (k : SpeltTable t b n) (x : TextSpan) (ws : List ℕ) (i : ℕ) (e : i ≡ index sameLabel (spelled t x) (names_in t b n)) where
+module _ (t b : List ℕ) (n : ℕ) (k : SpeltTable t b n) (x : TextSpan) (ws : List ℕ) (i : ℕ) (e : i ≡ index same_label (spelled t x) (names_in t b n)) where
   pub mark_none : n ≤ i → ws ≡ mark_one t (names_in t b n) ws x
   unfolding mark_one
   mark_none h = sym (rw (← e, names_count t b n, le-ltb i n h))
@@ -40,7 +40,7 @@ module _ (t b : List ℕ) (n : ℕ) (k : SpeltTable t b n) (x : TextSpan) (ws : 
   mark_set h = sym (rw (← e, names_count t b n, lt-ltb i n h))
 
   among : is_among (names_in t b n) (spelled t x) ≡ ltb i n
-  among = index_any sameLabel (spelled t x) (names_in t b n) ∙ ap₂ ltb (sym e) (names_count t b n)
+  among = index_any same_label (spelled t x) (names_in t b n) ∙ ap₂ ltb (sym e) (names_count t b n)
 
   pub among_not : n ≤ i → false ≡ is_among (names_in t b n) (spelled t x)
   among_not h = sym (among ∙ le-ltb i n h)
@@ -70,9 +70,9 @@ marks_first t ls ws m n x xs p q = q ∙ ap (λ (v : List ℕ). mark_all t ls v 
 
 module _ (t : List ℕ) (ls : List (List ℕ)) (d : Distinct ls) where
   -- one name marks the word of its state and no other
-  one_mark : (ws : List ℕ) (x : TextSpan) (j : ℕ) → length ls ≤ length ws → j < length ls → get_or (mark_one t ls ws x) j 0 ≡ cond (sameLabel (get_or ls j []) (spelled t x)) 1 (get_or ws j 0)
+  one_mark : (ws : List ℕ) (x : TextSpan) (j : ℕ) → length ls ≤ length ws → j < length ls → get_or (mark_one t ls ws x) j 0 ≡ cond (same_label (get_or ls j []) (spelled t x)) 1 (get_or ws j 0)
   unfolding mark_one
-  one_mark ws x j g h = rw (index_same sameLabel same_decides [] (spelled t x) j d h) (go (index sameLabel (spelled t x) ls))
+  one_mark ws x j g h = rw (index_same same_label same_decides [] (spelled t x) j d h) (go (index same_label (spelled t x) ls))
     where
       go : (i : ℕ) → get_or (cond (ltb i (length ls)) (set ws i 1) ws) j 0 ≡ cond (eqb i j) 1 (get_or ws j 0)
       go i =
@@ -85,10 +85,10 @@ module _ (t : List ℕ) (ls : List (List ℕ)) (d : Distinct ls) where
 
   mark_length : (ws : List ℕ) (x : TextSpan) → length (mark_one t ls ws x) ≡ length ws
   unfolding mark_one
-  mark_length ws x = go (ltb (index sameLabel (spelled t x) ls) (length ls))
+  mark_length ws x = go (ltb (index same_label (spelled t x) ls) (length ls))
     where
-      go : (c : Bool) → length (cond c (set ws (index sameLabel (spelled t x) ls) 1) ws) ≡ length ws
-      go true = length-set ws (index sameLabel (spelled t x) ls) 1
+      go : (c : Bool) → length (cond c (set ws (index same_label (spelled t x) ls) 1) ws) ≡ length ws
+      go true = length-set ws (index same_label (spelled t x) ls) 1
       go false = refl
 
   pub marks_length : (ws : List ℕ) (xs : List TextSpan) → length (mark_all t ls ws xs) ≡ length ws
@@ -97,13 +97,13 @@ module _ (t : List ℕ) (ls : List (List ℕ)) (d : Distinct ls) where
   marks_length ws (x ∷ xs) = marks_length (mark_one t ls ws x) xs ∙ mark_length ws x
 
   all_marks : (ws : List ℕ) (xs : List TextSpan) (j : ℕ) → length ls ≤ length ws → j < length ls
-      → get_or (mark_all t ls ws xs) j 0 ≡ cond (any (sameLabel (get_or ls j [])) (map (spelled t) xs)) 1 (get_or ws j 0)
+      → get_or (mark_all t ls ws xs) j 0 ≡ cond (any (same_label (get_or ls j [])) (map (spelled t) xs)) 1 (get_or ws j 0)
   unfolding mark_all any
   all_marks ws [] j g h = refl
   all_marks ws (x ∷ xs) j g h =
       all_marks (mark_one t ls ws x) xs j (rw (mark_length ws x) g) h
-      ∙ ap (cond (any (sameLabel (get_or ls j [])) (map (spelled t) xs)) 1) (one_mark ws x j g h)
-      ∙ either (any (sameLabel (get_or ls j [])) (map (spelled t) xs)) (sameLabel (get_or ls j []) (spelled t x)) (get_or ws j 0)
+      ∙ ap (cond (any (same_label (get_or ls j [])) (map (spelled t) xs)) 1) (one_mark ws x j g h)
+      ∙ either (any (same_label (get_or ls j [])) (map (spelled t) xs)) (same_label (get_or ls j []) (spelled t x)) (get_or ws j 0)
     where
       either : (p q : Bool) (w : ℕ) → cond p 1 (cond q 1 w) ≡ cond (q || p) 1 w
       either true true w = refl
@@ -120,7 +120,7 @@ module _ (t : List ℕ) (ls : List (List ℕ)) (d : Distinct ls) where
       ext_get_or 0 _ _ (m ∙ sym (length-map ls (accept_word (map (spelled t) xs)))) λ j h.
       let k : j < length ls = omega arith in
       get_or-take (length ls) (mark_all t ls ws xs) j 0 k ∙ all_marks ws xs j (omega (arith, z.long)) k
-      ∙ ap (cond (any (sameLabel (get_or ls j [])) (map (spelled t) xs)) 1) (z.zero j) ∙ sym (map_at (accept_word (map (spelled t) xs)) ls j [] 0 k)
+      ∙ ap (cond (any (same_label (get_or ls j [])) (map (spelled t) xs)) 1) (z.zero j) ∙ sym (map_at (accept_word (map (spelled t) xs)) ls j [] 0 k)
 
 -- a table's names have some of the 256 words
 module _ (t b : List ℕ) (n : ℕ) (k : SpeltTable t b n) where

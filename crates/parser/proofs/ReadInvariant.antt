@@ -21,7 +21,7 @@ use Rattle.grammar.specs.declared.pieces.Arrow.{Arrow}
 use Rattle.grammar.specs.declared.pieces.ArrowPiece.{ArrowPiece}
 use Rattle.grammar.specs.declared.pieces.ArrowPiece.TheVariants.{Read as ArrowRead, Nothing as NoArrow}
 use Rattle.grammar.proofs.Many.{arrows_ended, arrows_more, arrows_less, arrow_drawn}
-use Rattle.labels.specs.Labels.{sameLabel}
+use Rattle.labels.specs.Labels.{same_label}
 use Rattle.lists.specs.Lists.{◌∈◌, tabulate}
 use Rattle.lists.proofs.Index.{same_decides}
 use Rattle.lists.proofs.Tests.{test}
@@ -80,7 +80,7 @@ module _ (text : List ℕ) (m : Move) (ls : List (List ℕ)) (t old : List ℕ) 
   noted_at : (n : ℕ) (g : Filled) → r ≡ NotedAt n g → ArrowNoted text m ls t old f new n g
   noted_at n g e = subst (ArrowNoting text m ls t old f new) e a
 
-  noted_full : r ≡ NotNoted → 256 < length (meet sameLabel (both_names m) ls)
+  noted_full : r ≡ NotNoted → 256 < length (meet same_label (both_names m) ls)
   noted_full e = subst (ArrowNoting text m ls t old f new) e a
 
 module _ (text : List ℕ) (start : ℕ) (ls : List (List ℕ)) (t buf : List ℕ) (at n : ℕ) (f : Filled) (g : ReadInvariant text start ls t buf at n f) where
@@ -98,7 +98,7 @@ module _ (text : List ℕ) (start : ℕ) (ls : List (List ℕ)) (t buf : List �
 
       ended_names : names_in text t n ≡ all_names text start ls
       unfolding all_names meet names_of flat_map
-      ended_names = sym (sym g.names ∙ ap (λ (i : Items Arrow). meet sameLabel (names_of (map (spell_move text) i.items)) (names_in text t n)) ended)
+      ended_names = sym (sym g.names ∙ ap (λ (i : Items Arrow). meet same_label (names_of (map (spell_move text) i.items)) (names_in text t n)) ended)
 
       ended_gathered : Gathered buf f.sorted f.end (numbered_transitions text start (all_names text start ls))
       unfolding numbered_transitions
@@ -127,11 +127,11 @@ module _ (text : List ℕ) (start : ℕ) (ls : List (List ℕ)) (t buf : List �
       moved : transitions text at ≡ record { items = e ∷ (transitions text next.at).items; behind = (transitions text next.at).behind }
       moved = arrows_more text at p told e next h
 
-      moved_names : all_names text start ls ≡ all_names text next.at (meet sameLabel (both_names (spell_move text e)) (names_in text t n))
+      moved_names : all_names text start ls ≡ all_names text next.at (meet same_label (both_names (spell_move text e)) (names_in text t n))
       unfolding all_names names_of flat_map
       moved_names =
-          sym g.names ∙ ap (λ (i : Items Arrow). meet sameLabel (names_of (map (spell_move text) i.items)) (names_in text t n)) moved
-          ∙ meet_append sameLabel (both_names (spell_move text e)) (names_of (moves_at text next.at)) (names_in text t n)
+          sym g.names ∙ ap (λ (i : Items Arrow). meet same_label (names_of (map (spell_move text) i.items)) (names_in text t n)) moved
+          ∙ meet_append same_label (both_names (spell_move text e)) (names_of (moves_at text next.at)) (names_in text t n)
 
       moved_place : (transitions text next.at).behind ≡ (transitions text start).behind
       moved_place = sym (ap (λ (i : Items Arrow). i.behind) moved) ∙ g.place
@@ -140,7 +140,7 @@ module _ (text : List ℕ) (start : ℕ) (ls : List (List ℕ)) (t buf : List �
       unfolding all_names
       going_full q c b =
           let l = noted_full _ _ _ _ _ _ _ r a q in
-          let x = extends_length (meet_extends sameLabel (names_of (moves_at text next.at)) (meet sameLabel (both_names (spell_move text e)) (names_in text t n))) in
+          let x = extends_length (meet_extends same_label (names_of (moves_at text next.at)) (meet same_label (both_names (spell_move text e)) (names_in text t n))) in
           record {
             behind = b ∙ moved_place;
             names = full (omega (arith, ap length moved_names));
@@ -163,8 +163,8 @@ module _ (text : List ℕ) (start : ℕ) (ls : List (List ℕ)) (t buf : List �
         unfolding all_names
         final =
             transition_stays (spell_move text e) (names_of (moves_at text next.at)) (names_in text m u)
-            (subst (λ (T : List (List ℕ)). spelled text e.from ∈ T) (sym noted.names) (meet_in sameLabel same_decides (both_names (spell_move text e)) (names_in text t n) _ (Memᴰ.head refl)))
-            (subst (λ (T : List (List ℕ)). spelled text e.to ∈ T) (sym noted.names) (meet_in sameLabel same_decides (both_names (spell_move text e)) (names_in text t n) _ (Memᴰ.tail (Memᴰ.head refl))))
+            (subst (λ (T : List (List ℕ)). spelled text e.from ∈ T) (sym noted.names) (meet_in same_label same_decides (both_names (spell_move text e)) (names_in text t n) _ (Memᴰ.head refl)))
+            (subst (λ (T : List (List ℕ)). spelled text e.to ∈ T) (sym noted.names) (meet_in same_label same_decides (both_names (spell_move text e)) (names_in text t n) _ (Memᴰ.tail (Memᴰ.head refl))))
             ∙ ap (λ (T : List (List ℕ)). transition_of_move T (spell_move text e)) next_names_lem
 
         parts : f.end < length buf
@@ -323,8 +323,8 @@ module _ (text : List ℕ) (at : ℕ) (ls : List (List ℕ)) (t buf : List ℕ) 
   begun_stopped s e = subst (Beginning text at ls t buf) e a
 
 -- the name of the initial state in an empty table
-module _ (text b m : List ℕ) (x : TextSpan) (r : Added) (a : SpeltAddition text (add sameLabel (spelled text x) (names_in text b 0)) m r) where
-  one_name : add sameLabel (spelled text x) (names_in text b 0) ≡ spelled text x ∷ []
+module _ (text b m : List ℕ) (x : TextSpan) (r : Added) (a : SpeltAddition text (add same_label (spelled text x) (names_in text b 0)) m r) where
+  one_name : add same_label (spelled text x) (names_in text b 0) ≡ spelled text x ∷ []
   unfolding add names_in tabulate index
   one_name = refl
 

@@ -28,7 +28,7 @@ use Rattle.stores.proofs.Written.{written_append}
 use Rattle.automata.specs.Automaton.{Transition}
 use Rattle.automata.specs.Records.{write_records}
 use Rattle.automata.proofs.Records.{length_write}
-use Rattle.labels.specs.Labels.{write_labels, sameLabel}
+use Rattle.labels.specs.Labels.{write_labels, same_label}
 use Rattle.lists.specs.Lists.{all}
 use Rattle.output.proofs.Answers.{room_lacking, room_enough, room_words, room_bytes}
 use Rattle.output.proofs.Collecting.{records_count}
@@ -172,7 +172,7 @@ module _ (t : List ℕ) (x : TextSpan) (arrows : Cursor) (b buf : List ℕ) (r :
     pub laid : Spelt t x → Laid t (record { initial = x; arrows = arrows; first = first; more = more })
     laid s = record { initial_spelt = s; first_spelt = first_spelt t x arrows r.behind.at a.behind q told first more c e }
 
-    said_states : states_of (said_at t l) ≡ meet sameLabel (names_of (moves_at t arrows.at)) (spelled t x ∷ [])
+    said_states : states_of (said_at t l) ≡ meet same_label (names_of (moves_at t arrows.at)) (spelled t x ∷ [])
     unfolding states_of spell
     said_states = refl
 

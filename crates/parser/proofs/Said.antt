@@ -19,7 +19,7 @@ use Rattle.lists.proofs.Tests.{test}
 use Rattle.automata.specs.Automaton.{Transition}
 use Rattle.automata.specs.WellFormed.{Sound, WellFormed}
 use Rattle.automata.proofs.Ordered.{in_order_out, in_order_ascending}
-use Rattle.labels.specs.Labels.{Label, AllLabels, none, more, sameLabel}
+use Rattle.labels.specs.Labels.{Label, AllLabels, none, more, same_label}
 use Rattle.output.specs.Output.{states_first, transitions_first}
 use Rattle.output.proofs.Left.{Writable}
 use Rattle.refusal.specs.Answer.{refused, given}
@@ -65,19 +65,19 @@ module _ (s : Said) where
   -- the names of the states are the initial one and those of the transitions
   pub start_in : s.start ∈ states_of s
   unfolding states_of
-  start_in = extends_in (meet_extends sameLabel (names_of s.moves) (s.start ∷ [])) s.start (Memᴰ.head refl)
+  start_in = extends_in (meet_extends same_label (names_of s.moves) (s.start ∷ [])) s.start (Memᴰ.head refl)
 
   pub names_in : (m : Move) → m ∈ s.moves → (x : List ℕ) → x ∈ both_names m → x ∈ states_of s
   unfolding states_of names_of
-  names_in m i x k = meet_in sameLabel same_decides (names_of s.moves) (s.start ∷ []) x (flat_in both_names i k)
+  names_in m i x k = meet_in same_label same_decides (names_of s.moves) (s.start ∷ []) x (flat_in both_names i k)
 
   pub states_out : (x : List ℕ) → x ∈ states_of s → (x ≡ s.start) ⊎ ((m : Move) × m ∈ s.moves × x ∈ both_names m)
   unfolding states_of names_of
-  states_out x i = ⊎_elim (λ k. inl (Memᴰ.eq_of_singleton k)) (λ k. inr (flat_out both_names x s.moves k)) (meet_out sameLabel (names_of s.moves) (s.start ∷ []) x i)
+  states_out x i = ⊎_elim (λ k. inl (Memᴰ.eq_of_singleton k)) (λ k. inr (flat_out both_names x s.moves k)) (meet_out same_label (names_of s.moves) (s.start ∷ []) x i)
 
   pub some_state : 0 < length (states_of s)
   unfolding states_of
-  some_state = extends_length (meet_extends sameLabel (names_of s.moves) (s.start ∷ []))
+  some_state = extends_length (meet_extends same_label (names_of s.moves) (s.start ∷ []))
 
   -- they are met one after the other, each once
   pub states_distinct : Distinct (states_of s)
@@ -85,7 +85,7 @@ module _ (s : Said) where
   states_distinct = (meet_good G same_decides (names_of s.moves) (s.start ∷ []) good (λ x i. search.step search.start i)).distinct
     where
       G : Graph (List ℕ)
-      G = record { same = sameLabel; next = λ _. names_of s.moves; start = s.start }
+      G = record { same = same_label; next = λ _. names_of s.moves; start = s.start }
 
       good : search.ReachedElements G (s.start ∷ [])
       good = record {
@@ -99,10 +99,10 @@ module _ (s : Said) where
       let from_in = names_in m i m.from (Memᴰ.head refl) in
       let to_in = names_in m i m.to (Memᴰ.tail (Memᴰ.head refl)) in
       record {
-        from_state = index_lt sameLabel same_decides m.from from_in;
-        from_name = index_at sameLabel same_decides [] m.from (states_of s) from_in;
-        to_state_lem = index_lt sameLabel same_decides m.to to_in;
-        to_name = index_at sameLabel same_decides [] m.to (states_of s) to_in;
+        from_state = index_lt same_label same_decides m.from from_in;
+        from_name = index_at same_label same_decides [] m.from (states_of s) from_in;
+        to_state_lem = index_lt same_label same_decides m.to to_in;
+        to_name = index_at same_label same_decides [] m.to (states_of s) to_in;
         kind = refl;
         first = refl;
         last = refl;
@@ -110,8 +110,8 @@ module _ (s : Said) where
 
   pub move_is : (e : Transition) (m : Move) → IsMove (states_of s) e m → transition_of_move (states_of s) m ≡ e
   move_is e m k =
-      let f : index sameLabel m.from (states_of s) ≡ e.from = rw (← k.from_name) (index_place sameLabel same_decides [] states_distinct e.from k.from_state) in
-      let g : index sameLabel m.to (states_of s) ≡ e.to = rw (← k.to_name) (index_place sameLabel same_decides [] states_distinct e.to k.to_state_lem) in
+      let f : index same_label m.from (states_of s) ≡ e.from = rw (← k.from_name) (index_place same_label same_decides [] states_distinct e.from k.from_state) in
+      let g : index same_label m.to (states_of s) ≡ e.to = rw (← k.to_name) (index_place same_label same_decides [] states_distinct e.to k.to_state_lem) in
       let a = k.kind in
       let b = k.first in
       let c = k.last in
@@ -122,13 +122,13 @@ module _ (s : Said) where
   unfolding automaton_of
   origin e i = map_out (transition_of_move (states_of s)) s.moves e (in_order_out e _ i)
 
-  number_below : (m : Move) → m ∈ s.moves → (x : List ℕ) → x ∈ both_names m → index sameLabel x (states_of s) < length (states_of s)
-  number_below m i x k = index_lt sameLabel same_decides x (names_in m i x k)
+  number_below : (m : Move) → m ∈ s.moves → (x : List ℕ) → x ∈ both_names m → index same_label x (states_of s) < length (states_of s)
+  number_below m i x k = index_lt same_label same_decides x (names_in m i x k)
 
   accept_low : (xs : List (List ℕ)) (q : ℕ) → get_or (map (accept_word s.accepts) xs) q 0 ≤ 1
   unfolding accept_word
   accept_low [] q = omega arith
-  accept_low (x ∷ xs) zero = go (any (sameLabel x) s.accepts)
+  accept_low (x ∷ xs) zero = go (any (same_label x) s.accepts)
     where
       go : (c : Bool) → cond c 1 0 ≤ 1
       go true = omega arith
@@ -168,11 +168,11 @@ module _ (s : Said) where
 -- every accepting name is a state, or one is not
 module _ (s : Said) where
   misspelt_out : all (is_among (states_of s)) s.accepts ≡ false → Misspelt s
-  misspelt_out e = let (a, i, n) = all_not (is_among (states_of s)) s.accepts e in (a, i, λ m. true≢false (sym (any_in (sameLabel a) m (same_decides.same_self a)) ∙ n))
+  misspelt_out e = let (a, i, n) = all_not (is_among (states_of s)) s.accepts e in (a, i, λ m. true≢false (sym (any_in (same_label a) m (same_decides.same_self a)) ∙ n))
 
   spelt_out : all (is_among (states_of s)) s.accepts ≡ true → Misspelt s → ⊥
   spelt_out e (a, i, n) =
-      let (y, m, t) = any_out (sameLabel a) (states_of s) (all_out (is_among (states_of s)) i e) in
+      let (y, m, t) = any_out (same_label a) (states_of s) (all_out (is_among (states_of s)) i e) in
       n (subst (λ (z : List ℕ). z ∈ states_of s) (sym (same_decides.same_eq a y t)) m)
 
   pub spelt_in : (Misspelt s → ⊥) → all (is_among (states_of s)) s.accepts ≡ true

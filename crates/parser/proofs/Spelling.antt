@@ -18,7 +18,7 @@ use Rattle.grammar.specs.declared.tokens.TextSpan.{TextSpan}
 use Rattle.grammar.specs.declared.tokens.NamePiece.{NamePiece}
 use Rattle.grammar.specs.declared.tokens.NamePiece.TheVariants.{Read as NameRead, Nothing as NoName}
 use Rattle.grammar.proofs.Many.{arrows_ended, arrows_more, arrows_less, arrow_drawn, names_ended, names_more, names_less, name_spelt}
-use Rattle.labels.specs.Labels.{sameLabel}
+use Rattle.labels.specs.Labels.{same_label}
 use Rattle.lists.specs.Lists.{any, all, tabulate}
 use Rattle.lists.proofs.Every.{all_ext}
 use Rattle.lists.proofs.Index.{same_decides}
@@ -128,9 +128,9 @@ spans_names t (e ∷ es) = ap (λ (ns : List (List ℕ)). spelled t e.from ∷ s
 among_all : (t : List ℕ) (x : TextSpan) (at : ℕ) (l : List ℕ) → is_among (map (spelled t) (x ∷ spans_from t at)) l ≡ is_among (all_names t at (spelled t x ∷ [])) l
 unfolding all_names spans_from any
 among_all t x at l =
-    ap (λ (ns : List (List ℕ)). any (sameLabel l) (spelled t x ∷ ns)) (spans_names t (transitions t at).items)
-    ∙ sym (meet_any sameLabel same_decides (sameLabel l) (names_of (moves_at t at)) (spelled t x ∷ [])
-    ∙ ap (λ b. b || any (sameLabel l) (names_of (moves_at t at))) (or-false (sameLabel l (spelled t x))))
+    ap (λ (ns : List (List ℕ)). any (same_label l) (spelled t x ∷ ns)) (spans_names t (transitions t at).items)
+    ∙ sym (meet_any same_label same_decides (same_label l) (names_of (moves_at t at)) (spelled t x ∷ [])
+    ∙ ap (λ b. b || any (same_label l) (names_of (moves_at t at))) (or-false (same_label l (spelled t x))))
 
 -- the words of a table's names are marked by the states' names
 module _ (t b : List ℕ) (n : ℕ) (k : SpeltTable t b n) (x : TextSpan) (at : ℕ) (us vs ws : List ℕ) (z : Zeros 256 us) (q : vs ≡ mark_one t (names_in t b n) us x)
@@ -148,23 +148,23 @@ module _ (t b : List ℕ) (n : ℕ) (k : SpeltTable t b n) (x : TextSpan) (at : 
 pub ruleset table_laws = (table_states, words_inside, zeros, rules)
 
 -- one more name in the table b
-module _ (t b : List ℕ) (k : ℕ) (y : TextSpan) (u : List ℕ) (a : Added) (g : SpeltAddition t (add sameLabel (spelled t y) (names_in t b k)) u a) where
+module _ (t b : List ℕ) (k : ℕ) (y : TextSpan) (u : List ℕ) (a : Added) (g : SpeltAddition t (add same_label (spelled t y) (names_in t b k)) u a) where
   -- fewer than 256 names leave room for one more
   added_room : k < 256 → a ≡ Full → ⊥
-  added_room l e = omega (arith, added_full t _ u a g e, add_length sameLabel (spelled t y) (names_in t b k), names_count t b k)
+  added_room l e = omega (arith, added_full t _ u a g e, add_length same_label (spelled t y) (names_in t b k), names_count t b k)
 
   added_count : (m : ℕ) → a ≡ Kept m → m ≤ k + 1
   added_count m e =
-      omega (arith, ap length (added_names t _ u a g m e), names_count t u m, add_length sameLabel (spelled t y) (names_in t b k), names_count t b k)
+      omega (arith, ap length (added_names t _ u a g m e), names_count t u m, add_length same_label (spelled t y) (names_in t b k), names_count t b k)
 
   added_all : (m : ℕ) → a ≡ Kept m → (f : List ℕ → Bool) → all f (names_in t u m) ≡ (all f (names_in t b k) && f (spelled t y))
   unfolding meet all
   added_all m e f =
-      ap (all f) (added_names t _ u a g m e) ∙ meet_all sameLabel same_decides f (spelled t y ∷ []) (names_in t b k)
+      ap (all f) (added_names t _ u a g m e) ∙ meet_all same_label same_decides f (spelled t y ∷ []) (names_in t b k)
       ∙ ap (λ c. all f (names_in t b k) && c) (and-true (f (spelled t y)))
 
 -- the table begins with the first name
-module _ (t b : List ℕ) (x : TextSpan) (u : List ℕ) (a : Added) (g : SpeltAddition t (add sameLabel (spelled t x) (names_in t b 0)) u a) where
+module _ (t b : List ℕ) (x : TextSpan) (u : List ℕ) (a : Added) (g : SpeltAddition t (add same_label (spelled t x) (names_in t b 0)) u a) where
   pub begun_room : a ≡ Full → (v : Bool) → false ≡ v
   begun_room e v = absurd (added_room t b 0 x u a g (omega arith) e)
 
@@ -186,7 +186,7 @@ module _ (t : List ℕ) (f : List ℕ → Bool) (at : ℕ) (p : NamePiece) (told
   rest_ended h r e = e ∙ names_done t f at p told (all f (names_in t b k)) total i h
 
   module _ (y : TextSpan) (next : ℕ) (h : p ≡ NameRead y (record { at = next })) (u : List ℕ) (a : Added)
-      (g : SpeltAddition t (add sameLabel (spelled t y) (names_in t b k)) u a) where
+      (g : SpeltAddition t (add same_label (spelled t y) (names_in t b k)) u a) where
     pub rest_room : k < 256 → a ≡ Full → false ≡ total
     rest_room l e = absurd (added_room t b k y u a g l e)
 

@@ -12,7 +12,7 @@ use lib.ListN.{length, get_or, length-take, length-drop}
 use Rattle.grammar.specs.Places.{spelled}
 use Rattle.grammar.specs.inner.Places.{Spelt}
 use Rattle.grammar.specs.declared.tokens.TextSpan.{TextSpan}
-use Rattle.labels.specs.Labels.{Label, sameLabel}
+use Rattle.labels.specs.Labels.{Label, same_label}
 use Rattle.lists.specs.Lists.{◌∈◌, tabulate}
 use Rattle.lists.proofs.Every.{tabulate_in, tabulate_out}
 use Rattle.lists.proofs.Index.{index_le}
@@ -80,25 +80,25 @@ table_none text t e = labels_table text t 0 (Adding.table_none text t e) (λ x m
 
 -- a name is added to a table
 module _ (text t : List ℕ) (n : ℕ) (k : SpeltTable text t n) (x : TextSpan) (p : Spelt text x) (u : List ℕ) (r : Added)
-    (a : Names.Addition text (add sameLabel (spelled text x) (names_in text t n)) u r) where
-  labels_added : (y : List ℕ) → y ∈ add sameLabel (spelled text x) (names_in text t n) → Label y
+    (a : Names.Addition text (add same_label (spelled text x) (names_in text t n)) u r) where
+  labels_added : (y : List ℕ) → y ∈ add same_label (spelled text x) (names_in text t n) → Label y
   unfolding meet
   labels_added y m =
       ⊎_elim (labelled text t n k y) (λ l. let e : y ≡ spelled text x = Memᴰ.eq_of_singleton l in rw e (spelt_label text x p))
-      (meet_out sameLabel (spelled text x ∷ []) (names_in text t n) y m)
+      (meet_out same_label (spelled text x ∷ []) (names_in text t n) y m)
 
-  pub spelt_addition : SpeltAddition text (add sameLabel (spelled text x) (names_in text t n)) u r
+  pub spelt_addition : SpeltAddition text (add same_label (spelled text x) (names_in text t n)) u r
   spelt_addition = by_case a
     where
-      by_case : {v : Added} → Names.Addition text (add sameLabel (spelled text x) (names_in text t n)) u v → SpeltAddition text (add sameLabel (spelled text x) (names_in text t n)) u v
+      by_case : {v : Added} → Names.Addition text (add same_label (spelled text x) (names_in text t n)) u v → SpeltAddition text (add same_label (spelled text x) (names_in text t n)) u v
       by_case (Names.kept {n = m} j h) = kept (labels_table text u m j (λ y l. labels_added y (subst (λ (ls : List (List ℕ)). y ∈ ls) h l))) h
       by_case (Names.full h) = full h
 
 pub ruleset add_laws = (named, spelt_order, spelt_inside, spelt_addition, rules)
 
 -- the number of a name fits a word
-pub number_fits : (text t : List ℕ) (n : ℕ) → SpeltTable text t n → (x : List ℕ) (i : ℕ) → i ≡ index sameLabel x (names_in text t n) → Fits w32 i
-number_fits text t n k x i e = record { fits = omega (arith, e, index_le sameLabel x (names_in text t n), names_count text t n, k.few) }
+pub number_fits : (text t : List ℕ) (n : ℕ) → SpeltTable text t n → (x : List ℕ) (i : ℕ) → i ≡ index same_label x (names_in text t n) → Fits w32 i
+number_fits text t n k x i e = record { fits = omega (arith, e, index_le same_label x (names_in text t n), names_count text t n, k.few) }
 
 pub ruleset number_laws = (named, number_fits, spelt_order, spelt_inside, rules)
 

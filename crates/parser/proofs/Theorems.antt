@@ -25,7 +25,7 @@ use Rattle.automata.specs.Automaton.{Transition}
 use Rattle.automata.specs.Ordered.{in_order}
 use Rattle.automata.proofs.Ordered.{in_order_in}
 use Rattle.grammar.specs.Grammar.{ReadResult, nothing, found, TextParts, whole_text}
-use Rattle.labels.specs.Labels.{sameLabel}
+use Rattle.labels.specs.Labels.{same_label}
 use Rattle.lists.specs.Lists.{◌∈◌, any, Distinct}
 use Rattle.lists.proofs.Index.{same_decides}
 use Rattle.lists.proofs.Lists.{any_in, any_out, map_at}
@@ -56,7 +56,7 @@ module _ (s : Said) where
   -- the start is state 0, and its label is the initial name
   pub parse_start : ((automaton_of s (states_of s)).start ≡ 0) × (0 < length (states_of s)) × (get_or (states_of s) 0 [] ≡ s.start)
   unfolding automaton_of states_of
-  parse_start = (refl, some_state s, extends_at (meet_extends sameLabel (names_of s.moves) (s.start ∷ [])) [] 0 (omega arith))
+  parse_start = (refl, some_state s, extends_at (meet_extends same_label (names_of s.moves) (s.start ∷ [])) [] 0 (omega arith))
 
   -- there is a state for each label
   pub parse_size : (automaton_of s (states_of s)).size ≡ length (states_of s)
@@ -82,10 +82,10 @@ module _ (s : Said) where
   parse_labels_distinct = states_distinct s
 
   -- of two names the one that appears first in the text, the initial one before all, has the lower number
-  pub parse_numbered : (x y : List ℕ) → (index sameLabel x (states_of s) < index sameLabel y (states_of s))
-      ↔ (index sameLabel x (s.start ∷ names_of s.moves) < index sameLabel y (s.start ∷ names_of s.moves))
+  pub parse_numbered : (x y : List ℕ) → (index same_label x (states_of s) < index same_label y (states_of s))
+      ↔ (index same_label x (s.start ∷ names_of s.moves) < index same_label y (s.start ∷ names_of s.moves))
   unfolding states_of
-  parse_numbered = meet_order sameLabel same_decides (names_of s.moves) (s.start ∷ [])
+  parse_numbered = meet_order same_label same_decides (names_of s.moves) (s.start ∷ [])
 
   -- a transition is there exactly where the text says it between the states that it names
   pub parse_transitions : (e : Transition) → (e ∈ (automaton_of s (states_of s)).transitions) ↔ ((m : Move) × m ∈ s.moves × IsMove (states_of s) e m)
@@ -99,17 +99,17 @@ module _ (s : Said) where
   -- a state accepts exactly where its label is among the accepting names
   pub parse_accept : (q : ℕ) → q < length (states_of s) → (0 < get_or (automaton_of s (states_of s)).accept q 0) ↔ (get_or (states_of s) q [] ∈ s.accepts)
   unfolding automaton_of accept_word
-  parse_accept q h = rw (map_at (accept_word s.accepts) (states_of s) q [] 0 h) (out (any (sameLabel x) s.accepts) refl, λ i. into i)
+  parse_accept q h = rw (map_at (accept_word s.accepts) (states_of s) q [] 0 h) (out (any (same_label x) s.accepts) refl, λ i. into i)
     where
       x : List ℕ
       x = get_or (states_of s) q []
 
-      out : (b : Bool) → any (sameLabel x) s.accepts ≡ b → 0 < cond b 1 0 → x ∈ s.accepts
-      out true e k = let y = any_out (sameLabel x) s.accepts e in subst (λ (z : List ℕ). z ∈ s.accepts) (sym (same_decides.same_eq x y.0 y.2)) y.1
+      out : (b : Bool) → any (same_label x) s.accepts ≡ b → 0 < cond b 1 0 → x ∈ s.accepts
+      out true e k = let y = any_out (same_label x) s.accepts e in subst (λ (z : List ℕ). z ∈ s.accepts) (sym (same_decides.same_eq x y.0 y.2)) y.1
       out false e k = absurd (omega arith)
 
-      into : x ∈ s.accepts → 0 < cond (any (sameLabel x) s.accepts) 1 0
-      into i = rw (any_in (sameLabel x) i (same_decides.same_self x)) (omega arith)
+      into : x ∈ s.accepts → 0 < cond (any (same_label x) s.accepts) 1 0
+      into i = rw (any_in (same_label x) i (same_decides.same_self x)) (omega arith)
 
 -- the contract of a call: r is its answer, o and l are the outputs before it, o' and l' after it
 module _ (t o l o' l' : List ℕ) (r : Parsed) (call : parsed_of r o' l' ≡ parsed o l (parse_answer t o l)) where

@@ -5,7 +5,7 @@ use mathlib.Core.List.{List, [], ◌∷◌, map, flat_map}
 use Rattle.automata.specs.Automaton.{Transition, Automaton}
 use Rattle.automata.specs.Ordered.{in_order}
 use Rattle.grammar.specs.Grammar.{ReadResult, nothing, found, TextParts, whole_text}
-use Rattle.labels.specs.Labels.{sameLabel}
+use Rattle.labels.specs.Labels.{same_label}
 use Rattle.lists.specs.Lists.{any, all}
 use Rattle.output.specs.Output.{Pattern, room_first, states_first, transitions_first}
 use Rattle.refusal.specs.Answer.{Answer, refused, given}
@@ -23,15 +23,15 @@ names_of ms = flat_map both_names ms
 
 -- the names of the states, each once and in order of appearance, that of the initial one first
 unfoldable pub states_of : Said → List (List ℕ)
-states_of s = meet sameLabel (names_of s.moves) (s.start ∷ [])
+states_of s = meet same_label (names_of s.moves) (s.start ∷ [])
 
 -- a transition between the numbers of its states
 abbrev pub transition_of_move : List (List ℕ) → Move → Transition
-transition_of_move ls m = record { from = index sameLabel m.from ls; kind = 1; first = m.first; last = m.last; to = index sameLabel m.to ls }
+transition_of_move ls m = record { from = index same_label m.from ls; kind = 1; first = m.first; last = m.last; to = index same_label m.to ls }
 
 -- 1 where l is one of the accepting names
 unfoldable pub accept_word : List (List ℕ) → List ℕ → ℕ
-accept_word accepts l = cond (any (sameLabel l) accepts) 1 0
+accept_word accepts l = cond (any (same_label l) accepts) 1 0
 
 -- the automaton with these names for its states
 unfoldable pub automaton_of : Said → List (List ℕ) → Automaton
@@ -61,7 +61,7 @@ within_limits s n = states_first (pattern_of s).automaton (few_transitions (patt
 
 -- l is one of the names ls
 abbrev pub is_among : List (List ℕ) → List ℕ → Bool
-is_among ls l = any (sameLabel l) ls
+is_among ls l = any (same_label l) ls
 
 -- 33 where one of the accepting names is no state, by the names ls of the states
 unfoldable pub accepts_first : {X : Type 0} → List (List ℕ) → List (List ℕ) → Answer X → Answer X

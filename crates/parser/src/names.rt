@@ -2,7 +2,7 @@
 ghost use Rattle.std.specs.Prelude.{◌≡◌};
 ghost use Rattle.grammar.specs.Places.{spelled};
 ghost use Rattle.grammar.specs.inner.Places.{Spelt};
-ghost use Rattle.labels.specs.Labels.{sameLabel};
+ghost use Rattle.labels.specs.Labels.{same_label};
 ghost use Rattle.search.specs.Search.{index, add};
 ghost use Rattle.parser.specs.inner.Names.{names_in, SpeltTable, SpeltAddition};
 
@@ -12,7 +12,7 @@ use name_table::Added;
 // The number of the state that the text names.
 pub fn number_of(text: &[u8], t: &[usize], n: usize, x: TextSpan) -> u32
     requires { SpeltTable text.now t.now n × Spelt text.now x }
-    ensures { result ≡ index sameLabel (spelled text.now x) (names_in text.now t.now n) }
+    ensures { result ≡ index same_label (spelled text.now x) (names_in text.now t.now n) }
 {
     let first = x.start;
     let last = x.end;
@@ -22,7 +22,7 @@ pub fn number_of(text: &[u8], t: &[usize], n: usize, x: TextSpan) -> u32
 // The name that stands in the text behind the others, unless it is one of them.
 pub fn add_name(text: &[u8], t: &mut [usize], n: usize, x: TextSpan) -> Added
     requires { SpeltTable text.now t.old n × Spelt text.now x }
-    ensures { SpeltAddition text.now (add sameLabel (spelled text.now x) (names_in text.now t.old n)) t.new result }
+    ensures { SpeltAddition text.now (add same_label (spelled text.now x) (names_in text.now t.old n)) t.new result }
 {
     name_table::add(text, t, n, x.start, x.end)
 }

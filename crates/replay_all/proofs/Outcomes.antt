@@ -8,7 +8,7 @@ use borrow.Author.Rules.{rules}
 use borrow.Author.Tests.{eq-eqb, ne_eqb, lt-ltb, le-ltb}
 use lib.Dec.{eqb, ltb}
 use lib.ListN.{length, take}
-use Rattle.labels.specs.Labels.{sameLabel}
+use Rattle.labels.specs.Labels.{same_label}
 use Rattle.labels.proofs.Same.{same_equal, equal_same}
 use Rattle.stores.specs.Written.{Written}
 use Rattle.lists.proofs.Tests.{true_same}
@@ -22,8 +22,8 @@ use Rattle.replay_all.specs.Outcomes.{is_listed, is_built, is_answer, is_outcome
 use Rattle.replay_all.proofs.Bytes.{bytes_all}
 
 -- a test that answers whether two lists are the same
-pub same_test : (v : Bool) (x y : List ℕ) → ((v ≡ true → x ≡ y) × (x ≡ y → v ≡ true)) → v ≡ sameLabel x y
-same_test v x y p = true_same v (sameLabel x y) (λ t. equal_same x y (p.0 t)) (λ t. p.1 (same_equal x y t))
+pub same_test : (v : Bool) (x y : List ℕ) → ((v ≡ true → x ≡ y) × (x ≡ y → v ≡ true)) → v ≡ same_label x y
+same_test v x y p = true_same v (same_label x y) (λ t. equal_same x y (p.0 t)) (λ t. p.1 (same_equal x y t))
 
 -- a sheet and labels as lists
 module _ (s ws bs : List ℕ) (at : ℕ) where
@@ -34,7 +34,7 @@ module _ (s ws bs : List ℕ) (at : ℕ) where
   module _ (x y : List ℕ) (lx : x ≡ list_at s at) (ly : y ≡ list_at s (at + 1 + length x)) where
     listed_by : is_listed s at ws bs
         ≡ cond (eqb (at + 1 + length x + 1 + length y) (length s))
-        (cond (eqb (bytes_before (take 16642 y)) (length y)) (cond (sameLabel x ws) (sameLabel y bs) false) false)
+        (cond (eqb (bytes_before (take 16642 y)) (length y)) (cond (same_label x ws) (same_label y bs) false) false)
         false
     unfolding is_listed
     listed_by = rw (← lx, ← ly)
@@ -47,7 +47,7 @@ module _ (s ws bs : List ℕ) (at : ℕ) where
       listed_long h = sym (listed_by ∙ rw (eq-eqb (at + 1 + length x + 1 + length y) (length s) e, ← q, ne_eqb n (length y) h))
 
       module _ (h : n ≡ length y) (v : Bool) (p : (v ≡ true → x ≡ ws) × (x ≡ ws → v ≡ true)) where
-        listed_then : is_listed s at ws bs ≡ cond v (sameLabel y bs) false
+        listed_then : is_listed s at ws bs ≡ cond v (same_label y bs) false
         listed_then = listed_by ∙ rw (eq-eqb (at + 1 + length x + 1 + length y) (length s) e, ← q, eq-eqb n (length y) h, ← same_test v x ws p)
 
         pub listed_words : v ≡ false → false ≡ is_listed s at ws bs
@@ -56,7 +56,7 @@ module _ (s ws bs : List ℕ) (at : ℕ) where
         pub listed_bytes : v ≡ true → (z m : List ℕ) → Written z 0 (take n y) m n → n ≤ length m → (u : Bool)
             → ((u ≡ true → take n m ≡ bs) × (take n m ≡ bs → u ≡ true)) → u ≡ is_listed s at ws bs
         listed_bytes t z m w g u r =
-            same_test u (take n m) bs r ∙ ap (λ (l : List ℕ). sameLabel l bs) (bytes_all z m y n w h g) ∙ sym (listed_then ∙ rw t)
+            same_test u (take n m) bs r ∙ ap (λ (l : List ℕ). same_label l bs) (bytes_all z m y n w h g) ∙ sym (listed_then ∙ rw t)
 
 pub ruleset listed_laws = (listed_outside, listed_other, listed_long, listed_words, listed_bytes, rules)
 

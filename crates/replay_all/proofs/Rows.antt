@@ -10,7 +10,7 @@ use borrow.Author.Rules.{rules}
 use borrow.Author.Tests.{eq-eqb, ne_eqb, le-leb, lt-leb, not-true, not-false}
 use lib.Dec.{eqb}
 use lib.ListN.{length, get_or, drop, drop_of_length-le}
-use Rattle.labels.specs.Labels.{sameLabel}
+use Rattle.labels.specs.Labels.{same_label}
 use Rattle.lists.specs.Lists.{tabulate}
 use Rattle.lists.proofs.Lists.{length_tabulate}
 use Rattle.lists.proofs.Parts.{drop_at}
@@ -32,45 +32,45 @@ use Rattle.words.specs.Simulation.{closures}
 use Rattle.replay_all.specs.Rows.{are_rows, closures_case}
 
 -- nothing is listed from i on
-same_none : (l : List ℕ) (i : ℕ) → i ≤ length l → sameLabel (drop i l) [] ≡ eqb i (length l)
-unfolding sameLabel
+same_none : (l : List ℕ) (i : ℕ) → i ≤ length l → same_label (drop i l) [] ≡ eqb i (length l)
+unfolding same_label
 same_none l i h =
     ⊎_elim (λ (e : i ≡ length l). rw (drop_of_length-le l {i = i} (omega arith), eq-eqb i (length l) e))
     (λ (e : i < length l). rw (drop_at l i e, ne_eqb i (length l) (λ z. omega arith)))
     (eq-or-lt_of_le h)
 
 -- the members of a row from q on against the listed ones from i on
-pub row_begun : (t l : List ℕ) (o : ℕ) → sameLabel l (set_at t o) ≡ sameLabel (drop 0 l) (members_from 0 (set_at t o))
-row_begun t l o = ap (sameLabel l) (sym (from_all (set_at t o)))
+pub row_begun : (t l : List ℕ) (o : ℕ) → same_label l (set_at t o) ≡ same_label (drop 0 l) (members_from 0 (set_at t o))
+row_begun t l o = ap (same_label l) (sym (from_all (set_at t o)))
 
-module _ (t l : List ℕ) (o i q : ℕ) (e : sameLabel l (set_at t o) ≡ sameLabel (drop i l) (members_from q (set_at t o))) where
+module _ (t l : List ℕ) (o i q : ℕ) (e : same_label l (set_at t o) ≡ same_label (drop i l) (members_from q (set_at t o))) where
   module _ (b : Bool) (h : b ≡ has q (set_at t o)) where
-    pub row_skip : b ≡ false → sameLabel l (set_at t o) ≡ sameLabel (drop i l) (members_from (q + 1) (set_at t o))
+    pub row_skip : b ≡ false → same_label l (set_at t o) ≡ same_label (drop i l) (members_from (q + 1) (set_at t o))
     row_skip p =
-        e ∙ ap (sameLabel (drop i l))
+        e ∙ ap (same_label (drop i l))
         (from_skip (set_at t o) q (q + 1) (omega arith) (λ x a c. let z : x ≡ q = omega arith in ap (λ (k : ℕ). has k (set_at t o)) z ∙ sym h ∙ p))
 
     module _ (p : b ≡ true) where
-      row_here : sameLabel l (set_at t o) ≡ sameLabel (drop i l) (q ∷ members_from (q + 1) (set_at t o))
-      row_here = e ∙ ap (sameLabel (drop i l)) (from_here (set_at t o) (at_canon t o) q (sym h ∙ p))
+      row_here : same_label l (set_at t o) ≡ same_label (drop i l) (q ∷ members_from (q + 1) (set_at t o))
+      row_here = e ∙ ap (same_label (drop i l)) (from_here (set_at t o) (at_canon t o) q (sym h ∙ p))
 
-      pub row_short : length l ≤ i → false ≡ sameLabel l (set_at t o)
-      unfolding sameLabel
+      pub row_short : length l ≤ i → false ≡ same_label l (set_at t o)
+      unfolding same_label
       row_short g = sym (row_here ∙ rw (drop_of_length-le l g))
 
       module _ (g : i < length l) (x : ℕ) (u : x ≡ get_or l i 0) where
-        row_at : sameLabel l (set_at t o) ≡ (eqb x q && sameLabel (drop (i + 1) l) (members_from (q + 1) (set_at t o)))
-        unfolding sameLabel
+        row_at : same_label l (set_at t o) ≡ (eqb x q && same_label (drop (i + 1) l) (members_from (q + 1) (set_at t o)))
+        unfolding same_label
         row_at = row_here ∙ rw (drop_at l i g, ← u)
 
-        pub row_other : (x ≡ q → ⊥) → false ≡ sameLabel l (set_at t o)
+        pub row_other : (x ≡ q → ⊥) → false ≡ same_label l (set_at t o)
         row_other d = sym (row_at ∙ rw (ne_eqb x q d))
 
-        pub row_next : x ≡ q → sameLabel l (set_at t o) ≡ sameLabel (drop (i + 1) l) (members_from (q + 1) (set_at t o))
+        pub row_next : x ≡ q → same_label l (set_at t o) ≡ same_label (drop (i + 1) l) (members_from (q + 1) (set_at t o))
         row_next d = row_at ∙ rw (eq-eqb x q d)
 
-  pub row_ended : i ≤ length l → 256 ≤ q → eqb i (length l) ≡ sameLabel l (set_at t o)
-  row_ended g h = sym (e ∙ ap (sameLabel (drop i l)) (from_end (set_at t o) (at_canon t o) q h) ∙ same_none l i g)
+  pub row_ended : i ≤ length l → 256 ≤ q → eqb i (length l) ≡ same_label l (set_at t o)
+  row_ended g h = sym (e ∙ ap (same_label (drop i l)) (from_end (set_at t o) (at_canon t o) q h) ∙ same_none l i g)
 
 -- the rows from p on against the lists from the place on
 pub rows_begun : (t s : List ℕ) (n at : ℕ) → are_rows (entries t n) s at ≡ are_rows (drop 0 (entries t n)) s at
@@ -90,7 +90,7 @@ module _ (t s : List ℕ) (n at p next : ℕ) (e : are_rows (entries t n) s at �
     unfolding are_rows
     rows_short g = sym (e ∙ rw (entries_from t n p h, le-leb (length s) next g))
 
-    module _ (g : next < length s) (x : List ℕ) (l : x ≡ list_at s next) (b : Bool) (f : b ≡ sameLabel x (set_at t (4 * p))) where
+    module _ (g : next < length s) (x : List ℕ) (l : x ≡ list_at s next) (b : Bool) (f : b ≡ same_label x (set_at t (4 * p))) where
       rows_at : are_rows (entries t n) s at ≡ cond b (are_rows (drop (p + 1) (entries t n)) s (next + 1 + length x)) false
       unfolding are_rows
       rows_at = e ∙ rw (entries_from t n p h, lt-leb (length s) next g, ← l, ← f)

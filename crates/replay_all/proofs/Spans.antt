@@ -13,7 +13,7 @@ use lib.Seq.{sets, sets-eq, take_at}
 use Rattle.automata.specs.Automaton.{leaving, ranges_of}
 use Rattle.automata.specs.Records.{read_records, write_records}
 use Rattle.automata.proofs.Records.{read_write}
-use Rattle.labels.specs.Labels.{sameLabel}
+use Rattle.labels.specs.Labels.{same_label}
 use Rattle.stores.specs.Written.{Written}
 use Rattle.lists.proofs.Parts.{drop_at, sets_append}
 use Rattle.stores.proofs.Written.{written_none, written_append, written_cons}
@@ -185,7 +185,7 @@ module _ (l : List ℕ) (hs : List Span) (n : ℕ) (e : n ≡ length hs) where
   spans_told h m v f p =
       let z : 2 * n - 0 ≡ length (span_words hs) = omega (arith, words_length hs) in
       same_test v l (take (2 * n - 0) m) p
-      ∙ ap (sameLabel l) (ap₂ take z (f ∙ sets-eq (span_words hs) (replicate 4098 0) 0 (omega (arith, words_length hs, length-replicate {A = ℕ} 4098 0)))
+      ∙ ap (same_label l) (ap₂ take z (f ∙ sets-eq (span_words hs) (replicate 4098 0) 0 (omega (arith, words_length hs, length-replicate {A = ℕ} 4098 0)))
       ∙ take_at (span_words hs) (drop (0 + length (span_words hs)) (replicate 4098 0)) (length (span_words hs)) refl)
       ∙ sym (rw (le-ltb 2049 (length hs) (rw e at h)))
 

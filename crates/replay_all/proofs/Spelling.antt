@@ -8,7 +8,7 @@ use borrow.Author.Rules.{rules}
 use borrow.Author.Tests.{eq-eqb, ne_eqb, lt-ltb, le-ltb, le-leb, lt-leb}
 use lib.Dec.{eqb, ltb}
 use lib.ListN.{length, get_or, take}
-use Rattle.labels.specs.Labels.{sameLabel}
+use Rattle.labels.specs.Labels.{same_label}
 use Rattle.stores.specs.Written.{Written}
 use Rattle.refusal.specs.declared.Refusal.{Refusal}
 use Rattle.refusal.specs.Number.{number_of}
@@ -35,7 +35,7 @@ module _ (s bs : List ℕ) (at : ℕ) where
 
     module _ (p : get_or s at 0 ≡ 0) (x : List ℕ) (lx : x ≡ list_at s (at + 1)) where
       spelled_by : is_spelled s at bs
-          ≡ cond (eqb (at + 1 + 1 + length x) (length s)) (cond (eqb (bytes_before (take 4096 x)) (length x)) (sameLabel x bs) false) false
+          ≡ cond (eqb (at + 1 + 1 + length x) (length s)) (cond (eqb (bytes_before (take 4096 x)) (length x)) (same_label x bs) false) false
       unfolding is_spelled
       spelled_by = rw (lt-leb (length s) at h, eq-eqb (get_or s at 0) 0 p, ← lx)
 
@@ -49,7 +49,7 @@ module _ (s bs : List ℕ) (at : ℕ) where
         pub spelled_bytes : n ≡ length x → (z m : List ℕ) → Written z 0 (take n x) m n → n ≤ length m → (u : Bool)
             → ((u ≡ true → take n m ≡ bs) × (take n m ≡ bs → u ≡ true)) → u ≡ is_spelled s at bs
         spelled_bytes i z m w g u r =
-            same_test u (take n m) bs r ∙ ap (λ (l : List ℕ). sameLabel l bs) (bytes_all z m x n w i g)
+            same_test u (take n m) bs r ∙ ap (λ (l : List ℕ). same_label l bs) (bytes_all z m x n w i g)
             ∙ sym (spelled_by ∙ rw (eq-eqb (at + 1 + 1 + length x) (length s) e, ← q, eq-eqb n (length x) i))
 
 pub ruleset spelled_laws = (spelled_outside, spelled_refusal, spelled_other, spelled_long, spelled_bytes, rules)

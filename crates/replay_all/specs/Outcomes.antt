@@ -2,7 +2,7 @@
 use Rattle.std.specs.Prelude.{ℕ, ◌+◌, Bool, false, cond, List, eqb, leb, ltb, length, get_or, take, replicate}
 use Rattle.determinize.specs.Sheets.{determinize_answer}
 use Rattle.epsilon.specs.Eliminate.{eliminate_answer}
-use Rattle.labels.specs.Labels.{sameLabel}
+use Rattle.labels.specs.Labels.{same_label}
 use Rattle.output.specs.Output.{Pattern, Lengths, Outputs, outputs}
 use Rattle.parser.specs.Parsed.{ReadLengths, parsed}
 use Rattle.parser.specs.Pattern.{parse_answer}
@@ -20,7 +20,7 @@ unfoldable pub is_listed : List ℕ → ℕ → List ℕ → List ℕ → Bool
 is_listed s at ws bs =
     cond (eqb (behind_list s (behind_list s at)) (length s))
     (cond (are_bytes 16642 (list_at s (behind_list s at)))
-    (cond (sameLabel (list_at s at) ws) (sameLabel (list_at s (behind_list s at)) bs) false)
+    (cond (same_label (list_at s at) ws) (same_label (list_at s (behind_list s at)) bs) false)
     false)
     false
 

@@ -2,7 +2,7 @@
 use Rattle.std.specs.Prelude.{ℕ, suc, ◌+◌, ◌/◌, Bool, true, false, cond, List, [], ◌∷◌, ◌++◌, eqb, leb, ltb, length, get_or, replicate}
 use Rattle.std.proofs.Math.Option.{Option, none, some}
 use Rattle.automata.specs.Automaton.{Transition, leaving, ranges_of}
-use Rattle.labels.specs.Labels.{sameLabel}
+use Rattle.labels.specs.Labels.{same_label}
 use Rattle.ranges.specs.Missing.{missing}
 use Rattle.ranges.specs.inner.Missing.{span_words}
 use Rattle.ranges.specs.Span.{Span, intersect_ranges, overlapping}
@@ -41,7 +41,7 @@ is_bit x false = eqb x 0
 
 -- the list has first and last of the spans, of which there are at most 2,049
 unfoldable pub are_spans : List ℕ → List Span → Bool
-are_spans l hs = cond (ltb 2049 (length hs)) false (sameLabel l (span_words hs))
+are_spans l hs = cond (ltb 2049 (length hs)) false (same_label l (span_words hs))
 
 -- whether the ranges overlap stands at the place, then the holes that they leave as a list, and nothing behind
 unfoldable pub is_holes : List ℕ → ℕ → List Transition → Bool

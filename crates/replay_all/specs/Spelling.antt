@@ -1,6 +1,6 @@
 -- Cases of writing: a sheet, its labels, then the refusal's number, or 0 and the text as a list.
 use Rattle.std.specs.Prelude.{ℕ, ◌+◌, Bool, false, cond, List, eqb, leb, ltb, length, get_or, take, replicate}
-use Rattle.labels.specs.Labels.{sameLabel}
+use Rattle.labels.specs.Labels.{same_label}
 use Rattle.refusal.specs.Answer.{Answer, refused, given}
 use Rattle.refusal.specs.Outcome.{Outcome}
 use Rattle.replay.specs.Cases.{list_at, is_last}
@@ -12,7 +12,7 @@ unfoldable pub is_spelled : List ℕ → ℕ → List ℕ → Bool
 is_spelled s at bs =
     cond (leb (length s) at) false
     (cond (eqb (get_or s at 0) 0)
-    (cond (eqb (behind_list s (at + 1)) (length s)) (cond (are_bytes 4096 (list_at s (at + 1))) (sameLabel (list_at s (at + 1)) bs) false) false)
+    (cond (eqb (behind_list s (at + 1)) (length s)) (cond (are_bytes 4096 (list_at s (at + 1))) (same_label (list_at s (at + 1)) bs) false) false)
     false)
 
 -- the answer of writing with the buffer bs stands in the case from the place on

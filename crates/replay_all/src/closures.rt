@@ -1,6 +1,6 @@
 // Cases of closures: a sheet, then the closure of each state as a list.
 ghost use Rattle.std.specs.Prelude.{◌*◌, ◌+◌, ◌≤◌, length, ◌≡◌};
-ghost use Rattle.labels.specs.Labels.{sameLabel};
+ghost use Rattle.labels.specs.Labels.{same_label};
 ghost use Rattle.sets.specs.inner.BitSet.{set_at, entries};
 ghost use Rattle.sheets.specs.inner.Accepted.{Accepted};
 ghost use Rattle.sheets.specs.Sheet.{read};
@@ -12,7 +12,7 @@ use sheets::Checked;
 // Whether row p of the table has the listed members and no others.
 fn is_row(rows: &[u64], p: usize, members: &[u32]) -> bool
     requires { 4 * p + 4 ≤ length rows.now }
-    ensures { result ≡ sameLabel members.now (set_at rows.now (4 * p)) }
+    ensures { result ≡ same_label members.now (set_at rows.now (4 * p)) }
 {
     let mut i: usize = 0;
     let mut q: usize = 0;

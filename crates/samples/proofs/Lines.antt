@@ -13,7 +13,7 @@ use Rattle.determinizations.specs.Two.{Two}
 use Rattle.determinizations.proofs.Theorems.{determinized_both, same_words, one_word}
 use Rattle.equality.specs.Verdict.{Equal, Apart}
 use Rattle.equality.proofs.Theorems.{classes_number}
-use Rattle.labels.specs.Labels.{sameLabel}
+use Rattle.labels.specs.Labels.{same_label}
 use Rattle.grammar.specs.Bytes.{is_space, is_letter, is_name_byte}
 use Rattle.grammar.specs.Grammar.{follow, run, space, needed_space, begins, token, name, number, ends, range}
 use Rattle.grammar.specs.Grammar.{target, transition, initial, next_name, many, transitions, next_names, accepting, heading, ending, whole_text}
@@ -42,7 +42,7 @@ are_compared :
     (verdict_answer 0 last_symbol (text_a ++ 32 ∷ text_b) ≡ given both_determinized)
     × (verdict_answer 0 last_symbol (text_a ++ 32 ∷ text_c) ≡ given apart)
 unfolding follow is_space is_letter is_digit is_name_byte run space needed_space begins token name value_after number ends range target transition initial
-    next_name many transitions next_names accepting heading ending whole_text spell sameLabel index add meet flat_map names_of states_of any accept_word automaton_of
+    next_name many transitions next_names accepting heading ending whole_text spell same_label index add meet flat_map names_of states_of any accept_word automaton_of
     pattern_of all few_transitions within_limits accepts_first meant states_first transitions_first reading_answer insert in_order read_records two_texts with_second_text with_first_text
     verdict_answer
 are_compared = (

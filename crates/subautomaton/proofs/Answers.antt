@@ -10,7 +10,7 @@ use borrow.Author.Rules.{rules}
 use lib.ListN.{length, get_or}
 use Rattle.output.specs.Output.{read_pattern}
 use Rattle.labels.specs.Labels.{labels_fault}
-use Rattle.labels.specs.Checked.{checked_number as labelsNumber}
+use Rattle.labels.specs.Checked.{checked_number as labels_number}
 use Rattle.labels.specs.declared.Checked.{Checked as LabelsChecked}
 use Rattle.labels.specs.declared.Checked.TheVariants as labels
 use Rattle.output.proofs.Answers.{labels_accepted, labels_passed, labels_refused}
@@ -45,12 +45,12 @@ module _ (a al b bl : List ℕ) (r : Checked) (e : checked_number r ≡ fault a)
     unfolding subautomaton_answer
     second_faulty i g = sym (sheet_passed a _ r e h ∙ sheet_refused b _ q f i g)
 
-    module _ (g : q ≡ sheets.Accepted) (s : LabelsChecked) (k : labelsNumber s ≡ labels_fault (state_count a) al) where
+    module _ (g : q ≡ sheets.Accepted) (s : LabelsChecked) (k : labels_number s ≡ labels_fault (state_count a) al) where
       pub first_labels_faulty : (i : InputRefusal) → s ≡ labels.Refused i → refused (input_number i) ≡ subautomaton_answer a al b bl
       unfolding subautomaton_answer
       first_labels_faulty i l = sym (sheet_passed a _ r e h ∙ sheet_passed b _ q f g ∙ labels_refused (state_count a) al _ s k i l)
 
-      module _ (l : s ≡ labels.Accepted) (t : LabelsChecked) (m : labelsNumber t ≡ labels_fault (state_count b) bl) where
+      module _ (l : s ≡ labels.Accepted) (t : LabelsChecked) (m : labels_number t ≡ labels_fault (state_count b) bl) where
         pub second_labels_faulty : (i : InputRefusal) → t ≡ labels.Refused i → refused (input_number i) ≡ subautomaton_answer a al b bl
         unfolding subautomaton_answer
         second_labels_faulty i n = sym (sheet_passed a _ r e h ∙ sheet_passed b _ q f g ∙ labels_passed (state_count a) al _ s k l ∙ labels_refused (state_count b) bl _ t m i n)

@@ -18,7 +18,7 @@ use Rattle.lists.proofs.Parts.{part_all}
 use Rattle.lists.proofs.Tests.{true_same, and_parts, and_both}
 use Rattle.automata.specs.Automaton.{Transition, leaving, states}
 use Rattle.automata.specs.Records.{read_records}
-use Rattle.labels.specs.Labels.{sameLabel, read_labels}
+use Rattle.labels.specs.Labels.{same_label, read_labels}
 use Rattle.labels.proofs.Labels.{length_read}
 use Rattle.name_table.specs.inner.Names.{names_in}
 use Rattle.search.proofs.Tables.{meet_in}
@@ -36,18 +36,18 @@ use Rattle.subautomaton.proofs.Numbering.{same_number}
 -- each label of a list is one of the different ones
 label_met : (b x : List ℕ) → x ∈ read_labels b → x ∈ distinct_labels b
 unfolding distinct_labels
-label_met b x m = meet_in sameLabel same_decides (read_labels b) [] x m
+label_met b x m = meet_in same_label same_decides (read_labels b) [] x m
 
 module _ (a al b bl starts ca cb : List ℕ) (t : Tabled a al b bl starts ca cb) where
   -- a state of each sheet: equal numbers for equal labels
-  same_label : (p q : ℕ) → p < state_count a → q < state_count b → eqb (get_or cb q 0) (get_or ca p 0) ≡ sameLabel (label_of (read_pattern a al) p) (label_of (read_pattern b bl) q)
-  same_label p q h g =
+  same_label_lem : (p q : ℕ) → p < state_count a → q < state_count b → eqb (get_or cb q 0) (get_or ca p 0) ≡ same_label (label_of (read_pattern a al) p) (label_of (read_pattern b bl) q)
+  same_label_lem p q h g =
       let in_b : get_or (read_labels bl) q [] ∈ read_labels bl = at_in (read_labels bl) q [] (omega (arith, length_read (state_count b) bl t.inputs.second_labels)) in
       rw (t.numbered_b.at q g, t.numbered_a.at p h) (sym (same_number (get_or (read_labels al) p []) (get_or (read_labels bl) q []) (distinct_labels bl) (label_met bl _ in_b)))
 
   held_same : (p q : ℕ) → p < state_count a → q < state_count b → is_held (read b) cb (get_or ca p 0) (get_or (read a).accept p 0) q ≡ is_same (read_pattern a al) (read_pattern b bl) p q
   unfolding is_held is_same
-  held_same p q h g = rw (same_label p q h g)
+  held_same p q h g = rw (same_label_lem p q h g)
 
   has_same : (p : ℕ) → p ∈ states (state_count a) → is_held_in (read a) (read b) ca cb p ≡ has_state (read_pattern a al) (read_pattern b bl) p
   unfolding is_held_in has_state
@@ -60,7 +60,7 @@ module _ (a al b bl starts ca cb : List ℕ) (t : Tabled a al b bl starts ca cb)
     fits_same =
         let wa = (read_well a t.inputs.first).states in
         let wb = (read_well b t.inputs.second).states in
-        rw (same_label d.from e.from (wa.froms d md) (wb.froms e me), same_label d.to e.to (wa.tos d md) (wb.tos e me))
+        rw (same_label_lem d.from e.from (wa.froms d md) (wb.froms e me), same_label_lem d.to e.to (wa.tos d md) (wb.tos e me))
 
   -- a state q of the second sheet that has a transition for d, and a transition that covers d
   from_state : (d : Transition) (q : ℕ) → d ∈ (read a).transitions → fits_from (read b) cb (get_or ca d.from 0) (get_or ca d.to 0) d q ≡ true
@@ -99,8 +99,8 @@ module _ (a al b bl starts ca cb : List ℕ) (t : Tabled a al b bl starts ca cb)
   all_covered : all (fits_in (read b) ca cb) (read a).transitions ≡ all (is_covered (read_pattern a al) (read_pattern b bl)) (read a).transitions
   all_covered = all_ext _ _ (read a).transitions covered_same
 
-  same_start : eqb (get_or cb (get_or b 1 0) 0) (get_or ca (get_or a 1 0) 0) ≡ sameLabel (label_of (read_pattern a al) (get_or a 1 0)) (label_of (read_pattern b bl) (get_or b 1 0))
-  same_start = same_label (get_or a 1 0) (get_or b 1 0) t.inputs.first.start t.inputs.second.start
+  same_start : eqb (get_or cb (get_or b 1 0) 0) (get_or ca (get_or a 1 0) 0) ≡ same_label (label_of (read_pattern a al) (get_or a 1 0)) (label_of (read_pattern b bl) (get_or b 1 0))
+  same_start = same_label_lem (get_or a 1 0) (get_or b 1 0) t.inputs.first.start t.inputs.second.start
 
   by_parts : is_subautomaton (read_pattern a al) (read_pattern b bl) ≡
       (all (is_held_in (read a) (read b) ca cb) (states (state_count a)) && (eqb (get_or cb (get_or b 1 0) 0) (get_or ca (get_or a 1 0) 0) && all (fits_in (read b) ca cb) (read a).transitions))

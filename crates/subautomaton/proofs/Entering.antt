@@ -8,7 +8,7 @@ use native.Mathlib.Omega.{arith}
 use borrow.Author.Rules.{rules}
 use lib.ListN.{length, get_or, drop, drop_of_length-le}
 use lib.Seq.{drop-cons}
-use Rattle.labels.specs.Labels.{labels_fault, read_labels, sameLabel}
+use Rattle.labels.specs.Labels.{labels_fault, read_labels, same_label}
 use Rattle.labels.specs.inner.Places.{label_place}
 use Rattle.labels.proofs.Reading.{seek_inside, seek_whole, label_is}
 use Rattle.labels.proofs.Labels.{length_read}
@@ -27,7 +27,7 @@ use Rattle.subautomaton.specs.inner.Tables.{distinct_labels, LabelTable}
 pub record Entered (b t : List ℕ) (n i : ℕ) : Type 0 where
   pub table : Table b t n
   pub few : n ≤ i
-  pub rest : meet sameLabel (drop i (read_labels b)) (names_in b t n) ≡ distinct_labels b
+  pub rest : meet same_label (drop i (read_labels b)) (names_in b t n) ≡ distinct_labels b
 
 pub enter_begin : (b t : List ℕ) → length t ≡ 1024 → Entered b t 0 0
 unfolding distinct_labels names_in tabulate
@@ -38,7 +38,7 @@ module _ (b t : List ℕ) (m n i at : ℕ) (ok : labels_fault m b ≡ 0) (p : at
   unfolding meet
   enter_ended g h =
       let z : drop i (read_labels b) ≡ [] = drop_of_length-le (read_labels b) {i = i} (omega (arith, length_read m b ok)) in
-      record { table = k.table; names = ap (λ (ls : List (List ℕ)). meet sameLabel ls (names_in b t n)) (sym z) ∙ k.rest }
+      record { table = k.table; names = ap (λ (ls : List (List ℕ)). meet same_label ls (names_in b t n)) (sym z) ∙ k.rest }
 
   module _ (h : i < m) (next : ℕ) (e : next ≡ at + 1 + get_or b at 0) where
     pub enter_straight : at + 1 ≤ next
@@ -58,9 +58,9 @@ module _ (b t : List ℕ) (m n i at : ℕ) (ok : labels_fault m b ≡ 0) (p : at
         drop-cons (read_labels b) i [] (omega (arith, length_read m b ok)) ∙ ap (λ (x : List ℕ). x ∷ drop (suc i) (read_labels b)) (sym label)
         ∙ ap (λ (j : ℕ). slice b (at + 1) next ∷ drop j (read_labels b)) (sym (add-one i))
 
-    module _ (u : List ℕ) (r : Added) (a : Addition b (add sameLabel (slice b (at + 1) next) (names_in b t n)) u r) where
-      short : length (add sameLabel (slice b (at + 1) next) (names_in b t n)) ≤ i + 1
-      short = omega (arith, add_length sameLabel (slice b (at + 1) next) (names_in b t n), names_count b t n, k.few)
+    module _ (u : List ℕ) (r : Added) (a : Addition b (add same_label (slice b (at + 1) next) (names_in b t n)) u r) where
+      short : length (add same_label (slice b (at + 1) next) (names_in b t n)) ≤ i + 1
+      short = omega (arith, add_length same_label (slice b (at + 1) next) (names_in b t n), names_count b t n, k.few)
 
       pub enter_next : (v : ℕ) → r ≡ Kept v → Entered b u v (i + 1)
       unfolding meet
@@ -69,7 +69,7 @@ module _ (b t : List ℕ) (m n i at : ℕ) (ok : labels_fault m b ≡ 0) (p : at
           record {
             table = added_table b _ u r a v q;
             few = omega (arith, short, ap length s, names_count b u v);
-            rest = ap (meet sameLabel (drop (i + 1) (read_labels b))) s ∙ sym (ap (λ (ls : List (List ℕ)). meet sameLabel ls (names_in b t n)) here) ∙ k.rest;
+            rest = ap (meet same_label (drop (i + 1) (read_labels b))) s ∙ sym (ap (λ (ls : List (List ℕ)). meet same_label ls (names_in b t n)) here) ∙ k.rest;
           }
 
       -- there is room for each

@@ -5,7 +5,7 @@ use mathlib.Core.List.{List, [], ◌∷◌}
 use mathlib.Core.Path.{◌≡◌, refl}
 use Rattle.lists.specs.Lists.{any, all, tabulate}
 use Rattle.automata.specs.Automaton.{Transition, states}
-use Rattle.labels.specs.Labels.{sameLabel}
+use Rattle.labels.specs.Labels.{same_label}
 use Rattle.output.specs.Output.{Pattern}
 use Rattle.subautomaton.specs.Inclusion.{is_same, has_state, covers, is_covered, is_subautomaton}
 
@@ -26,5 +26,5 @@ examples :
     × (is_subautomaton (pattern 0 (arrow 0 0 0 0 1 ∷ [])) (pattern 0 (arrow 0 0 0 0 1 ∷ [])) ≡ true)
     × (is_subautomaton (pattern 1 []) (pattern 2 []) ≡ true)
     × (is_subautomaton (pattern 0 []) (pattern 1 []) ≡ false)
-unfolding is_subautomaton all states tabulate has_state any is_same sameLabel is_covered covers
+unfolding is_subautomaton all states tabulate has_state any is_same same_label is_covered covers
 examples = (refl, refl, refl, refl, refl, refl, refl)

@@ -16,7 +16,7 @@ use Rattle.lists.specs.Lists.{◌∈◌, any, all}
 use Rattle.lists.proofs.Lists.{any_out, any_in}
 use Rattle.lists.proofs.Tests.{and_parts, and_both, or_cases}
 use Rattle.automata.specs.Automaton.{Transition, states, accept_of}
-use Rattle.labels.specs.Labels.{sameLabel, labels_fault, labels_ok}
+use Rattle.labels.specs.Labels.{same_label, labels_fault, labels_ok}
 use Rattle.lists.proofs.Index.{same_equal, equal_same}
 use Rattle.output.specs.Output.{Pattern, labels_first, label_of, read_pattern}
 use Rattle.output.proofs.Left.{labels_first_lem, labels_given, labels_number}
@@ -41,8 +41,8 @@ module _ (P Q : Pattern) where
   covers_out : (d e : Transition) → covers P Q d e ≡ true → Covers P Q d e
   unfolding covers
   covers_out d e h =
-      let one = and_parts (sameLabel (label_of P d.from) (label_of Q e.from)) _ h in
-      let two = and_parts (sameLabel (label_of P d.to) (label_of Q e.to)) _ one.1 in
+      let one = and_parts (same_label (label_of P d.from) (label_of Q e.from)) _ h in
+      let two = and_parts (same_label (label_of P d.to) (label_of Q e.to)) _ one.1 in
       let three = and_parts (eqb e.kind d.kind) _ two.1 in
       let four = and_parts (leb e.first d.first) _ three.1 in
       record {
@@ -69,7 +69,7 @@ module _ (P Q : Pattern) where
   same_out : (p q : ℕ) → is_same P Q p q ≡ true → (label_of P p ≡ label_of Q q) × (0 < accept_of P.automaton p → 0 < accept_of Q.automaton q)
   unfolding is_same
   same_out p q h =
-      let two = and_parts (sameLabel (label_of P p) (label_of Q q)) _ h in
+      let two = and_parts (same_label (label_of P p) (label_of Q q)) _ h in
       (same_equal _ _ two.0, λ a. ⊎_elim (λ (z : eqb (accept_of P.automaton p) 0 ≡ true). absurd (let y : accept_of P.automaton p ≡ 0 = eqb-true (accept_of P.automaton p) 0 z in omega arith)) (λ z. ltb-true 0 (accept_of Q.automaton q) z) (or_cases (eqb (accept_of P.automaton p) 0) _ two.1))
 
   has_out : (p : ℕ) → has_state P Q p ≡ true → (q : ℕ) × (q < Q.automaton.size) × (label_of P p ≡ label_of Q q) × (0 < accept_of P.automaton p → 0 < accept_of Q.automaton q)
@@ -109,7 +109,7 @@ module _ (P Q : Pattern) where
       to : is_subautomaton P Q ≡ true → Sub P Q
       to h =
           let one = and_parts (all (has_state P Q) (states P.automaton.size)) _ h in
-          let two = and_parts (sameLabel (label_of P P.automaton.start) (label_of Q Q.automaton.start)) _ one.1 in
+          let two = and_parts (same_label (label_of P P.automaton.start) (label_of Q Q.automaton.start)) _ one.1 in
           let state : (p : ℕ) → p < P.automaton.size → has_state P Q p ≡ true = λ p g. all_out (has_state P Q) (states_in P.automaton.size p g) one.0 in
           record {
             has_state_lem = λ p g. let q = has_out p (state p g) in (q.0, q.1, q.2);

@@ -21,7 +21,7 @@ use Rattle.refusal.specs.declared.Refusal.{Refusal}
 use Rattle.refusal.specs.Number.{input_number, number_of}
 use Rattle.labels.specs.declared.Checked as labels
 use Rattle.labels.specs.declared.Checked.TheVariants as label
-use Rattle.labels.specs.Checked.{checked_number as labelsNumber}
+use Rattle.labels.specs.Checked.{checked_number as labels_number}
 use Rattle.sheets.specs.declared.Checked as sheets
 use Rattle.sheets.specs.declared.Checked.TheVariants as sheet
 use Rattle.sheets.specs.Checked.{checked_number, sheet_first}
@@ -45,7 +45,7 @@ module _ (s b o l : List ℕ) (r : Bool) (e : r ≡ (ltb (length o) 10500 || ltb
     unfolding inputs_first
     inputs_sheet i p = sym (room_enough o l _ r e h ∙ sheet_refused s _ f g i p)
 
-    module _ (p : f ≡ sheet.Accepted) (k : labels.Checked) (m : labelsNumber k ≡ labels_fault (state_count s) b) where
+    module _ (p : f ≡ sheet.Accepted) (k : labels.Checked) (m : labels_number k ≡ labels_fault (state_count s) b) where
       pub inputs_labels : (i : InputRefusal) → k ≡ label.Refused i → refused (input_number i) ≡ inputs_first s b o l passed
       unfolding inputs_first
       inputs_labels i q = sym (room_enough o l _ r e h ∙ sheet_passed s _ f g p ∙ labels_refused (state_count s) b passed k m i q)

@@ -17,7 +17,7 @@ use Rattle.automata.specs.Records.{read_records}
 use Rattle.labels.specs.Checked.{checked_number}
 use Rattle.labels.specs.Labels.{label_count, labels_fault}
 use Rattle.labels.specs.declared.Checked.{Checked}
-use Rattle.labels.specs.declared.Checked.TheVariants as labels-checked
+use Rattle.labels.specs.declared.Checked.TheVariants as labels_checked
 use Rattle.output.specs.Output.{label_of, read_pattern, labels_first}
 use Rattle.output.proofs.Left.{front_written}
 use Rattle.output.proofs.Answers.{labels_accepted, labels_passed, labels_refused}
@@ -29,11 +29,11 @@ use Rattle.refusal.specs.declared.InputRefusal.TheVariants.{EpsilonRecord, NoAcc
 use Rattle.refusal.specs.declared.Refusal.{Refusal}
 use Rattle.refusal.specs.declared.Refusal.TheVariants.{Input, State}
 use Rattle.refusal.specs.declared.StateRefusal.TheVariants.{OutputLength}
-use Rattle.sheets.specs.Checked as sheet-check
+use Rattle.sheets.specs.Checked as sheet_check
 use Rattle.sheets.specs.Fault.{fault}
 use Rattle.sheets.specs.Sheet.{state_count, records_at, read}
-use Rattle.sheets.specs.declared.Checked as sheet-answer
-use Rattle.sheets.specs.declared.Checked.TheVariants as sheet-checked
+use Rattle.sheets.specs.declared.Checked as sheet_answer_lem
+use Rattle.sheets.specs.declared.Checked.TheVariants as sheet_checked
 use Rattle.sheets.specs.inner.Accepted.{Accepted}
 use Rattle.sheets.proofs.Accepted.{check_accepted}
 use Rattle.sheets.proofs.Checking.{sheet_passed, sheet_refused}
@@ -185,11 +185,11 @@ pub ruleset pattern_laws = (zeros, epsilon_refused, epsilon_passed, rules)
 
 -- 10
 module _ (s b : List ℕ) (r : Checked) (e : checked_number r ≡ labels_fault (state_count s) b) where
-  pub labels_written : r ≡ labels-checked.Accepted → (o o' : List ℕ) (x : Wrote) → wrote_of x o' ≡ write_outcome o (pattern_answer (read_pattern s b))
+  pub labels_written : r ≡ labels_checked.Accepted → (o o' : List ℕ) (x : Wrote) → wrote_of x o' ≡ write_outcome o (pattern_answer (read_pattern s b))
       → wrote_of x o' ≡ write_outcome o (labels_first (state_count s) b (pattern_answer (read_pattern s b)))
   labels_written h o o' x y = y ∙ ap (write_outcome o) (sym (labels_passed (state_count s) b _ r e h))
 
-  pub labels_faulty : (i : InputRefusal) → r ≡ labels-checked.Refused i → (o : List ℕ)
+  pub labels_faulty : (i : InputRefusal) → r ≡ labels_checked.Refused i → (o : List ℕ)
       → wrote_of (wrote.Refused (Input i)) o ≡ write_outcome o (labels_first (state_count s) b (pattern_answer (read_pattern s b)))
   labels_faulty i h o = wrote_refused o (Input i) _ (labels_refused (state_count s) b _ r e i h)
 
@@ -201,13 +201,13 @@ module _ (s b o : List ℕ) where
   unfolding write_answer
   buffer_short h = wrote_refused o (State OutputLength) _ (rw (lt-ltb (length o) text_size h))
 
-  module _ (l : 65536 ≤ length o) (r : sheet-answer.Checked) (e : sheet-check.checkedNumber r ≡ fault s) where
-    pub sheet_written : r ≡ sheet-checked.Accepted → (o' : List ℕ) (x : Wrote) → wrote_of x o' ≡ write_outcome o (labels_first (state_count s) b (pattern_answer (read_pattern s b)))
+  module _ (l : 65536 ≤ length o) (r : sheet_answer_lem.Checked) (e : sheet_check.checked_number r ≡ fault s) where
+    pub sheet_written : r ≡ sheet_checked.Accepted → (o' : List ℕ) (x : Wrote) → wrote_of x o' ≡ write_outcome o (labels_first (state_count s) b (pattern_answer (read_pattern s b)))
         → wrote_of x o' ≡ write_outcome o (write_answer s b o)
     unfolding write_answer
     sheet_written h o' x y = y ∙ ap (write_outcome o) (sym (rw (le-ltb (length o) text_size l) (sheet_passed s _ r e h)))
 
-    pub sheet_faulty : (i : InputRefusal) → r ≡ sheet-checked.Refused i → wrote_of (wrote.Refused (Input i)) o ≡ write_outcome o (write_answer s b o)
+    pub sheet_faulty : (i : InputRefusal) → r ≡ sheet_checked.Refused i → wrote_of (wrote.Refused (Input i)) o ≡ write_outcome o (write_answer s b o)
     unfolding write_answer
     sheet_faulty i h = wrote_refused o (Input i) _ (rw (le-ltb (length o) text_size l) (sheet_refused s _ r e i h))
 

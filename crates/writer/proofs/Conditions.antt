@@ -17,7 +17,7 @@ use Rattle.lists.proofs.Members.{map_in, map_out, ascending_filter, ascending_di
 use Rattle.lists.proofs.Tests.{test, or_cases, or_left, or_right, and_both}
 use Rattle.automata.specs.Automaton.{has_epsilon, accept_of, states}
 use Rattle.automata.proofs.States.{states_in, states_out, states_ascend}
-use Rattle.labels.specs.Labels.{sameLabel}
+use Rattle.labels.specs.Labels.{same_label}
 use Rattle.output.specs.Output.{Pattern, label_of}
 use Rattle.syntax.specs.Syntax.{Each, none, more, Name, named}
 use Rattle.writer.specs.Text.{is_written, written_states, accepting_states, pattern_text, is_name, has_twice, text_size}
@@ -57,18 +57,18 @@ twice_out f [] d h = absurd (false≢true h)
 twice_out f (x ∷ l) (Distinct.more n d) h =
     ⊎_elim
     (λ k.
-    let o = any_out (sameLabel (f x)) (map f l) k in
+    let o = any_out (same_label (f x)) (map f l) k in
     let (q, m, e) = map_out f l o.0 o.1 in
     (x, q, Memᴰ.head refl, Memᴰ.tail m, λ z. n (Memᴰ.cast z m), same_equal (f x) o.0 o.2 ∙ e))
     (λ k. let (p, q, i, j, z, e) = twice_out f l d k in (p, q, Memᴰ.tail i, Memᴰ.tail j, z, e))
-    (or_cases (any (sameLabel (f x)) (map f l)) (has_twice (map f l)) h)
+    (or_cases (any (same_label (f x)) (map f l)) (has_twice (map f l)) h)
 
 twice_in : (f : ℕ → List ℕ) (l : List ℕ) (p q : ℕ) → p ∈ l → q ∈ l → (p ≡ q → ⊥) → f p ≡ f q → has_twice (map f l) ≡ true
 unfolding has_twice
 twice_in f (x ∷ l) p q (Memᴰ.head i) (Memᴰ.head j) n e = absurd (n (i ∙ sym j))
-twice_in f (x ∷ l) p q (Memᴰ.head i) (Memᴰ.tail j) n e = or_left _ _ (any_in (sameLabel (f x)) (map_in f j) (equal_same (f x) (f q) (ap f (sym i) ∙ e)))
-twice_in f (x ∷ l) p q (Memᴰ.tail i) (Memᴰ.head j) n e = or_left _ _ (any_in (sameLabel (f x)) (map_in f i) (equal_same (f x) (f p) (ap f (sym j) ∙ sym e)))
-twice_in f (x ∷ l) p q (Memᴰ.tail i) (Memᴰ.tail j) n e = or_right (any (sameLabel (f x)) (map f l)) _ (twice_in f l p q i j n e)
+twice_in f (x ∷ l) p q (Memᴰ.head i) (Memᴰ.tail j) n e = or_left _ _ (any_in (same_label (f x)) (map_in f j) (equal_same (f x) (f q) (ap f (sym i) ∙ e)))
+twice_in f (x ∷ l) p q (Memᴰ.tail i) (Memᴰ.head j) n e = or_left _ _ (any_in (same_label (f x)) (map_in f i) (equal_same (f x) (f p) (ap f (sym j) ∙ sym e)))
+twice_in f (x ∷ l) p q (Memᴰ.tail i) (Memᴰ.tail j) n e = or_right (any (same_label (f x)) (map f l)) _ (twice_in f l p q i j n e)
 
 -- a label that fails the test
 names_out : (l : List (List ℕ)) → not (all is_name l) ≡ true → (x : List ℕ) × x ∈ l × (Name x → ⊥)

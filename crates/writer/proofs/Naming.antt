@@ -19,7 +19,7 @@ use Rattle.lists.proofs.Lists.{any_out, any_in, map_append}
 use Rattle.lists.proofs.Members.{map_in, at_in}
 use Rattle.lists.proofs.Parts.{drop_at, take_more}
 use Rattle.lists.proofs.Tests.{test, and_both, and_parts, or_left, or_right}
-use Rattle.labels.specs.Labels.{label_count, read_labels, sameLabel}
+use Rattle.labels.specs.Labels.{label_count, read_labels, same_label}
 use Rattle.labels.proofs.Reading.{seek_inside, seek_whole, label_is}
 use Rattle.grammar.specs.Bytes.{is_letter, is_name_byte}
 use Rattle.name_table.specs.declared.Added.{Added}
@@ -84,16 +84,16 @@ pub ruleset name_laws = (name_empty, name_long, name_first, name_begin, name_end
 once : {ls : List (List ℕ)} → Distinct ls → has_twice ls ≡ false
 unfolding has_twice
 once none = refl
-once (more {x} {l} out d) = ⊎_elim (λ (t : any (sameLabel x) l ≡ true). absurd (out (found t))) (λ (t : any (sameLabel x) l ≡ false). rw t (once d)) (test (any (sameLabel x) l))
+once (more {x} {l} out d) = ⊎_elim (λ (t : any (same_label x) l ≡ true). absurd (out (found t))) (λ (t : any (same_label x) l ≡ false). rw t (once d)) (test (any (same_label x) l))
   where
-    found : any (sameLabel x) l ≡ true → x ∈ l
-    found t = let r = any_out (sameLabel x) l t in subst (λ (y : List ℕ). y ∈ l) (sym (same_equal x r.0 r.2)) r.1
+    found : any (same_label x) l ≡ true → x ∈ l
+    found t = let r = any_out (same_label x) l t in subst (λ (y : List ℕ). y ∈ l) (sym (same_equal x r.0 r.2)) r.1
 
 twice : (x : List ℕ) (ks ms : List (List ℕ)) → x ∈ ks → has_twice (ks ++ x ∷ ms) ≡ true
 unfolding has_twice
-twice x (y ∷ ks) ms (Memᴰ.head e) = or_left (any (sameLabel y) (ks ++ x ∷ ms)) _ (any_in (sameLabel y) (Memᴰ.append_right ks (Memᴰ.head refl)) (equal_same y x (sym e)))
+twice x (y ∷ ks) ms (Memᴰ.head e) = or_left (any (same_label y) (ks ++ x ∷ ms)) _ (any_in (same_label y) (Memᴰ.append_right ks (Memᴰ.head refl)) (equal_same y x (sym e)))
 twice x [] ms m = elim m [ ]
-twice x (y ∷ ks) ms (Memᴰ.tail m) = or_right (any (sameLabel y) (ks ++ x ∷ ms)) _ (twice x ks ms m)
+twice x (y ∷ ks) ms (Memᴰ.tail m) = or_right (any (same_label y) (ks ++ x ∷ ms)) _ (twice x ks ms m)
 
 all_end : (f : List ℕ → Bool) (ks : List (List ℕ)) (x : List ℕ) → all f ks ≡ true → f x ≡ true → all f (ks ++ x ∷ []) ≡ true
 unfolding all
@@ -163,37 +163,37 @@ module _ (b p qs : List ℕ) (i : ℕ) (k : LabelPlaces b p) (w : StatesBelow (l
         ap (state_labels b) (take_more qs i h) ∙ map_append (λ q. get_or (read_labels b) q []) (take i qs) (get_or qs i 0 ∷ [])
         ∙ ap (λ (x : List ℕ). state_labels b (take i qs) ++ x ∷ []) (sym label)
 
-    module _ (t u : List ℕ) (g : LabelsListed b qs t i) (r : Added) (a : Addition b (add sameLabel (slice b (get_or p (get_or qs i 0) 0 + 1) next) (names_in b t i)) u r) where
+    module _ (t u : List ℕ) (g : LabelsListed b qs t i) (r : Added) (a : Addition b (add same_label (slice b (get_or p (get_or qs i 0) 0 + 1) next) (names_in b t i)) u r) where
       abbrev x : List ℕ
       x = slice b (get_or p (get_or qs i 0) 0 + 1) next
 
       pub listed_full : length qs ≤ 256 → r ≡ Full → false ≡ are_names (state_labels b qs)
-      listed_full m q = absurd (omega (arith, added_full b _ u r a q, add_length sameLabel x (names_in b t i), names_count b t i))
+      listed_full m q = absurd (omega (arith, added_full b _ u r a q, add_length same_label x (names_in b t i), names_count b t i))
 
       module _ (v : ℕ) (q : r ≡ Kept v) where
-        grown : v ≡ length (add sameLabel x (names_in b t i))
+        grown : v ≡ length (add same_label x (names_in b t i))
         grown = sym (names_count b u v) ∙ ap length (added_names b _ u r a v q)
 
-        known : v ≡ i → index sameLabel x (names_in b t i) < length (names_in b t i)
+        known : v ≡ i → index same_label x (names_in b t i) < length (names_in b t i)
         known z =
-            ⊎_elim (λ (c : ltb (index sameLabel x (names_in b t i)) (length (names_in b t i)) ≡ true). ltb-true _ _ c)
-            (λ (c : ltb (index sameLabel x (names_in b t i)) (length (names_in b t i)) ≡ false).
-            let y = ap length (add_new sameLabel x (names_in b t i) (ltb-false _ _ c)) in
+            ⊎_elim (λ (c : ltb (index same_label x (names_in b t i)) (length (names_in b t i)) ≡ true). ltb-true _ _ c)
+            (λ (c : ltb (index same_label x (names_in b t i)) (length (names_in b t i)) ≡ false).
+            let y = ap length (add_new same_label x (names_in b t i) (ltb-false _ _ c)) in
             absurd (omega (arith, grown, y, length-append (names_in b t i) (x ∷ []), names_count b t i)))
-            (test (ltb (index sameLabel x (names_in b t i)) (length (names_in b t i))))
+            (test (ltb (index same_label x (names_in b t i)) (length (names_in b t i))))
 
-        new : (v ≡ i → ⊥) → add sameLabel x (names_in b t i) ≡ names_in b t i ++ x ∷ []
+        new : (v ≡ i → ⊥) → add same_label x (names_in b t i) ≡ names_in b t i ++ x ∷ []
         new z =
             ⊎_elim
-            (λ (c : ltb (index sameLabel x (names_in b t i)) (length (names_in b t i)) ≡ true).
-            absurd (z (grown ∙ ap length (add_known sameLabel x (names_in b t i) (ltb-true _ _ c)) ∙ names_count b t i)))
-            (λ (c : ltb (index sameLabel x (names_in b t i)) (length (names_in b t i)) ≡ false). add_new sameLabel x (names_in b t i) (ltb-false _ _ c))
-            (test (ltb (index sameLabel x (names_in b t i)) (length (names_in b t i))))
+            (λ (c : ltb (index same_label x (names_in b t i)) (length (names_in b t i)) ≡ true).
+            absurd (z (grown ∙ ap length (add_known same_label x (names_in b t i) (ltb-true _ _ c)) ∙ names_count b t i)))
+            (λ (c : ltb (index same_label x (names_in b t i)) (length (names_in b t i)) ≡ false). add_new same_label x (names_in b t i) (ltb-false _ _ c))
+            (test (ltb (index same_label x (names_in b t i)) (length (names_in b t i))))
 
         pub listed_twice : v ≡ i → false ≡ are_names (state_labels b qs)
         unfolding are_names
         listed_twice z =
-            let m : x ∈ state_labels b (take i qs) = subst (λ (ls : List (List ℕ)). x ∈ ls) g.named (index_in sameLabel same_decides x (names_in b t i) (known z)) in
+            let m : x ∈ state_labels b (take i qs) = subst (λ (ls : List (List ℕ)). x ∈ ls) g.named (index_in same_label same_decides x (names_in b t i) (known z)) in
             let d : has_twice (state_labels b qs) ≡ true = ap has_twice split ∙ twice x (state_labels b (take i qs)) (state_labels b (drop (suc i) qs)) m in
             sym (rw d)
 

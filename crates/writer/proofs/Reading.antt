@@ -19,7 +19,7 @@ use Rattle.automata.specs.Automaton.{Transition, InBounds, EpsilonFree, accept_o
 use Rattle.automata.specs.Ordered.{in_order}
 use Rattle.automata.proofs.Ordered.{in_order_in}
 use Rattle.automata.proofs.States.{states_in, states_out, length_states}
-use Rattle.labels.specs.Labels.{sameLabel}
+use Rattle.labels.specs.Labels.{same_label}
 use Rattle.output.specs.Output.{Pattern, label_of}
 use Rattle.parser.specs.Misspelt.{Misspelt}
 use Rattle.parser.specs.Pattern.{names_of, states_of, transition_of_move, automaton_of, pattern_of}
@@ -59,7 +59,7 @@ module _ (P : Pattern) where
 
   -- the place of a state's label among them
   abbrev number : ℕ → ℕ
-  number q = index sameLabel (label_of P q) names
+  number q = index same_label (label_of P q) names
 
   -- the label of a written state is one of them
   written_named : (q : ℕ) → WrittenState P q → label_of P q ∈ names
@@ -80,13 +80,13 @@ module _ (P : Pattern) where
   moves_named (e ∷ es) = ap (λ r. label_of P e.from ∷ label_of P e.to ∷ r) (moves_named es)
 
   -- the place of a label among those of some states is that of its state, if no other of them has it
-  label_place_lem : (q : ℕ) (xs : List ℕ) → ((x : ℕ) → x ∈ xs → label_of P q ≡ label_of P x → q ≡ x) → index sameLabel (label_of P q) (map (label_of P) xs) ≡ index eqb q xs
+  label_place_lem : (q : ℕ) (xs : List ℕ) → ((x : ℕ) → x ∈ xs → label_of P q ≡ label_of P x → q ≡ x) → index same_label (label_of P q) (map (label_of P) xs) ≡ index eqb q xs
   unfolding index
   label_place_lem q [] h = refl
   label_place_lem q (x ∷ xs) h =
       rw (
-        true_same (sameLabel (label_of P q) (label_of P x)) (eqb q x) (λ t. eq-eqb q x (h x (Memᴰ.head refl) (same_decides.same_eq _ _ t)))
-            (λ t. same_yes sameLabel same_decides _ _ (ap (label_of P) (eqb-true q x t))),
+        true_same (same_label (label_of P q) (label_of P x)) (eqb q x) (λ t. eq-eqb q x (h x (Memᴰ.head refl) (same_decides.same_eq _ _ t)))
+            (λ t. same_yes same_label same_decides _ _ (ap (label_of P) (eqb-true q x t))),
         label_place_lem q xs (λ y m. h y (Memᴰ.tail m)),
       )
 
@@ -137,11 +137,11 @@ module _ (P : Pattern) (ok : Expressible P) where
     number = number P;
     inside = inside;
     one = λ p q v w e. ok.different p q v w (sym (label p v) ∙ ap (λ i. get_or (names P) i []) e ∙ label q w);
-    all = λ r h. let (q, w, e) = named_written P ok.states (get_or (names P) r []) (at_in (names P) r [] h) in (q, w, ap (λ x. index sameLabel x (names P)) (sym e) ∙ place r h);
+    all = λ r h. let (q, w, e) = named_written P ok.states (get_or (names P) r []) (at_in (names P) r [] h) in (q, w, ap (λ x. index same_label x (names P)) (sym e) ∙ place r h);
     appearance = λ p q v w. subst (λ i. (number P p < number P q) ↔ (i < index eqb q order)) (ordered p v)
-        (subst (λ j. (number P p < number P q) ↔ (index sameLabel (label_of P p) told_order < j)) (ordered q w) (parse_numbered (said_of P) (label_of P p) (label_of P q)));
+        (subst (λ j. (number P p < number P q) ↔ (index same_label (label_of P p) told_order < j)) (ordered q w) (parse_numbered (said_of P) (label_of P p) (label_of P q)));
     labels = label;
-    start = sym (ap (λ x. index sameLabel x (names P)) (sym (parse_start (said_of P)).2) ∙ place 0 (parse_start (said_of P)).1);
+    start = sym (ap (λ x. index same_label x (names P)) (sym (parse_start (said_of P)).2) ∙ place 0 (parse_start (said_of P)).1);
     accepting = λ q w. let a = parse_accept (said_of P) (number P q) (inside q w) in
         (λ h. told q w (subst Accepting (label q w) (a.0 h)), λ h. a.1 (subst Accepting (sym (label q w)) (map_in (label_of P) (accepting_in P q w h))));
     transitions = λ e. (
@@ -155,10 +155,10 @@ module _ (P : Pattern) (ok : Expressible P) where
   }
     where
       inside : (q : ℕ) → WrittenState P q → number P q < length (names P)
-      inside q w = index_lt sameLabel same_decides (label_of P q) (written_named P q w)
+      inside q w = index_lt same_label same_decides (label_of P q) (written_named P q w)
 
       label : (q : ℕ) → WrittenState P q → get_or (names P) (number P q) [] ≡ label_of P q
-      label q w = index_at sameLabel same_decides [] (label_of P q) (names P) (written_named P q w)
+      label q w = index_at same_label same_decides [] (label_of P q) (names P) (written_named P q w)
 
       -- the order of the states in the text, and that of their names
       order : List ℕ
@@ -167,13 +167,13 @@ module _ (P : Pattern) (ok : Expressible P) where
       told_order : List (List ℕ)
       told_order = (said_of P).start ∷ names_of (said_of P).moves
 
-      ordered : (q : ℕ) → WrittenState P q → index sameLabel (label_of P q) told_order ≡ index eqb q order
+      ordered : (q : ℕ) → WrittenState P q → index same_label (label_of P q) told_order ≡ index eqb q order
       ordered q w =
-          ap (λ r. index sameLabel (label_of P q) (label_of P P.automaton.start ∷ r)) (moves_named P P.automaton.transitions)
+          ap (λ r. index same_label (label_of P q) (label_of P P.automaton.start ∷ r)) (moves_named P P.automaton.transitions)
           ∙ label_place_lem P q order (λ x m e. ok.different q x w (appearing_written P ok.states x m) e)
 
-      place : (r : ℕ) → r < length (names P) → index sameLabel (get_or (names P) r []) (names P) ≡ r
-      place r h = index_place sameLabel same_decides [] (parse_labels_distinct (said_of P)) r h
+      place : (r : ℕ) → r < length (names P) → index same_label (get_or (names P) r []) (names P) ≡ r
+      place r h = index_place same_label same_decides [] (parse_labels_distinct (said_of P)) r h
 
       Accepting : List ℕ → Type 0
       Accepting x = x ∈ (said_of P).accepts

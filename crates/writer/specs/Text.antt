@@ -7,7 +7,7 @@ use Rattle.automata.specs.Automaton.{Transition, Automaton, accept_of, states, h
 use Rattle.decimal.specs.Decimal.{digits}
 use Rattle.grammar.specs.Bytes.{is_letter, is_name_byte}
 use Rattle.grammar.specs.Words.{automaton_word, init_word, accepting_word, arrow_sign, left_brace, right_brace, left_bracket, right_bracket, comma, semicolon}
-use Rattle.labels.specs.Labels.{sameLabel}
+use Rattle.labels.specs.Labels.{same_label}
 use Rattle.output.specs.Output.{Pattern, label_of, read_pattern, labels_first}
 use Rattle.refusal.specs.Answer.{Answer, refused, given}
 use Rattle.refusal.specs.Outcome.{Outcome, outcome, length_first}
@@ -63,7 +63,7 @@ is_name (b ∷ u) = is_letter b && (all is_name_byte u && ltb (length u) 64)
 -- two of the labels are equal
 unfoldable pub has_twice : List (List ℕ) → Bool
 has_twice [] = false
-has_twice (l ∷ ls) = any (sameLabel l) ls || has_twice ls
+has_twice (l ∷ ls) = any (same_label l) ls || has_twice ls
 
 -- the size of the buffer, and the longest text in a longer one too
 abbrev pub text_size : ℕ

@@ -5,12 +5,12 @@ use Rattle.grammar.specs.Grammar.{transitions, next_names}
 use Rattle.grammar.specs.Places.{spelled}
 use Rattle.grammar.specs.declared.pieces.Arrow.{Arrow}
 use Rattle.grammar.specs.declared.tokens.TextSpan.{TextSpan}
-use Rattle.labels.specs.Labels.{sameLabel}
+use Rattle.labels.specs.Labels.{same_label}
 use Rattle.search.specs.Search.{index}
 
 -- 1 for the state with the name x, where there is one
 unfoldable pub mark_one : List ℕ → List (List ℕ) → List ℕ → TextSpan → List ℕ
-mark_one t ls ws x = cond (ltb (index sameLabel (spelled t x) ls) (length ls)) (set ws (index sameLabel (spelled t x) ls) 1) ws
+mark_one t ls ws x = cond (ltb (index same_label (spelled t x) ls) (length ls)) (set ws (index same_label (spelled t x) ls) 1) ws
 
 unfoldable pub mark_all : List ℕ → List (List ℕ) → List ℕ → List TextSpan → List ℕ
 mark_all t ls ws [] = ws

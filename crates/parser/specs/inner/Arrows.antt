@@ -4,7 +4,7 @@ use Rattle.std.specs.Prelude.{ℕ, ◌*◌, ◌/◌, ◌≤◌, ◌<◌, List, [
 use Rattle.automata.specs.Automaton.{Transition}
 use Rattle.automata.specs.Ordered.{in_order}
 use Rattle.grammar.specs.Grammar.{transitions}
-use Rattle.labels.specs.Labels.{sameLabel}
+use Rattle.labels.specs.Labels.{same_label}
 use Rattle.name_table.specs.declared.Added.TheVariants.{Kept}
 use Rattle.output.specs.declared.gathering.Filled.{Filled}
 use Rattle.output.specs.inner.Gathering.{Held, Gathered, Rest}
@@ -26,13 +26,13 @@ use Rattle.parser.specs.declared.arrows.Noted.TheVariants.{At as NotedAt, Full a
 -- the n names of the table t are ls and x, and i is the number of x
 pub record Entered (text x : List ℕ) (ls : List (List ℕ)) (t : List ℕ) (i n : ℕ) : Type 0 where
   pub table : SpeltTable text t n
-  pub names : names_in text t n ≡ add sameLabel x ls
-  pub number : i ≡ index sameLabel x (add sameLabel x ls)
+  pub names : names_in text t n ≡ add same_label x ls
+  pub number : i ≡ index same_label x (add same_label x ls)
 
 -- so by the answer, or ls and x are over 256
 abbrev pub Entering : List ℕ → List ℕ → List (List ℕ) → List ℕ → Entry → Type 0
 Entering text x ls t (EntryAt i n) = Entered text x ls t i n
-Entering text x ls t NoEntry = 256 < length (add sameLabel x ls)
+Entering text x ls t NoEntry = 256 < length (add same_label x ls)
 
 -- the records with which new is filled are those of old and e, or they are too many
 pub record Noting (old : List ℕ) (f : Filled) (e : Transition) (new : List ℕ) (g : Filled) : Type 0 where
@@ -44,17 +44,17 @@ pub record Noting (old : List ℕ) (f : Filled) (e : Transition) (new : List ℕ
 -- the n names of the table t are ls and those of the transition m, whose record is with the others
 pub record ArrowNoted (text : List ℕ) (m : Move) (ls : List (List ℕ)) (t old : List ℕ) (f : Filled) (new : List ℕ) (n : ℕ) (g : Filled) : Type 0 where
   pub table : SpeltTable text t n
-  pub names : names_in text t n ≡ meet sameLabel (both_names m) ls
+  pub names : names_in text t n ≡ meet same_label (both_names m) ls
   pub noting : Noting old f (transition_of_move (names_in text t n) m) new g
 
 -- so by the answer, or the names are over 256
 abbrev pub ArrowNoting : List ℕ → Move → List (List ℕ) → List ℕ → List ℕ → Filled → List ℕ → Noted → Type 0
 ArrowNoting text m ls t old f new (NotedAt n g) = ArrowNoted text m ls t old f new n g
-ArrowNoting text m ls t old f new NotNoted = 256 < length (meet sameLabel (both_names m) ls)
+ArrowNoting text m ls t old f new NotNoted = 256 < length (meet same_label (both_names m) ls)
 
 -- all names, where ls come before those of the transitions from a place on
 unfoldable pub all_names : List ℕ → ℕ → List (List ℕ) → List (List ℕ)
-all_names text at ls = meet sameLabel (names_of (moves_at text at)) ls
+all_names text at ls = meet same_label (names_of (moves_at text at)) ls
 
 -- the transitions from a place on between the numbers of these names
 unfoldable pub numbered_transitions : List ℕ → ℕ → List (List ℕ) → List Transition
@@ -77,7 +77,7 @@ pub record Fitting (buf : List ℕ) (f : Filled) : Type 0 where
 -- the transitions from a place on were read, with the names ls before theirs
 pub record ArrowsRead (text : List ℕ) (at : ℕ) (ls : List (List ℕ)) (t buf : List ℕ) (r : Arrows) : Type 0 where
   pub behind : r.behind.at ≡ (transitions text at).behind
-  pub names : SpeltAddition text (meet sameLabel (names_of (moves_at text at)) ls) t r.added
+  pub names : SpeltAddition text (meet same_label (names_of (moves_at text at)) ls) t r.added
   pub gathered : (n : ℕ) → r.added ≡ Kept n → Gathered buf r.filled.sorted r.filled.end (map (transition_of_move (names_in text t n)) (moves_at text at))
   pub fitting : (n : ℕ) → r.added ≡ Kept n → Fitting buf r.filled
 

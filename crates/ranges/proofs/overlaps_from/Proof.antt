@@ -16,11 +16,11 @@ abbrev decreases-loop-at : tie.decreases-loop-at
 decreases-loop-at run end largest₀ at₀ largest at = length run - at
 
 returns-then-first-largest : tie.Need-returns-then-first-largest invariant-loop-at decreases-loop-at
-returns-then-first-largest c = let l = c.before.before.before.before.before.before.loop-at in below_stopped _ _ _ l.at l.invariant.1 (omega arith) (omega arith) (omega arith)
+returns-then-first-largest c = let l = c.loop-at in below_stopped _ _ _ l.at l.invariant.1 (omega arith) (omega arith) (omega arith)
 
 loop-at-preserved-then-kind-eq1 : tie.Need-loop-at-preserved-then-kind-eq1 invariant-loop-at decreases-loop-at
 loop-at-preserved-then-kind-eq1 c =
-    let l = c.before.before.before.before.before.before.before.loop-at in
+    let l = c.loop-at in
     (search rules, below_next _ _ _ l.at l.invariant.1 (omega arith) (omega arith) (omega arith) _ (search))
 
 pub overlaps_from_spec : {M : Type 1} → statement M

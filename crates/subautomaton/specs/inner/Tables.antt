@@ -3,7 +3,7 @@
 use Rattle.std.specs.Prelude.{ℕ, ◌≤◌, ◌<◌, Bool, cond, ◌&&◌, ◌||◌, List, [], ◌∷◌, ◌≡◌, eqb, leb, ltb, length, get_or}
 use Rattle.lists.specs.Lists.{any, Ascending}
 use Rattle.automata.specs.Automaton.{Transition, Automaton, states, leaving, accept_of}
-use Rattle.labels.specs.Labels.{sameLabel, labels_fault, read_labels}
+use Rattle.labels.specs.Labels.{same_label, labels_fault, read_labels}
 use Rattle.lists.specs.Index.{index}
 use Rattle.name_table.specs.inner.Names.{names_in, Table}
 use Rattle.search.specs.Search.{meet}
@@ -13,7 +13,7 @@ use Rattle.sheets.specs.Sheet.{state_count}
 
 -- the different labels of a list in order of appearance
 unfoldable pub distinct_labels : List ℕ → List (List ℕ)
-distinct_labels b = meet sameLabel (read_labels b) []
+distinct_labels b = meet same_label (read_labels b) []
 
 -- the table t has them, as many as n
 pub record LabelTable (b t : List ℕ) (n : ℕ) : Type 0 where
@@ -23,7 +23,7 @@ pub record LabelTable (b t : List ℕ) (n : ℕ) : Type 0 where
 -- c has the numbers of the first m labels of ks among the labels ls; a label that is none of them has the number of labels
 pub record Numbered (m : ℕ) (ks ls : List (List ℕ)) (c : List ℕ) : Type 0 where
   pub long : length c ≡ 256
-  pub at : (i : ℕ) → i < m → get_or c i 0 ≡ index sameLabel (get_or ks i []) ls
+  pub at : (i : ℕ) → i < m → get_or c i 0 ≡ index same_label (get_or ks i []) ls
 
 -- the state q of B has the number k, and accepts unless a is 0
 unfoldable pub is_held : Automaton → List ℕ → ℕ → ℕ → ℕ → Bool

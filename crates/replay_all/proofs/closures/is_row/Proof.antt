@@ -4,7 +4,7 @@ use mathlib.Core.Path.{◌≡◌}
 use native.Mathlib.Omega.{arith}
 use borrow.Author.Rules.{rules}
 use lib.ListN.{length, drop}
-use Rattle.labels.specs.Labels.{sameLabel}
+use Rattle.labels.specs.Labels.{same_label}
 use Rattle.sets.specs.inner.BitSet.{set_at}
 use Rattle.sets.specs.inner.Members.{members_from}
 use Rattle.replay_all.proofs.Rows.{row_begun, row_short, row_other, row_next, row_skip, row_ended}
@@ -14,7 +14,7 @@ use Rattle.replay_all.proofs.closures.is_row.Tie as tie
 abbrev invariant-loop : tie.invariant-loop
 invariant-loop rows p members i₀ q₀ i q =
     (q ≤ 256) × (i ≤ length members)
-    × (sameLabel members (set_at rows (4 * p)) ≡ sameLabel (drop i members) (members_from q (set_at rows (4 * p))))
+    × (same_label members (set_at rows (4 * p)) ≡ same_label (drop i members) (members_from q (set_at rows (4 * p))))
 
 abbrev decreases-loop : tie.decreases-loop
 decreases-loop rows p members i₀ q₀ i q = 256 - q

@@ -11,16 +11,13 @@ add_spec =
     tie.close
     (tie.spec (λ c κs. search rules) (λ c. search rules) (λ c. search rules)
     (λ c.
-    let at_pre = c.before.before.before.before.before.before.before in
-    omega (arith, ended_below _ _ _ _ _ at_pre.requires.1.1))
+    omega (arith, ended_below _ _ _ _ _ c.requires.1.1))
     (λ c.
-    let at_pre = c.before.before.before.before.before.before.before in
-    omega (arith, ended_below _ _ _ _ _ at_pre.requires.1.1, at_pre.requires.0.0.long))
+    omega (arith, ended_below _ _ _ _ _ c.requires.1.1, c.requires.0.0.long))
     (λ c. search rules)
     (λ c. search rules)
     (λ c.
-    let at-put-row = c.before.before in
-    let at_pre = at-put-row.before.before.before.before.before in (
-      (at-put-row.put_row.ensures, refl),
-      add_placed _ _ _ _ _ _ _ _ at_pre.requires.0.0 at_pre.requires.1.1 at_pre.requires.1.0 at_pre.requires.0.2 at-put-row.put_row.ensures refl,
+    (
+      (c.put_row.ensures, refl),
+      add_placed _ _ _ _ _ _ _ _ c.requires.0.0 c.requires.1.1 c.requires.1.0 c.requires.0.2 c.put_row.ensures refl,
     )))

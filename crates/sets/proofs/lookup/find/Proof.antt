@@ -23,48 +23,34 @@ find_spec =
     tie.close
     (tie.spec invariant-loop-held decreases-loop-held (λ c κs. search rules) (λ c. omega (arith, place_below _ _ _ c.start_place-i.ensures))
     (λ c.
-    let at-start = c.before in
-    let at_pre = at-start.before.before.before.before in
-    omega (arith, place_below _ _ _ at-start.start_place-i.ensures, at_pre.requires.0.long))
-    (λ c. (c.before.start_place-i.ensures, search rules, search rules, search_begins _ _ _))
+    omega (arith, place_below _ _ _ c.start_place-i.ensures, c.requires.0.long))
+    (λ c. (c.start_place-i.ensures, search rules, search rules, search_begins _ _ _))
     (λ c.
-    let at-loop = c.before in
-    let at_pre = at-loop.before.before.before.before.before.before in
-    let row = held_row _ _ _ _ _ _ _ at_pre.requires.0 at-loop.loop-held.invariant.3 at-loop.loop-held.invariant.0 at-loop.loop-held.invariant.1 c.loop-held-test.true in
-    omega (arith, row, at_pre.requires.1))
+    let row = held_row _ _ _ _ _ _ _ c.requires.0 c.loop-held.invariant.3 c.loop-held.invariant.0 c.loop-held.invariant.1 c.loop-held-test.true in
+    omega (arith, row, c.requires.1))
     (λ c. omega (arith, c.loop-held-test.true))
     (λ c κs.
-    let at-loop = c.before in
-    let at_pre = at-loop.before.before.before.before.before.before in
-    let row = held_row _ _ _ _ _ _ _ at_pre.requires.0 at-loop.loop-held.invariant.3 at-loop.loop-held.invariant.0 at-loop.loop-held.invariant.1 c.loop-held-test.true in
-    (omega (arith, row, at_pre.requires.2), at_pre.requires.3))
+    let row = held_row _ _ _ _ _ _ _ c.requires.0 c.loop-held.invariant.3 c.loop-held.invariant.0 c.loop-held.invariant.1 c.loop-held-test.true in
+    (omega (arith, row, c.requires.2), c.requires.3))
     (λ c. search rules)
     (λ c.
-    let at_same = c.before in
-    let at_test = at_same.before in
-    let at-loop = at_test.before in
-    let at_pre = at-loop.before.before.before.before.before.before in (
-      search_number _ _ _ _ _ _ _ at_pre.requires.0 at-loop.loop-held.invariant.3 at-loop.loop-held.invariant.0 at-loop.loop-held.invariant.1 at_test.loop-held-test.true _ at_same.same.ensures c.if-same.true,
-      search_found _ _ _ _ _ _ _ at_pre.requires.0 at-loop.loop-held.invariant.3 at-loop.loop-held.invariant.0 at-loop.loop-held.invariant.1 at_test.loop-held-test.true _ at_same.same.ensures c.if-same.true,
+    (
+      search_number _ _ _ _ _ _ _ c.requires.0 c.loop-held.invariant.3 c.loop-held.invariant.0 c.loop-held.invariant.1 c.loop-held-test.true _ c.same.ensures c.if-same.true,
+      search_found _ _ _ _ _ _ _ c.requires.0 c.loop-held.invariant.3 c.loop-held.invariant.0 c.loop-held.invariant.1 c.loop-held-test.true _ c.same.ensures c.if-same.true,
     ))
-    (λ c. search rules) (λ c. let at-loop = c.before.before.before in omega (arith, place_below _ _ _ at-loop.loop-held.invariant.0)) (λ c. search rules)
-    (λ c. let at_pre = c.before.before.before.before.before.before.before.before.before.before in omega (arith, at_pre.requires.0.long))
-    (λ c. let at-loop = c.before.before.before.before in omega (arith, at-loop.loop-held.invariant.2))
+    (λ c. search rules) (λ c. omega (arith, place_below _ _ _ c.loop-held.invariant.0)) (λ c. search rules)
+    (λ c. omega (arith, c.requires.0.long))
+    (λ c. omega (arith, c.loop-held.invariant.2))
     (λ c.
-    let at_same = c.before.before in
-    let at_test = at_same.before in
-    let at-loop = at_test.before in
-    let at_pre = at-loop.before.before.before.before.before.before in
-    let passed = search_passed _ _ _ _ _ _ _ at_pre.requires.0 at-loop.loop-held.invariant.3 at-loop.loop-held.invariant.0 at-loop.loop-held.invariant.1 at_test.loop-held-test.true _
-    at_same.same.ensures c.before.if-same.false in (
-      place_next _ _ _ at-loop.loop-held.invariant.0,
+    let passed = search_passed _ _ _ _ _ _ _ c.requires.0 c.loop-held.invariant.3 c.loop-held.invariant.0 c.loop-held.invariant.1 c.loop-held-test.true _
+    c.same.ensures c.if-same.false in (
+      place_next _ _ _ c.loop-held.invariant.0,
       search rules,
-      search_room _ _ at_pre.requires.0 _ _ passed (rw length_entries at_pre.requires.1),
+      search_room _ _ c.requires.0 _ _ passed (rw length_entries c.requires.1),
       passed,
     ))
     (λ c.
-    let at-loop = c.before in
-    let at_pre = at-loop.before.before.before.before.before.before in (
-      search_none _ _ _ _ _ _ _ at_pre.requires.0 at-loop.loop-held.invariant.3 at-loop.loop-held.invariant.0 at-loop.loop-held.invariant.1 c.loop-held-test.false,
-      search_free _ _ _ _ _ _ _ at_pre.requires.0 at-loop.loop-held.invariant.3 at-loop.loop-held.invariant.0 at-loop.loop-held.invariant.1 c.loop-held-test.false,
+    (
+      search_none _ _ _ _ _ _ _ c.requires.0 c.loop-held.invariant.3 c.loop-held.invariant.0 c.loop-held.invariant.1 c.loop-held-test.false,
+      search_free _ _ _ _ _ _ _ c.requires.0 c.loop-held.invariant.3 c.loop-held.invariant.0 c.loop-held.invariant.1 c.loop-held-test.false,
     )))

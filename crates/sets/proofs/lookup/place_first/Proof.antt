@@ -11,9 +11,9 @@ pub place_first_spec : {M : Type 1} → statement M
 place_first_spec =
     tie.close
     (tie.spec (λ c κs. search rules) (λ c. omega (arith, place_below _ _ _ c.start_place.ensures))
-    (λ c. omega (arith, place_below _ _ _ c.start_place.ensures, ap length c.before.before.before.requires.0))
+    (λ c. omega (arith, place_below _ _ _ c.start_place.ensures, ap length c.requires.0))
     (λ c. search rules)
     (λ c. (
-      ap (λ i. set c.before.before.before.args.places.now i 1) c.start_place.ensures,
-      first_placed _ _ _ c.before.before.before.requires.0 c.start_place.ensures,
+      ap (λ i. set c.args.places.now i 1) c.start_place.ensures,
+      first_placed _ _ _ c.requires.0 c.start_place.ensures,
     )))
