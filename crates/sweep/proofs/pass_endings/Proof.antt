@@ -21,8 +21,7 @@ pass_endings_spec =
     tie.close
     (tie.spec invariant-loop-at decreases-loop-at (λ c. search end_laws) (λ c. search end_laws) (λ c. search end_laws) (λ c κs. search end_laws) (λ c. search end_laws)
     (λ c κs. search end_laws) (λ c. search end_laws) (λ c. search end_laws) (λ c κs. search end_laws) (λ c. search end_laws)
-    (λ c.
-    (
+    (λ c. (
       end_noted _ _ _ _ _ _ _ _ _ _ c.loop-at.invariant.0 c.loop-at-test.true _ _ _ _ c.range_of-range.ensures _ c.is_in.ensures c.if-is_in.true c.if-symbol-range.false _ c.close.ensures,
       search rules,
     ))

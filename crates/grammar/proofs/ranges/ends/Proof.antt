@@ -9,6 +9,6 @@ unfolding ends
 ends_spec =
     tie.close
     (tie.spec (λ c κs. search piece_laws depth 20) (λ c. search piece_laws depth 20) (λ c. search piece_laws depth 20) (λ c. search piece_laws depth 20)
-     (λ c κs. search piece_laws depth 20) (λ c. search piece_laws depth 20) (λ c. search piece_laws depth 20)
+    (λ c κs. search piece_laws depth 20) (λ c. search piece_laws depth 20) (λ c. search piece_laws depth 20)
     (λ c. search piece_laws depth 20) (λ c κs. search piece_laws depth 20) (λ c. search piece_laws depth 20) (λ c. search piece_laws depth 20)
     (λ c. search piece_laws depth 20) (λ c. search (piece_laws, range_full) depth 20) (λ c. search (piece_laws, range_empty) depth 20))

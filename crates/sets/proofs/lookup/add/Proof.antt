@@ -16,8 +16,7 @@ add_spec =
     omega (arith, ended_below _ _ _ _ _ c.requires.1.1, c.requires.0.0.long))
     (λ c. search rules)
     (λ c. search rules)
-    (λ c.
-    (
+    (λ c. (
       (c.put_row.ensures, refl),
       add_placed _ _ _ _ _ _ _ _ c.requires.0.0 c.requires.1.1 c.requires.1.0 c.requires.0.2 c.put_row.ensures refl,
     )))

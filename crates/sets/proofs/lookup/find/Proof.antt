@@ -33,8 +33,7 @@ find_spec =
     let row = held_row _ _ _ _ _ _ _ c.requires.0 c.loop-held.invariant.3 c.loop-held.invariant.0 c.loop-held.invariant.1 c.loop-held-test.true in
     (omega (arith, row, c.requires.2), c.requires.3))
     (λ c. search rules)
-    (λ c.
-    (
+    (λ c. (
       search_number _ _ _ _ _ _ _ c.requires.0 c.loop-held.invariant.3 c.loop-held.invariant.0 c.loop-held.invariant.1 c.loop-held-test.true _ c.same.ensures c.if-same.true,
       search_found _ _ _ _ _ _ _ c.requires.0 c.loop-held.invariant.3 c.loop-held.invariant.0 c.loop-held.invariant.1 c.loop-held-test.true _ c.same.ensures c.if-same.true,
     ))
@@ -49,8 +48,7 @@ find_spec =
       search_room _ _ c.requires.0 _ _ passed (rw length_entries c.requires.1),
       passed,
     ))
-    (λ c.
-    (
+    (λ c. (
       search_none _ _ _ _ _ _ _ c.requires.0 c.loop-held.invariant.3 c.loop-held.invariant.0 c.loop-held.invariant.1 c.loop-held-test.false,
       search_free _ _ _ _ _ _ _ c.requires.0 c.loop-held.invariant.3 c.loop-held.invariant.0 c.loop-held.invariant.1 c.loop-held-test.false,
     )))

@@ -26,8 +26,7 @@ put_merged_spec =
     (λ c κs. search merge_laws) (λ c. search merge_laws) (λ c. search merge_laws) (λ c. search merge_laws) (λ c. search merge_laws)
     (λ c κs. search merge_laws) (λ c. search merge_laws) (λ c. search merge_laws) (λ c. search merge_laws) (λ c. search merge_laws)
     (λ c. search merge_laws) (λ c κs. search merge_laws) (λ c. search merge_laws) (λ c. search merge_laws)
-    (λ c.
-    (
+    (λ c. (
       search rules,
       search rules,
       search rules,

@@ -24,8 +24,7 @@ pub put_rows_spec : {M : Type 1} → statement M
 put_rows_spec =
     tie.close
     (tie.spec invariant-loop-q decreases-loop-q (λ c. search rows_laws) (λ c. search rows_laws) (λ c κs. search rows_laws) (λ c κs. search rows_laws) (λ c. search rows_laws) (λ c. search rows_laws)
-    (λ c.
-    (
+    (λ c. (
       search rules,
       search rules,
       search rules,
