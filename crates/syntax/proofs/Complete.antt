@@ -95,7 +95,7 @@ module _ (t : List ℕ) where
     behind = step p u l a;
   }
 
-  a_number : {p v : ℕ} {u l : List ℕ} → Number u v → Stop is_digit l → At p (u ++ l) → Finds itself (number t p) v l
+  a_number : {p : ℕ} {u l : List ℕ} {v : ℕ} → Number u v → Stop is_digit l → At p (u ++ l) → Finds itself (number t p) v l
   unfolding number
   a_number {p} {u = u} {l = l} (digits e h k) z a = record {
     what = value u;
@@ -144,7 +144,7 @@ module _ (t : List ℕ) where
     pub saying : map say r.items ≡ ys
     pub behind : At r.behind l
 
-  all_transitions : {p : ℕ} {u l : List ℕ} {es : List Move} → TransitionsText u es → ((b : ℕ) → At b l → transition t (space t b) ≡ nothing) → At p (u ++ l)
+  all_transitions : {u : List ℕ} {p : ℕ} {l : List ℕ} {es : List Move} → TransitionsText u es → ((b : ℕ) → At b l → transition t (space t b) ≡ nothing) → At p (u ++ l)
       → FindsAll (spell_move t) (transitions t p) es l
   all_transitions {p} TransitionsText.none z a = rw (arrows_ended t p NoArrow (sym (z p a)) refl) record { saying = refl; behind = a }
   all_transitions {p} (TransitionsText.more g e r) z a =
@@ -158,7 +158,7 @@ module _ (t : List ℕ) where
   names_stop l MoreNames.none = refl
   names_stop l (MoreNames.more g₁ g₂ x r) = rw append_assoc (gap_name _ g₁ refl)
 
-  all_names_lem : {p : ℕ} {u l : List ℕ} {ns : List (List ℕ)} → MoreNames u ns → At p (u ++ semicolon ⨾ l) → FindsAll (spelled t) (next_names t p) ns (semicolon ⨾ l)
+  all_names_lem : {u : List ℕ} {p : ℕ} {l : List ℕ} {ns : List (List ℕ)} → MoreNames u ns → At p (u ++ semicolon ⨾ l) → FindsAll (spelled t) (next_names t p) ns (semicolon ⨾ l)
   unfolding next_name token begins follow run is_space is_name_byte is_letter is_digit
   all_names_lem {p} MoreNames.none a = rw (names_ended t p NoName (rw (gap Each.none refl a).here) refl) record { saying = refl; behind = a }
   all_names_lem {p} (MoreNames.more g₁ g₂ x r) a =
