@@ -19,7 +19,7 @@ use Rattle.grammar.specs.declared.tokens.NamePiece.TheVariants.{Read as NameRead
 use Rattle.grammar.specs.declared.pieces.ArrowPiece.TheVariants.{Read as ArrowRead, Nothing as NoArrow}
 use Rattle.grammar.proofs.Many.{arrows_ended, arrows_more, names_ended, names_more}
 use Rattle.grammar.specs.Words.{automaton_word, init_word, accepting_word, left_brace, right_brace, left_bracket, right_bracket, comma, semicolon}
-use Rattle.syntax.specs.Syntax.{◌⨾◌, Each, none, more, Gap, Space, spaces, Name, named, Number, digits, Move, Said, TransitionText, moves, TransitionsText, MoreNames, Text, says}
+use Rattle.syntax.specs.Syntax.{◌⨾◌, Each, more, Gap, Space, spaces, Name, named, Number, digits, Move, Said, TransitionText, moves, TransitionsText, MoreNames, Text, says}
 use Rattle.syntax.specs.Spelled.{spell_move, spell}
 use Rattle.syntax.proofs.Runs.{letter_high, Stop, run_each, gap_name, gap_digit, space_name, name_space, number_space}
 

@@ -65,6 +65,7 @@ twice_out f (x ∷ l) (Distinct.more n d) h =
 
 twice_in : (f : ℕ → List ℕ) (l : List ℕ) (p q : ℕ) → p ∈ l → q ∈ l → (p ≡ q → ⊥) → f p ≡ f q → has_twice (map f l) ≡ true
 unfolding has_twice
+twice_in f [] p q x4 _ n e = elim x4 [ ]
 twice_in f (x ∷ l) p q (Memᴰ.head i) (Memᴰ.head j) n e = absurd (n (i ∙ sym j))
 twice_in f (x ∷ l) p q (Memᴰ.head i) (Memᴰ.tail j) n e = or_left _ _ (any_in (same_label (f x)) (map_in f j) (equal_same (f x) (f q) (ap f (sym i) ∙ e)))
 twice_in f (x ∷ l) p q (Memᴰ.tail i) (Memᴰ.head j) n e = or_left _ _ (any_in (same_label (f x)) (map_in f i) (equal_same (f x) (f p) (ap f (sym j) ∙ sym e)))

@@ -52,6 +52,7 @@ labels_placed b old p n ok g l e =
     }
 
 label_of : {ls : List (List ℕ)} {l : List ℕ} → AllLabels ls → l ∈ ls → Label l
+label_of {l = l} Rattle.labels.specs.Labels.none x3 = elim x3 [ ]
 label_of (more k a) (Memᴰ.head e) = subst Label (sym e) k
 label_of (more k a) (Memᴰ.tail m) = label_of a m
 

@@ -3,8 +3,8 @@ use Rattle.determinize.proofs.Made.{made_laws}
 use Rattle.determinize.proofs.determinize.Statement.{statement}
 use Rattle.determinize.proofs.determinize.Tie as tie
 
-pub determinize-spec : {M : Type 1} → statement M
-determinize-spec =
+pub determinize_spec : {M : Type 1} → statement M
+determinize_spec =
     tie.close
     (tie.spec (λ c κs. search made_laws) (λ c. search made_laws) (λ c. search made_laws) (λ c. search made_laws) (λ c κs. search made_laws)
     (λ c. search made_laws) (λ c. search made_laws) (λ c. search made_laws) (λ c. search made_laws) (λ c. search made_laws)

@@ -10,7 +10,5 @@ finish_spec =
     (tie.spec (λ c. search rules) (λ c. search (accepted_many, rules)) (λ c. search rules) (λ c. search (accepted_part, rules))
     (λ c κs. (search rules, search accepted_canonical, search accepted_few, search rules, search accepted_room, search rules))
     (λ c.
-    let at-progress = c.before.before.before.before.before.before.before in
-    let at_pre = at-progress.before.before.before.before.before.before in
-    omega (arith, accepted_few _ _ _ at_pre.requires.0 _ _ _ at_pre.requires.1 _ _ at-progress.progress.given.1))
+    omega (arith, accepted_few _ _ _ c.requires.0 _ _ _ c.requires.1 _ _ c.in-Sets.is))
     (λ c. search rules) (λ c. search rules) (λ c. search (accepted_given, rules)) (λ c. search (accepted_over, rules)))

@@ -6,16 +6,16 @@ use Rattle.equivalence.proofs.RunLaws.{RunsInvariant, run_laws}
 use Rattle.equivalence.proofs.compare_runs.Statement.{statement}
 use Rattle.equivalence.proofs.compare_runs.Tie as tie
 
-abbrev invariant-loop : tie.invariant-loop
-invariant-loop ra rb repr₀ size₀ queue₀ n made₀ n1 j₀ k₀ repr size queue made j k = RunsInvariant n1 ra rb (pairs_of repr₀ size₀ queue₀ n made₀) (pairs_of repr size queue n made) j k
+abbrev invariant-loop-j : tie.invariant-loop-j
+invariant-loop-j ra rb repr₀ size₀ queue₀ n made₀ n1 j₀ k₀ repr size queue made j k = RunsInvariant n1 ra rb (pairs_of repr₀ size₀ queue₀ n made₀) (pairs_of repr size queue n made) j k
 
-abbrev decreases-loop : tie.decreases-loop
-decreases-loop ra rb repr₀ size₀ queue₀ n made₀ n1 j₀ k₀ repr size queue made j k = length ra - j
+abbrev decreases-loop-j : tie.decreases-loop-j
+decreases-loop-j ra rb repr₀ size₀ queue₀ n made₀ n1 j₀ k₀ repr size queue made j k = length ra - j
 
-pub compare-runs-spec : {M : Type 1} → statement M
-compare-runs-spec =
+pub compare_runs_spec : {M : Type 1} → statement M
+compare_runs_spec =
     tie.close
-    (tie.spec invariant-loop decreases-loop (λ c. search run_laws) (λ c. search run_laws) (λ c. search run_laws) (λ c. search run_laws) (λ c. search run_laws)
+    (tie.spec invariant-loop-j decreases-loop-j (λ c. search run_laws) (λ c. search run_laws) (λ c. search run_laws) (λ c. search run_laws) (λ c. search run_laws)
     (λ c. search run_laws) (λ c. search run_laws) (λ c. search run_laws) (λ c. search run_laws) (λ c. search run_laws) (λ c. search run_laws)
     (λ c. search run_laws) (λ c. search run_laws) (λ c. search run_laws) (λ c κs. search run_laws) (λ c. search run_laws) (λ c. search run_laws)
     (λ c. search run_laws) (λ c. search run_laws) (λ c. search run_laws) (λ c. search run_laws) (λ c. search run_laws) (λ c κs. search run_laws)

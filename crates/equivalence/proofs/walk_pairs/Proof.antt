@@ -6,65 +6,54 @@ use Rattle.equivalence.proofs.WalkLaws.{WalkInvariant, walk_laws, walk_fits, wal
 use Rattle.equivalence.proofs.walk_pairs.Statement.{statement}
 use Rattle.equivalence.proofs.walk_pairs.Tie as tie
 
-abbrev invariant-loop : tie.invariant-loop
-invariant-loop a b starts-a starts-b n1 n2 n repr₀ size₀ queue₀ made₀ head₀ repr size queue made head = WalkInvariant a b starts-a starts-b n1 head (pairs_of repr size queue n made)
+abbrev invariant-loop-head : tie.invariant-loop-head
+invariant-loop-head a b starts-a starts-b n1 n2 n repr₀ size₀ queue₀ made₀ head₀ repr size queue made head = WalkInvariant a b starts-a starts-b n1 head (pairs_of repr size queue n made)
 
-abbrev decreases-loop : tie.decreases-loop
-decreases-loop a b starts-a starts-b n1 n2 n repr₀ size₀ queue₀ made₀ head₀ repr size queue made head = 512 - head
+abbrev decreases-loop-head : tie.decreases-loop-head
+decreases-loop-head a b starts-a starts-b n1 n2 n repr₀ size₀ queue₀ made₀ head₀ repr size queue made head = 512 - head
 
-join-pair-requires : tie.Need-join-pair-requires invariant-loop decreases-loop
-join-pair-requires c κs = let n = c.before.before.before.before.before.before.before.before in walk_fits _ _ _ _ n.before.before.before.before.before.before.before.requires _ n.new.ensures _ refl
+join_pair-made-requires : tie.Need-join_pair-made-requires invariant-loop-head decreases-loop-head
+join_pair-made-requires c κs = walk_fits _ _ _ _ c.requires _ c.new-fresh.ensures _ refl
 
-loop-holds : tie.Need-loop-init invariant-loop decreases-loop
-loop-holds c = let n = c.before.before.before.before.before.before.before.before.before in walk_begin _ _ _ _ n.before.before.before.before.before.before.before.requires _ n.new.ensures _ refl _ c.join-pair.ensures
+loop-head-init : tie.Need-loop-head-init invariant-loop-head decreases-loop-head
+loop-head-init c = walk_begin _ _ _ _ c.requires _ c.new-fresh.ensures _ refl _ c.join_pair-made.ensures
 
-accept-word-requires : tie.Need-accept-word-requires invariant-loop decreases-loop
-accept-word-requires c κs = (c.before.loop.invariant.sheets.first, walk_in_a _ _ _ _ _ _ _ c.before.loop.invariant c.loop-test.true)
+accept_word-requires : tie.Need-accept_word-requires invariant-loop-head decreases-loop-head
+accept_word-requires c κs = (c.loop-head.invariant.sheets.first, walk_in_a _ _ _ _ _ _ _ c.loop-head.invariant c.loop-head-test.true)
 
-accept-word-requires-2 : tie.Need-accept-word-requires-2 invariant-loop decreases-loop
-accept-word-requires-2 c κs = let l = c.before in (l.before.loop.invariant.sheets.second, walk_in_b _ _ _ _ _ _ _ l.before.loop.invariant l.loop-test.true)
+accept_word-requires-in-loop-head : tie.Need-accept_word-requires-in-loop-head invariant-loop-head decreases-loop-head
+accept_word-requires-in-loop-head c κs = (c.loop-head.invariant.sheets.second, walk_in_b _ _ _ _ _ _ _ c.loop-head.invariant c.loop-head-test.true)
 
-returns : tie.Need-returns invariant-loop decreases-loop
-returns c =
-    let a = c.before.before in
-    let l = a.before in
-    walk_rejects _ _ _ _ _ _ _ l.before.loop.invariant l.loop-test.true _ _ a.accept-word.ensures c.before.accept-word2.ensures c.if1.true
+returns-then-accept_word : tie.Need-returns-then-accept_word invariant-loop-head decreases-loop-head
+returns-then-accept_word c =
+    walk_rejects _ _ _ _ _ _ _ c.loop-head.invariant c.loop-head-test.true _ _ c.accept_word.ensures c.accept_word-in-loop-head.ensures c.if-accept_word.true
 
-run-requires : tie.Need-run-requires invariant-loop decreases-loop
-run-requires c κs = let l = c.before.before.before in walk_run_a _ _ _ _ _ _ _ l.before.loop.invariant l.loop-test.true
+run-ra-requires : tie.Need-run-ra-requires invariant-loop-head decreases-loop-head
+run-ra-requires c κs = walk_run_a _ _ _ _ _ _ _ c.loop-head.invariant c.loop-head-test.true
 
-run-requires-2 : tie.Need-run-requires-2 invariant-loop decreases-loop
-run-requires-2 c κs = let l = c.before.before.before.before in walk_run_b _ _ _ _ _ _ _ l.before.loop.invariant l.loop-test.true
+run-rb-requires : tie.Need-run-rb-requires invariant-loop-head decreases-loop-head
+run-rb-requires c κs = walk_run_b _ _ _ _ _ _ _ c.loop-head.invariant c.loop-head-test.true
 
-compare-runs-requires : tie.Need-compare-runs-requires invariant-loop decreases-loop
-compare-runs-requires c κs =
-    let r = c.before.before.before in
-    let l = r.before.before.before.before.before in
-    walk_runs _ _ _ _ _ _ _ l.before.loop.invariant l.loop-test.true _ _ r.before.run.ensures r.run2.ensures
+compare_runs-t-requires : tie.Need-compare_runs-t-requires invariant-loop-head decreases-loop-head
+compare_runs-t-requires c κs =
+    walk_runs _ _ _ _ _ _ _ c.loop-head.invariant c.loop-head-test.true _ _ c.run-ra.ensures c.run-rb.ensures
 
-returns-2 : tie.Need-returns-2 invariant-loop decreases-loop
-returns-2 c =
-    let t = c.before.before in
-    let r = t.before.before.before.before in
-    let l = r.before.before.before.before.before in
-    walk_lacks _ _ _ _ _ _ _ l.before.loop.invariant l.loop-test.true _ _ r.before.run.ensures r.run2.ensures _ _ t.compare-runs.ensures c.if2.true
+returns-then-not-t : tie.Need-returns-then-not-t invariant-loop-head decreases-loop-head
+returns-then-not-t c =
+    walk_lacks _ _ _ _ _ _ _ c.loop-head.invariant c.loop-head-test.true _ _ c.run-ra.ensures c.run-rb.ensures _ _ c.compare_runs-t.ensures c.if-not-t.true
 
-loop-again : tie.Need-loop-preserved invariant-loop decreases-loop
-loop-again c =
-    let t = c.before.before in
-    let r = t.before.before.before.before in
-    let a = r.before.before.before.before in
-    let l = a.before in
-    walk_next _ _ _ _ _ _ _ l.before.loop.invariant l.loop-test.true _ _ r.before.run.ensures r.run2.ensures _ _ t.compare-runs.ensures c.if2.false
-    _ _ a.accept-word.ensures r.before.before.before.accept-word2.ensures r.before.before.if1.false
+loop-head-preserved : tie.Need-loop-head-preserved invariant-loop-head decreases-loop-head
+loop-head-preserved c =
+    walk_next _ _ _ _ _ _ _ c.loop-head.invariant c.loop-head-test.true _ _ c.run-ra.ensures c.run-rb.ensures _ _ c.compare_runs-t.ensures c.if-not-t.false
+    _ _ c.accept_word.ensures c.accept_word-in-loop-head.ensures c.if-accept_word.false
 
-pub walk-pairs-spec : {M : Type 1} → statement M
-walk-pairs-spec =
+pub walk_pairs_spec : {M : Type 1} → statement M
+walk_pairs_spec =
     tie.close
-    (tie.spec invariant-loop decreases-loop
+    (tie.spec invariant-loop-head decreases-loop-head
     (λ c. search walk_laws) (λ c. search walk_laws) (λ c. search walk_laws) (λ c. search walk_laws) (λ c. search walk_laws)
-    (λ c κs. search walk_laws) (λ c. search walk_laws) (λ c. search walk_laws) join-pair-requires loop-holds
+    (λ c κs. search walk_laws) (λ c. search walk_laws) (λ c. search walk_laws) join_pair-made-requires loop-head-init
     (λ c. search walk_laws) (λ c. search walk_laws) (λ c. search walk_laws) (λ c. search walk_laws) (λ c. search walk_laws)
-    (λ c. search walk_laws) (λ c. search walk_laws) accept-word-requires accept-word-requires-2 returns run-requires
-    run-requires-2 compare-runs-requires returns-2 (λ c. search walk_laws) (λ c. search walk_laws) loop-again
+    (λ c. search walk_laws) (λ c. search walk_laws) accept_word-requires accept_word-requires-in-loop-head returns-then-accept_word run-ra-requires
+    run-rb-requires compare_runs-t-requires returns-then-not-t (λ c. search walk_laws) (λ c. search walk_laws) loop-head-preserved
     (λ c. search walk_laws))

@@ -3,8 +3,8 @@ use Rattle.parser.proofs.Reading.{text_laws}
 use Rattle.parser.proofs.parse_automaton.Statement.{statement}
 use Rattle.parser.proofs.parse_automaton.Tie as tie
 
-pub parse-automaton-spec : {M : Type 1} → statement M
-parse-automaton-spec =
+pub parse_automaton_spec : {M : Type 1} → statement M
+parse_automaton_spec =
     tie.close
     (tie.spec (λ c κs. search text_laws) (λ c. search text_laws) (λ c. search text_laws) (λ c. search text_laws) (λ c κs. search text_laws)
     (λ c. search text_laws) (λ c. search text_laws) (λ c. search text_laws) (λ c. search text_laws) (λ c. search text_laws)

@@ -3,27 +3,19 @@ use Rattle.parser.proofs.Reading.{closed_laws, laid, over_21, states_table, stat
 use Rattle.parser.proofs.with_read.Statement.{statement}
 use Rattle.parser.proofs.with_read.Tie as tie
 
-pub with-read-spec : {M : Type 1} → statement M
-with-read-spec =
+pub with_read_spec : {M : Type 1} → statement M
+with_read_spec =
     tie.close
     (tie.spec (λ c κs. search closed_laws) (λ c. search closed_laws) (λ c. search closed_laws) (λ c. search closed_laws) (λ c. search closed_laws)
     (λ c. search closed_laws)
-    (λ c κs. let at_first = c.before.before.before in
-    let at-closing = at_first.before.before in
-    let p = at-closing.before.before.before.before.before.before.before.requires in laid _ _ _ _ _ _ p.0.1 _ at-closing.closing.ensures _ _ _ at_first.first.given.1 p.0.0)
-    (λ c. let at_first = c.before.before.before.before in
-    let at-closing = at_first.before.before in
-    let begin = at-closing.before.before.before.before.before.before.before in
-    over_21 _ begin.args.x _ _ _ _ begin.requires.0.1 _ at-closing.closing.ensures _ _ _ at_first.first.given.1
-    c.before.enum-told2.given.1 c.over-states.result c.over-states.ensures _ _)
-    (λ c κs. let at_Added = c.before.before.before.before.before in
-    let at_first = at_Added.before.before.before in
-    let at-closing = at_first.before.before in
-    let a = at-closing.before.before.before.before.before.before.before.args in
-    let p = at-closing.before.before.before.before.before.before.before.requires in
-    let q = at-closing.closing.ensures in
-    let e = at_first.first.given.1 in
-    let f = at_Added.added.given.1 in (
+    (λ c κs. let p = c.requires in laid _ _ _ _ _ _ p.0.1 _ c.closing.ensures _ _ _ c.in-Read.is p.0.0)
+    (λ c. over_21 _ c.args.x _ _ _ _ c.requires.0.1 _ c.closing.ensures _ _ _ c.in-Read.is
+    c.in_default-added.is c.over_states.result c.over_states.ensures _ _)
+    (λ c κs. let a = c.args in
+    let p = c.requires in
+    let q = c.closing.ensures in
+    let e = c.in-Read.is in
+    let f = c.in-Kept.is in (
       (states_table _ a.x _ _ _ _ p.0.1 _ q _ _ _ e _ f, laid _ _ _ _ _ _ p.0.1 _ q _ _ _ e p.0.0),
       (
         states_fitting _ a.x _ _ _ _ p.0.1 _ q _ _ _ e _ f,
@@ -31,10 +23,5 @@ with-read-spec =
       ),
     ))
     (λ c. search closed_laws) (λ c. search closed_laws) (λ c. search closed_laws) (λ c. search closed_laws)
-    (λ c. let at_Names = c.before.before.before.before.before.before.before.before in
-    let at_Added = at_Names.before.before.before.before.before.before in
-    let at_first = at_Added.before.before.before in
-    let at-closing = at_first.before.before in
-    let begin = at-closing.before.before.before.before.before.before.before in
-    within_21 _ begin.args.x _ _ _ _ begin.requires.0.1 _ at-closing.closing.ensures _ _ _ at_first.first.given.1 _
-    at_Added.added.given.1 _ _ _ at_Names.with-names.ensures))
+    (λ c. within_21 _ c.args.x _ _ _ _ c.requires.0.1 _ c.closing.ensures _ _ _ c.in-Read.is _
+    c.in-Kept.is _ _ _ c.with_names.ensures))

@@ -7,14 +7,14 @@ use Rattle.parser.proofs.Labelling.{label_laws}
 use Rattle.parser.proofs.write_labels.Statement.{statement}
 use Rattle.parser.proofs.write_labels.Tie as tie
 
-abbrev invariant-loop : tie.invariant-loop
-invariant-loop names₀ text t n at₀ j₀ names at j = (j ≤ n) × Written names₀ at₀ (write_entries (names_in text t j)) names at
+abbrev invariant-loop-j : tie.invariant-loop-j
+invariant-loop-j names₀ text t n at₀ j₀ names at j = (j ≤ n) × Written names₀ at₀ (write_entries (names_in text t j)) names at
 
-abbrev decreases-loop : tie.decreases-loop
-decreases-loop names₀ text t n at₀ j₀ names at j = n - j
+abbrev decreases-loop-j : tie.decreases-loop-j
+decreases-loop-j names₀ text t n at₀ j₀ names at j = n - j
 
-pub write-labels-spec : {M : Type 1} → statement M
-write-labels-spec =
+pub write_labels_spec : {M : Type 1} → statement M
+write_labels_spec =
     tie.close
-    (tie.spec invariant-loop decreases-loop (λ c κs. search label_laws) (λ c. search label_laws) (λ c κs. search label_laws) (λ c. search label_laws) (λ c. search label_laws)
+    (tie.spec invariant-loop-j decreases-loop-j (λ c κs. search label_laws) (λ c. search label_laws) (λ c κs. search label_laws) (λ c. search label_laws) (λ c. search label_laws)
     (λ c. search label_laws) (λ c. search label_laws) (λ c. search label_laws))

@@ -4,20 +4,17 @@ use Rattle.writer.proofs.Answers.{ready, marked_laws}
 use Rattle.writer.proofs.write_marked.Statement.{statement}
 use Rattle.writer.proofs.write_marked.Tie as tie
 
-pub write-marked-spec : {M : Type 1} → statement M
-write-marked-spec =
+pub write_marked_spec : {M : Type 1} → statement M
+write_marked_spec =
     tie.close
     (tie.spec
     (λ c. search marked_laws) (λ c κs. search marked_laws) (λ c. search marked_laws) (λ c. search marked_laws) (λ c. search marked_laws)
     (λ c. search marked_laws) (λ c κs. search marked_laws) (λ c. search marked_laws) (λ c. search marked_laws) (λ c. search marked_laws)
     (λ c. search marked_laws) (λ c. search marked_laws) (λ c. search marked_laws) (λ c. search marked_laws)
     (λ c κs.
-    let some = c.before.before.before.before.before in
-    let accepts = some.before.before in
-    let states = accepts.before.before.before.before.before in
-    let start = states.before.before.before.before.before.before.before in (
-      ready _ _ _ _ start.requires.0 states.gather-written.ensures refl _ _ _ accepts.gather-accepting.ensures refl some.if1.false _ _ start.requires.1
-          start.requires.3,
+    (
+      ready _ _ _ _ c.requires.0 c.gather_written-n.ensures refl _ _ _ c.gather_accepting-k.ensures refl c.if-k-eq0.false _ _ c.requires.1
+          c.requires.3,
       search marked_laws,
       search marked_laws,
     ))

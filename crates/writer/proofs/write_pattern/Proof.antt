@@ -6,20 +6,19 @@ use Rattle.writer.proofs.Places.{labels_placed}
 use Rattle.writer.proofs.write_pattern.Statement.{statement}
 use Rattle.writer.proofs.write_pattern.Tie as tie
 
-pub write-pattern-spec : {M : Type 1} → statement M
-write-pattern-spec =
+pub write_pattern_spec : {M : Type 1} → statement M
+write_pattern_spec =
     tie.close
     (tie.spec
     (λ c. search pattern_laws) (λ c. search pattern_laws) (λ c. search pattern_laws) (λ c. search pattern_laws) (λ c. search pattern_laws)
     (λ c. search pattern_laws) (λ c. search pattern_laws) (λ c κs. search pattern_laws) (λ c. search pattern_laws) (λ c. search pattern_laws)
     (λ c κs. search pattern_laws) (λ c. search pattern_laws) (λ c κs. search pattern_laws) (λ c. search pattern_laws) (λ c. search pattern_laws)
     (λ c κs.
-    let places = c.before.before.before.before in
-    let pre = places.before.before.before.before.before.before.before.before.before.before.before.before.requires in (
+    let pre = c.requires in (
       search pattern_laws,
       search pattern_laws,
       search pattern_laws,
-      labels_placed _ _ _ _ pre.1 pre.0.few_states (length-replicate {A = ℕ} 256 0) places.label-places.ensures,
+      labels_placed _ _ _ _ pre.1 pre.0.few_states (length-replicate {A = ℕ} 256 0) c.label_places.ensures,
       search pattern_laws,
     ))
     (λ c. search pattern_laws) (λ c. search pattern_laws))

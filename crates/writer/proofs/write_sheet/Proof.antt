@@ -3,8 +3,8 @@ use Rattle.writer.proofs.Answers.{labels_write_laws}
 use Rattle.writer.proofs.write_sheet.Statement.{statement}
 use Rattle.writer.proofs.write_sheet.Tie as tie
 
-pub write-sheet-spec : {M : Type 1} → statement M
-write-sheet-spec =
+pub write_sheet_spec : {M : Type 1} → statement M
+write_sheet_spec =
     tie.close
     (tie.spec
     (λ c. search labels_write_laws) (λ c. search labels_write_laws) (λ c κs. search labels_write_laws) (λ c. search labels_write_laws)

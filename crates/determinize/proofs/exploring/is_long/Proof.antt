@@ -7,15 +7,15 @@ use Rattle.determinize.proofs.Attempts.{long_laws}
 use Rattle.determinize.proofs.exploring.is_long.Statement.{statement}
 use Rattle.determinize.proofs.exploring.is_long.Tie as tie
 
-abbrev invariant-loop : tie.invariant-loop
-invariant-loop starts set words₀ q₀ words q =
+abbrev invariant-loop-q : tie.invariant-loop-q
+invariant-loop-q starts set words₀ q₀ words q =
     (q ≡ next_member (set_at set 0) q) × (words ≤ 320) × (words + run_lengths starts (members_from q (set_at set 0)) ≡ run_lengths starts (set_at set 0))
 
-abbrev decreases-loop : tie.decreases-loop
-decreases-loop starts set words₀ q₀ words q = 256 - q
+abbrev decreases-loop-q : tie.decreases-loop-q
+decreases-loop-q starts set words₀ q₀ words q = 256 - q
 
-pub is-long-spec : {M : Type 1} → statement M
-is-long-spec =
+pub is_long_spec : {M : Type 1} → statement M
+is_long_spec =
     tie.close
-    (tie.spec invariant-loop decreases-loop (λ c κs. search long_laws) (λ c. search long_laws) (λ c κs. search long_laws) (λ c. search long_laws) (λ c. search long_laws)
+    (tie.spec invariant-loop-q decreases-loop-q (λ c κs. search long_laws) (λ c. search long_laws) (λ c κs. search long_laws) (λ c. search long_laws) (λ c. search long_laws)
     (λ c. search long_laws) (λ c. search long_laws) (λ c κs. search long_laws) (λ c. search long_laws) (λ c. search long_laws) (λ c. search long_laws))

@@ -4,37 +4,27 @@ use Rattle.determinize.proofs.Placing.{place_empty, place_known, place_absent, p
 use Rattle.determinize.proofs.exploring.place.Statement.{statement}
 use Rattle.determinize.proofs.exploring.place.Tie as tie
 
-pub place-spec : {M : Type 1} → statement M
-place-spec =
+pub place_spec : {M : Type 1} → statement M
+place_spec =
     tie.close
     (tie.spec (λ c κs. search rules)
     (λ c.
-    let at_pre = c.before.before.before.before.before in
-    (place_empty _ _ _ at_pre.requires.0 _ c.before.is-empty.ensures c.if1.true, at_pre.requires.3))
-    (λ c κs. let at_pre = c.before.before.before.before.before.before.before in (at_pre.requires.3, omega (arith, at_pre.requires.0), omega (arith, at_pre.requires.0, at_pre.requires.1), at_pre.requires.2))
+    (place_empty _ _ _ c.requires.0 _ c.is_empty.ensures c.if-is_empty.true, c.requires.3))
+    (λ c κs. (c.requires.3, omega (arith, c.requires.0), omega (arith, c.requires.0, c.requires.1), c.requires.2))
     (λ c κs. search rules) (λ c. search rules) (λ c. search rules) (λ c. search rules)
     (λ c.
-    let at-find = c.before.before.before.before.before in
-    let at-if = at-find.before.before.before in
-    let at_pre = at-if.before.before.before.before.before in (
-      place_known _ _ _ at_pre.requires.0 _ at-if.before.is-empty.ensures at-if.if1.false _ at-find.find.ensures.0 c.before.if2.true,
-      at_pre.requires.3,
+    (
+      place_known _ _ _ c.requires.0 _ c.is_empty.ensures c.if-is_empty.false _ c.find-found.ensures.0 c.if-found-n.true,
+      c.requires.3,
     ))
     (λ c κs.
-    let at-if2 = c.before.before in
-    let at-find = at-if2.before.before.before.before in
-    let at-if = at-find.before.before.before in
-    let at_pre = at-if.before.before.before.before.before in (
-      (at_pre.requires.3, at_pre.requires.0, omega (arith, at_pre.requires.0, at_pre.requires.1), at_pre.requires.2),
-      (place_absent _ _ _ at_pre.requires.0 _ at-if.before.is-empty.ensures at-if.if1.false _ at-find.find.ensures.0 at-if2.if2.false, at-find.find.ensures.1),
+    (
+      (c.requires.3, c.requires.0, omega (arith, c.requires.0, c.requires.1), c.requires.2),
+      (place_absent _ _ _ c.requires.0 _ c.is_empty.ensures c.if-is_empty.false _ c.find-found.ensures.0 c.if-found-n.false, c.find-found.ensures.1),
     ))
     (λ c. search rules) (λ c. search rules) (λ c. search rules) (λ c. search rules)
     (λ c.
-    let at-add = c.before.before.before.before in
-    let at-if2 = at-add.before.before.before in
-    let at-find = at-if2.before.before.before.before in
-    let at-if = at-find.before.before.before in
-    let at_pre = at-if.before.before.before.before.before in (
-      place_new _ _ _ at_pre.requires.0 _ at-if.before.is-empty.ensures at-if.if1.false _ at-find.find.ensures.0 at-if2.if2.false at_pre.requires.1 _ at-add.add.ensures.0.0,
-      at-add.add.ensures.1,
+    (
+      place_new _ _ _ c.requires.0 _ c.is_empty.ensures c.if-is_empty.false _ c.find-found.ensures.0 c.if-found-n.false c.requires.1 _ c.add.ensures.0.0,
+      c.add.ensures.1,
     )))

@@ -14,8 +14,8 @@ use Rattle.determinize.specs.inner.Notes.{Canonical}
 use Rattle.determinize.proofs.sweeping.sweep_spans.Statement.{statement}
 use Rattle.determinize.proofs.sweeping.sweep_spans.Tie as tie
 
-abbrev invariant-loop : tie.invariant-loop
-invariant-loop s closures opens ends set from table₀ places₀ notes₀ compared₀ reach₀ tree₀ upper top turn₀ n₀ near₀ count₀ table places notes compared reach tree turn n near count =
+abbrev invariant-loop-turn : tie.invariant-loop-turn
+invariant-loop-turn s closures opens ends set from table₀ places₀ notes₀ compared₀ reach₀ tree₀ upper top turn₀ n₀ near₀ count₀ table places notes compared reach tree turn n near count =
     (top ≤ 4294967296) × (count₀ ≤ 1099511627776) × (length table ≡ 1024) × (length table ≡ length table₀) × (length notes % 5 ≡ 0)
     × (length notes ≡ length notes₀) × (n < 256) × (turn.cut ≤ 4294967296) × (count + turn₀.cut ≤ count₀ + turn.cut)
     × Canonical (state_count s) (entries table n)
@@ -23,14 +23,14 @@ invariant-loop s closures opens ends set from table₀ places₀ notes₀ compar
     × Passing s closures opens ends (set_at set 0) turn.opens turn.ends turn.cut reach tree × SetNumbered (entries table n) near
     × (length places ≡ length places₀) × Placed places (entries table n)
 
-abbrev decreases-loop : tie.decreases-loop
-decreases-loop s closures opens ends set from table₀ places₀ notes₀ compared₀ reach₀ tree₀ upper top turn₀ n₀ near₀ count₀ table places notes compared reach tree turn n near count =
+abbrev decreases-loop-turn : tie.decreases-loop-turn
+decreases-loop-turn s closures opens ends set from table₀ places₀ notes₀ compared₀ reach₀ tree₀ upper top turn₀ n₀ near₀ count₀ table places notes compared reach tree turn n near count =
     top - turn.cut
 
-pub sweep-spans-spec : {M : Type 1} → statement M
-sweep-spans-spec =
+pub sweep_spans_spec : {M : Type 1} → statement M
+sweep_spans_spec =
     tie.close
-    (tie.spec invariant-loop decreases-loop (λ c. search rules) (λ c. search rules) (λ c. search rules)
+    (tie.spec invariant-loop-turn decreases-loop-turn (λ c. search rules) (λ c. search rules) (λ c. search rules)
     (λ c. (
       search rules,
       search rules,
@@ -50,79 +50,49 @@ sweep-spans-spec =
     ))
     (λ c. search rules) (λ c. search rules) (λ c. search rules)
     (λ c κs.
-    let at-if = c.before.before.before in
-    let at-loop = at-if.before.before in
-    let at_pre = at-loop.before.before.before.before.before.before.before.before.before.before in
-    (at-loop.loop.invariant.11, at_pre.requires.0.3, at-if.if1.true))
+    (c.loop-turn.invariant.11, c.requires.0.3, c.loop-turn-test.true))
     (λ c. search rules)
     (λ c κs.
-    let at-step = c.before.before.before.before.before.before.before in
-    let at-if = at-step.before.before.before.before in
-    let at-loop = at-if.before.before in (
+    (
       search rules,
-      cut_some _ _ _ _ at-step.step.ensures.0 at-if.if1.true,
-      cut_most _ _ _ _ at-step.step.ensures.0 at-loop.loop.invariant.0,
-      at-loop.loop.invariant.6,
-      at-loop.loop.invariant.2,
-      at-loop.loop.invariant.4,
-      at-loop.loop.invariant.12,
-      at-loop.loop.invariant.14,
+      cut_some _ _ _ _ c.step-turn.ensures.0 c.loop-turn-test.true,
+      cut_most _ _ _ _ c.step-turn.ensures.0 c.loop-turn.invariant.0,
+      c.loop-turn.invariant.6,
+      c.loop-turn.invariant.2,
+      c.loop-turn.invariant.4,
+      c.loop-turn.invariant.12,
+      c.loop-turn.invariant.14,
     ))
     (λ c.
-    let at_table = c.before.before.before.before.before.before in
-    let at-loop = at_table.before.before.before.before.before.before.before.before.before.before.before.before.before.before.before in
-    omega (arith, at_table.table.given, at-loop.loop.invariant.3))
+    omega (arith, c.table-1.given, c.loop-turn.invariant.3))
     (λ c.
-    let at_places = c.before.before.before.before in
-    let at-loop = at_places.before.before.before.before.before.before.before.before.before.before.before.before.before.before.before.before.before in
-    omega (arith, at_places.places.given, at-loop.loop.invariant.13))
+    omega (arith, c.places-1.given, c.loop-turn.invariant.13))
     (λ c.
-    let at-notes = c.before.before in
-    let at-loop = at-notes.before.before.before.before.before.before.before.before.before.before.before.before.before.before.before.before.before.before.before in
-    omega (arith, at-notes.notes.given, at-loop.loop.invariant.5))
+    omega (arith, c.notes-1.given, c.loop-turn.invariant.5))
     (λ c.
-    let at-visit = c.before.before.before.before.before.before.before in
-    let at-step = at-visit.before.before.before.before.before.before.before.before in
-    let at-if = at-step.before.before.before.before in
-    let at-loop = at-if.before.before in
-    let visited = visited_root _ _ _ _ _ _ _ _ _ _ _ at-step.step.ensures.1.0 at-visit.visit-swept.ensures.0 in
-    (visit_over _ _ _ _ _ _ _ _ _ _ _ _ _ at-loop.loop.invariant.10 at-if.if1.true _ at-step.step.ensures.0 _ _ _ visited c.if2.true, placed_over _ _))
+    let visited = visited_root _ _ _ _ _ _ _ _ _ _ _ c.step-turn.ensures.1.0 c.visit_swept-placed.ensures.0 in
+    (visit_over _ _ _ _ _ _ _ _ _ _ _ _ _ c.loop-turn.invariant.10 c.loop-turn-test.true _ c.step-turn.ensures.0 _ _ _ visited c.if-n-eq256.true, placed_over _ _))
     (λ c.
-    let at-visit = c.before.before.before.before.before.before.before in
-    let at-step = at-visit.before.before.before.before.before.before.before.before in
-    let at-if = at-step.before.before.before.before in
-    let at-loop = at-if.before.before in
-    omega (arith, at-loop.loop.invariant.8, at-loop.loop.invariant.7, at-loop.loop.invariant.1))
+    omega (arith, c.loop-turn.invariant.8, c.loop-turn.invariant.7, c.loop-turn.invariant.1))
     (λ c.
-    let at-visit = c.before.before.before.before.before.before.before in
-    let at-step = at-visit.before.before.before.before.before.before.before.before in
-    let at-if = at-step.before.before.before.before in
-    cut_less _ _ _ _ at-step.step.ensures.0 at-if.if1.true)
+    cut_less _ _ _ _ c.step-turn.ensures.0 c.loop-turn-test.true)
     (λ c.
-    let at-visit = c.before.before.before.before.before.before.before in
-    let at-step = at-visit.before.before.before.before.before.before.before.before in
-    let at-if = at-step.before.before.before.before in
-    let at-loop = at-if.before.before in
-    let at_pre = at-loop.before.before.before.before.before.before.before.before.before.before in
-    let at_table = c.before.before.before.before.before.before in
-    let at_places = c.before.before.before.before in
-    let at-notes = c.before.before in
-    let visited = visited_root _ _ _ _ _ _ _ _ _ _ _ at-step.step.ensures.1.0 at-visit.visit-swept.ensures.0 in (
+    let visited = visited_root _ _ _ _ _ _ _ _ _ _ _ c.step-turn.ensures.1.0 c.visit_swept-placed.ensures.0 in (
       search rules,
       search rules,
-      omega (arith, at-loop.loop.invariant.2, at_table.table.given),
-      omega (arith, at-loop.loop.invariant.3, at_table.table.given),
-      omega (arith, at-loop.loop.invariant.4, at-notes.notes.given),
-      omega (arith, at-loop.loop.invariant.5, at-notes.notes.given),
+      omega (arith, c.loop-turn.invariant.2, c.table-1.given),
+      omega (arith, c.loop-turn.invariant.3, c.table-1.given),
+      omega (arith, c.loop-turn.invariant.4, c.notes-1.given),
+      omega (arith, c.loop-turn.invariant.5, c.notes-1.given),
       search rules,
-      cut_most _ _ _ _ at-step.step.ensures.0 at-loop.loop.invariant.0,
-      cut_counts _ _ _ _ at-step.step.ensures.0 _ _ _ at-if.if1.true at-loop.loop.invariant.8,
-      canonical_next _ at_pre.requires.0.0.accepted _ _ _ _ _ _ _ _ _ _ at-loop.loop.invariant.9 visited,
-      visit_next _ _ _ _ _ _ _ _ _ _ _ _ _ at-loop.loop.invariant.10 at-if.if1.true _ at-step.step.ensures.0 _ _ _ visited,
-      passing_next _ _ _ _ _ _ _ _ _ _ at-step.step.ensures.1.1 _ _ _ at-if.if1.true at-step.step.ensures.0,
-      at-visit.visit-swept.ensures.1.0,
-      omega (arith, at_places.places.given, at-loop.loop.invariant.13),
-      at-visit.visit-swept.ensures.1.1,
+      cut_most _ _ _ _ c.step-turn.ensures.0 c.loop-turn.invariant.0,
+      cut_counts _ _ _ _ c.step-turn.ensures.0 _ _ _ c.loop-turn-test.true c.loop-turn.invariant.8,
+      canonical_next _ c.requires.0.0.accepted _ _ _ _ _ _ _ _ _ _ c.loop-turn.invariant.9 visited,
+      visit_next _ _ _ _ _ _ _ _ _ _ _ _ _ c.loop-turn.invariant.10 c.loop-turn-test.true _ c.step-turn.ensures.0 _ _ _ visited,
+      passing_next _ _ _ _ _ _ _ _ _ _ c.step-turn.ensures.1.1 _ _ _ c.loop-turn-test.true c.step-turn.ensures.0,
+      c.visit_swept-placed.ensures.1.0,
+      omega (arith, c.places-1.given, c.loop-turn.invariant.13),
+      c.visit_swept-placed.ensures.1.1,
     ))
     (λ c. search rules) (λ c. search rules) (λ c. search rules)
-    (λ c. (search (visit_ended, rules), placed_sets _ _ _ _ c.before.before.loop.invariant.14)))
+    (λ c. (search (visit_ended, rules), placed_sets _ _ _ _ c.loop-turn.invariant.14)))

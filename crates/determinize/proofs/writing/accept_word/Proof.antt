@@ -3,8 +3,8 @@ use Rattle.determinize.proofs.Sections.{accept_laws}
 use Rattle.determinize.proofs.writing.accept_word.Statement.{statement}
 use Rattle.determinize.proofs.writing.accept_word.Tie as tie
 
-pub accept-word-spec : {M : Type 1} → statement M
-accept-word-spec =
+pub accept_word_spec : {M : Type 1} → statement M
+accept_word_spec =
     tie.close
     (tie.spec (λ c. search accept_laws) (λ c κs. search accept_laws) (λ c. search accept_laws) (λ c κs. search accept_laws)
     (λ c. search accept_laws))

@@ -8,25 +8,23 @@ use Rattle.determinize.proofs.Sections.{accept_laws, accepts_next}
 use Rattle.determinize.proofs.writing.put_accept_words.Statement.{statement}
 use Rattle.determinize.proofs.writing.put_accept_words.Tie as tie
 
-abbrev invariant-loop : tie.invariant-loop
-invariant-loop s table n out₀ at end₀ j₀ out end j =
+abbrev invariant-loop-j : tie.invariant-loop-j
+invariant-loop-j s table n out₀ at end₀ j₀ out end j =
     (j ≤ n) × (length out ≡ length out₀) × (end ≡ at + j) × Written out₀ at (map (kind_of (read s)) (entries table j)) out end
 
-abbrev decreases-loop : tie.decreases-loop
-decreases-loop s table n out₀ at end₀ j₀ out end j = n - j
+abbrev decreases-loop-j : tie.decreases-loop-j
+decreases-loop-j s table n out₀ at end₀ j₀ out end j = n - j
 
-pub put-accept-words-spec : {M : Type 1} → statement M
-put-accept-words-spec =
+pub put_accept_words_spec : {M : Type 1} → statement M
+put_accept_words_spec =
     tie.close
-    (tie.spec invariant-loop decreases-loop (λ c. search accept_laws) (λ c κs. search accept_laws) (λ c κs. search accept_laws)
+    (tie.spec invariant-loop-j decreases-loop-j (λ c. search accept_laws) (λ c κs. search accept_laws) (λ c κs. search accept_laws)
     (λ c. search accept_laws) (λ c. search accept_laws)
     (λ c. (
       search rules,
       search rules,
       search rules,
-      let at-accept-word = c.before.before.before in
-          let at-loop = at-accept-word.before.before.before in
-          accepts_next _ _ _ _ _ _ _ at-loop.loop.invariant.3 _ at-accept-word.accept-word.ensures _ _ c.before.before.put_word.ensures,
+      accepts_next _ _ _ _ _ _ _ c.loop-j.invariant.3 _ c.accept_word.ensures _ _ c.put_word-end.ensures,
     ))
     (λ c κs. search accept_laws)
     (λ c. search accept_laws) (λ c. search accept_laws))

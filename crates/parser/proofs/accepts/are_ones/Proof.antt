@@ -8,14 +8,14 @@ use Rattle.parser.proofs.Spelling.{ones_laws}
 use Rattle.parser.proofs.accepts.are_ones.Statement.{statement}
 use Rattle.parser.proofs.accepts.are_ones.Tie as tie
 
-abbrev invariant-loop : tie.invariant-loop
-invariant-loop words i₀ i = (i ≤ length words) × (all (λ w. eqb w 1) words ≡ all (λ w. eqb w 1) (drop i words))
+abbrev invariant-loop-i : tie.invariant-loop-i
+invariant-loop-i words i₀ i = (i ≤ length words) × (all (λ w. eqb w 1) words ≡ all (λ w. eqb w 1) (drop i words))
 
-abbrev decreases-loop : tie.decreases-loop
-decreases-loop words i₀ i = length words - i
+abbrev decreases-loop-i : tie.decreases-loop-i
+decreases-loop-i words i₀ i = length words - i
 
-pub are-ones-spec : {M : Type 1} → statement M
-are-ones-spec =
+pub are_ones_spec : {M : Type 1} → statement M
+are_ones_spec =
     tie.close
-    (tie.spec invariant-loop decreases-loop (λ c. search ones_laws) (λ c. search ones_laws) (λ c. search ones_laws) (λ c. search ones_laws) (λ c. search ones_laws)
+    (tie.spec invariant-loop-i decreases-loop-i (λ c. search ones_laws) (λ c. search ones_laws) (λ c. search ones_laws) (λ c. search ones_laws) (λ c. search ones_laws)
     (λ c. search ones_laws) (λ c. search ones_laws) (λ c. search ones_laws))

@@ -8,9 +8,9 @@ pub mark_spec : {M : Type 1} → statement M
 mark_spec =
     tie.close
     (tie.spec (λ c κs. search mark_laws) (λ c. search mark_laws)
-    (λ c. let a = c.before.before.before.before.before.args in
-    let k = c.before.before.before.before.before.requires.0 in
-    let e = c.before.number_of.ensures in (
+    (λ c. let a = c.args in
+    let k = c.requires.0 in
+    let e = c.number_of-i.ensures in (
       among_not _ _ _ k a.x a.words.now _ e (omega arith),
       mark_none _ _ _ k a.x _ _ e (omega arith),
     ))

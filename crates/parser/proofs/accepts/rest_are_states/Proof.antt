@@ -16,55 +16,41 @@ use Rattle.parser.proofs.Tables.{added_table, table_none}
 use Rattle.parser.proofs.accepts.rest_are_states.Statement.{statement}
 use Rattle.parser.proofs.accepts.rest_are_states.Tie as tie
 
-abbrev invariant-loop : tie.invariant-loop
-invariant-loop text x arrows t₀ n at₀ k₀ t at k =
+abbrev invariant-loop-y : tie.invariant-loop-y
+invariant-loop-y text x arrows t₀ n at₀ k₀ t at k =
     let known = all (is_among (all_names text arrows.at (spelled text x ∷ []))) in
     SpeltTable text t k × (k < 256)
     × ((known (names_in text t k) && known (names_from text at)) ≡ (known (names_in text t₀ n) && known (names_from text at₀)))
 
-abbrev decreases-loop : tie.decreases-loop
-decreases-loop text x arrows t₀ n at₀ k₀ t at k = length text - at
+abbrev decreases-loop-y : tie.decreases-loop-y
+decreases-loop-y text x arrows t₀ n at₀ k₀ t at k = length text - at
 
-pub rest-are-states-spec : {M : Type 1} → statement M
-rest-are-states-spec =
+pub rest_are_states_spec : {M : Type 1} → statement M
+rest_are_states_spec =
     tie.close
-    (tie.spec invariant-loop decreases-loop (λ c. search rest_laws) (λ c κs. search rest_laws) (λ c. search rest_laws) (λ c. search rest_laws)
+    (tie.spec invariant-loop-y decreases-loop-y (λ c. search rest_laws) (λ c κs. search rest_laws) (λ c. search rest_laws) (λ c. search rest_laws)
     (λ c κs. search rest_laws) (λ c. search rest_laws) (λ c. search rest_laws) (λ c κs. search rest_laws) (λ c. search rest_laws)
     (λ c. search rest_laws) (λ c. search rest_laws)
-    (λ c. let at-add = c.before.before.before.before in
-    let at_y = at-add.before.before.before in
-    let at_next = at_y.before.before in
-    let i = at_next.before.loop.invariant in
-    rest_room _ _ _ _ at_next.next-name.ensures _ _ _ i.2 _ _ at_y.y.given.1 _ _ at-add.add-name.ensures i.1 c.enum-told2.given.1)
-    (λ c κs. let at-m = c.before.before.before in
-    let at-add = at-m.before.before.before.before in (
-      added_table _ _ _ _ at-add.add-name.ensures _ at-m.m.given.1,
-      at-add.before.before.before.before.before.before.before.before.before.requires.2,
+    (λ c. let i = c.loop-y.invariant in
+    rest_room _ _ _ _ c.next_name.ensures _ _ _ i.2 _ _ c.in-Read.is _ _ c.add_name.ensures i.1 c.in_default-add_name.is)
+    (λ c κs. (
+      added_table _ _ _ _ c.add_name.ensures _ c.in-Kept.is,
+      c.requires.2,
     ))
     (λ c. search rest_laws)
-    (λ c. let at-m = c.before.before.before.before.before in
-    let at-add = at-m.before.before.before.before in
-    let at_y = at-add.before.before.before in
-    let at_next = at_y.before.before in
-    rest_not _ _ _ _ at_next.next-name.ensures _ _ _ at_next.before.loop.invariant.2 _ _ at_y.y.given.1 _ _ at-add.add-name.ensures _
-    at-m.m.given.1 _ c.before.table-are-states2.ensures (search rules))
+    (λ c. rest_not _ _ _ _ c.next_name.ensures _ _ _ c.loop-y.invariant.2 _ _ c.in-Read.is _ _ c.add_name.ensures _
+    c.in-Kept.is _ c.table_are_states-then-k-ge256.ensures (search rules))
     (λ c. search rest_laws)
-    (λ c. let at-m = c.before.before.before.before.before in
-    let at-add = at-m.before.before.before.before in
-    let at_y = at-add.before.before.before in
-    let at_next = at_y.before.before in (
-      table_none _ _ (added_table _ _ _ _ at-add.add-name.ensures _ at-m.m.given.1).room,
+    (λ c. (
+      table_none _ _ (added_table _ _ _ _ c.add_name.ensures _ c.in-Kept.is).room,
       search rest_laws,
-      rest_anew _ _ _ _ at_next.next-name.ensures _ _ _ at_next.before.loop.invariant.2 _ _ at_y.y.given.1 _ _ at-add.add-name.ensures _
-          at-m.m.given.1 _ c.before.table-are-states2.ensures (search rules),
+      rest_anew _ _ _ _ c.next_name.ensures _ _ _ c.loop-y.invariant.2 _ _ c.in-Read.is _ _ c.add_name.ensures _
+          c.in-Kept.is _ c.table_are_states-then-k-ge256.ensures (search rules),
     ))
     (λ c. search rest_laws)
-    (λ c. let at-m = c.before.before in
-    let at-add = at-m.before.before.before.before in
-    let at_y = at-add.before.before.before in
-    let at_next = at_y.before.before in (
-      added_table _ _ _ _ at-add.add-name.ensures _ at-m.m.given.1,
+    (λ c. (
+      added_table _ _ _ _ c.add_name.ensures _ c.in-Kept.is,
       search rest_laws,
-      rest_added _ _ _ _ at_next.next-name.ensures _ _ _ at_next.before.loop.invariant.2 _ _ at_y.y.given.1 _ _ at-add.add-name.ensures _
-          at-m.m.given.1,
+      rest_added _ _ _ _ c.next_name.ensures _ _ _ c.loop-y.invariant.2 _ _ c.in-Read.is _ _ c.add_name.ensures _
+          c.in-Kept.is,
     )))

@@ -4,8 +4,8 @@ use Rattle.parser.proofs.Spelling.{table_laws}
 use Rattle.parser.proofs.accepts.table_are_states.Statement.{statement}
 use Rattle.parser.proofs.accepts.table_are_states.Tie as tie
 
-pub table-are-states-spec : {M : Type 1} → statement M
-table-are-states-spec =
+pub table_are_states_spec : {M : Type 1} → statement M
+table_are_states_spec =
     tie.close
     (tie.spec (λ c. search table_laws) (λ c κs. search table_laws) (λ c. search table_laws) (λ c κs. search table_laws) (λ c. search table_laws)
-    (λ c. words_counted _ _ _ c.before.before.before.before.before.before.before.before.before.requires.0 _ (search table_laws)) (λ c κs. search table_laws) (λ c. search table_laws))
+    (λ c. words_counted _ _ _ c.requires.0 _ (search table_laws)) (λ c κs. search table_laws) (λ c. search table_laws))

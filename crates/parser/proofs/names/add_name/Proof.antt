@@ -3,5 +3,5 @@ use Rattle.parser.proofs.Tables.{add_laws}
 use Rattle.parser.proofs.names.add_name.Statement.{statement}
 use Rattle.parser.proofs.names.add_name.Tie as tie
 
-pub add-name-spec : {M : Type 1} → statement M
-add-name-spec = tie.close (tie.spec (λ c κs. search add_laws) (λ c. search add_laws) (λ c. search add_laws))
+pub add_name_spec : {M : Type 1} → statement M
+add_name_spec = tie.close (tie.spec (λ c κs. search add_laws) (λ c. search add_laws) (λ c. search add_laws))

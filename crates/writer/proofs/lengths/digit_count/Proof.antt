@@ -7,14 +7,14 @@ use Rattle.writer.proofs.Counting.{digit_laws}
 use Rattle.writer.proofs.lengths.digit_count.Statement.{statement}
 use Rattle.writer.proofs.lengths.digit_count.Tie as tie
 
-abbrev invariant-loop : tie.invariant-loop
-invariant-loop x n₀ v₀ n v = (n + length (digits v) ≡ 1 + length (digits x))
+abbrev invariant-loop-v : tie.invariant-loop-v
+invariant-loop-v x n₀ v₀ n v = (n + length (digits v) ≡ 1 + length (digits x))
 
-abbrev decreases-loop : tie.decreases-loop
-decreases-loop x n₀ v₀ n v = v
+abbrev decreases-loop-v : tie.decreases-loop-v
+decreases-loop-v x n₀ v₀ n v = v
 
-pub digit-count-spec : {M : Type 1} → statement M
-digit-count-spec =
+pub digit_count_spec : {M : Type 1} → statement M
+digit_count_spec =
     tie.close
     (tie.spec
-    invariant-loop decreases-loop (λ c. search digit_laws) (λ c. search digit_laws) (λ c. search digit_laws) (λ c. search digit_laws) (λ c. search digit_laws))
+    invariant-loop-v decreases-loop-v (λ c. search digit_laws) (λ c. search digit_laws) (λ c. search digit_laws) (λ c. search digit_laws) (λ c. search digit_laws))

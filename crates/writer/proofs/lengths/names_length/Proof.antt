@@ -5,15 +5,15 @@ use Rattle.writer.proofs.Counting.{NamesLeft, names_laws}
 use Rattle.writer.proofs.lengths.names_length.Statement.{statement}
 use Rattle.writer.proofs.lengths.names_length.Tie as tie
 
-abbrev invariant-loop : tie.invariant-loop
-invariant-loop labels places states n₀ i₀ n i = (i ≤ length states) × NamesLeft labels states n i
+abbrev invariant-loop-i : tie.invariant-loop-i
+invariant-loop-i labels places states n₀ i₀ n i = (i ≤ length states) × NamesLeft labels states n i
 
-abbrev decreases-loop : tie.decreases-loop
-decreases-loop labels places states n₀ i₀ n i = length states - i
+abbrev decreases-loop-i : tie.decreases-loop-i
+decreases-loop-i labels places states n₀ i₀ n i = length states - i
 
-pub names-length-spec : {M : Type 1} → statement M
-names-length-spec =
+pub names_length_spec : {M : Type 1} → statement M
+names_length_spec =
     tie.close
     (tie.spec
-    invariant-loop decreases-loop (λ c. search names_laws) (λ c. search names_laws) (λ c. search names_laws) (λ c κs. search names_laws) (λ c. search names_laws)
+    invariant-loop-i decreases-loop-i (λ c. search names_laws) (λ c. search names_laws) (λ c. search names_laws) (λ c κs. search names_laws) (λ c. search names_laws)
     (λ c. search names_laws) (λ c. search names_laws) (λ c. search names_laws) (λ c. search names_laws) (λ c. search names_laws))

@@ -8,17 +8,17 @@ use Rattle.writer.proofs.Counting.{TransitionsLeft, transitions_laws}
 use Rattle.writer.proofs.lengths.transitions_length.Statement.{statement}
 use Rattle.writer.proofs.lengths.transitions_length.Tie as tie
 
-abbrev invariant-loop : tie.invariant-loop
-invariant-loop labels places records n₀ at₀ n at = (at ≤ length records) × TransitionsLeft (read_labels labels) records n at × Named (label_count labels) (read_records (drop at records))
+abbrev invariant-loop-at : tie.invariant-loop-at
+invariant-loop-at labels places records n₀ at₀ n at = (at ≤ length records) × TransitionsLeft (read_labels labels) records n at × Named (label_count labels) (read_records (drop at records))
 
-abbrev decreases-loop : tie.decreases-loop
-decreases-loop labels places records n₀ at₀ n at = length records - at
+abbrev decreases-loop-at : tie.decreases-loop-at
+decreases-loop-at labels places records n₀ at₀ n at = length records - at
 
-pub transitions-length-spec : {M : Type 1} → statement M
-transitions-length-spec =
+pub transitions_length_spec : {M : Type 1} → statement M
+transitions_length_spec =
     tie.close
     (tie.spec
-    invariant-loop decreases-loop (λ c. search transitions_laws) (λ c. search transitions_laws) (λ c. search transitions_laws) (λ c. search transitions_laws)
+    invariant-loop-at decreases-loop-at (λ c. search transitions_laws) (λ c. search transitions_laws) (λ c. search transitions_laws) (λ c. search transitions_laws)
     (λ c. search transitions_laws) (λ c. search transitions_laws) (λ c. search transitions_laws) (λ c κs. search transitions_laws)
     (λ c. search transitions_laws) (λ c. search transitions_laws) (λ c. search transitions_laws) (λ c. search transitions_laws)
     (λ c. search transitions_laws))

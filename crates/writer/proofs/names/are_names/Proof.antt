@@ -7,30 +7,28 @@ use Rattle.writer.proofs.Naming.{LabelsListed, listed_next, listed_laws}
 use Rattle.writer.proofs.names.are_names.Statement.{statement}
 use Rattle.writer.proofs.names.are_names.Tie as tie
 
-abbrev invariant-loop : tie.invariant-loop
-invariant-loop labels places states t₀ i₀ t i = (i ≤ length states) × LabelsListed labels states t i
+abbrev invariant-loop-i : tie.invariant-loop-i
+invariant-loop-i labels places states t₀ i₀ t i = (i ≤ length states) × LabelsListed labels states t i
 
-abbrev decreases-loop : tie.decreases-loop
-decreases-loop labels places states t₀ i₀ t i = length states - i
+abbrev decreases-loop-i : tie.decreases-loop-i
+decreases-loop-i labels places states t₀ i₀ t i = length states - i
 
-pub are-names-spec : {M : Type 1} → statement M
-are-names-spec =
+pub are_names_spec : {M : Type 1} → statement M
+are_names_spec =
     tie.close
     (tie.spec
-    invariant-loop decreases-loop (λ c. search listed_laws) (λ c. search listed_laws) (λ c. search listed_laws) (λ c κs. search listed_laws) (λ c κs. search listed_laws)
+    invariant-loop-i decreases-loop-i (λ c. search listed_laws) (λ c. search listed_laws) (λ c. search listed_laws) (λ c κs. search listed_laws) (λ c κs. search listed_laws)
     (λ c. search listed_laws)
-    (λ c. omega (arith, c.before.before.before.shared-slice-known4.given c.before.before.before.before.before.loop.i))
+    (λ c. omega (arith, c.shared_slice_known-in-loop-i-1.given c.loop-i.i))
     (λ c. search listed_laws) (λ c. search listed_laws) (λ c κs. search listed_laws) (λ c. search listed_laws) (λ c. search listed_laws)
     (λ c κs. search listed_laws) (λ c. search listed_laws) (λ c. search listed_laws) (λ c. search listed_laws) (λ c. search listed_laws)
     (λ c. search listed_laws) (λ c. search listed_laws)
     (λ c.
-    let name = c.before.before.before.before.before.before.before.before.before in
-    let told = c.before in
-    let turn = c.before.before.before.before.before.before.before.before.before.before.before.before.before in (
+    (
       search rules,
-      listed_next _ _ _ _ turn.before.before.before.before.before.requires.0 turn.before.before.before.before.before.requires.1 turn.loop-test.true _
-          c.before.before.before.before.before.before.before.next-label.ensures _ _
-          turn.before.loop.invariant.1 _ c.before.before.before.before.before.add.ensures _ told.before.k.given.1 c.if2.false _
-          name.before.before.label_at.ensures _ name.before.is_name.ensures name.if1.false,
+      listed_next _ _ _ _ c.requires.0 c.requires.1 c.loop-i-test.true _
+          c.next_label-next.ensures _ _
+          c.loop-i.invariant.1 _ c.add.ensures _ c.in-Kept.is c.if-k-i.false _
+          c.label_at.ensures _ c.is_name.ensures c.if-not-is_name.false-raw,
     ))
     (λ c. search listed_laws))

@@ -9,16 +9,16 @@ use Rattle.writer.proofs.Naming.{name_laws}
 use Rattle.writer.proofs.names.is_name.Statement.{statement}
 use Rattle.writer.proofs.names.is_name.Tie as tie
 
-abbrev invariant-loop : tie.invariant-loop
-invariant-loop label i₀ i = (i ≤ length label) × (is_name label ≡ all is_name_byte (drop i label))
+abbrev invariant-loop-i : tie.invariant-loop-i
+invariant-loop-i label i₀ i = (i ≤ length label) × (is_name label ≡ all is_name_byte (drop i label))
 
-abbrev decreases-loop : tie.decreases-loop
-decreases-loop label i₀ i = length label - i
+abbrev decreases-loop-i : tie.decreases-loop-i
+decreases-loop-i label i₀ i = length label - i
 
-pub is-name-spec : {M : Type 1} → statement M
-is-name-spec =
+pub is_name_spec : {M : Type 1} → statement M
+is_name_spec =
     tie.close
     (tie.spec
-    invariant-loop decreases-loop (λ c. search name_laws) (λ c. search name_laws) (λ c. search name_laws) (λ c κs. search name_laws) (λ c. search name_laws)
+    invariant-loop-i decreases-loop-i (λ c. search name_laws) (λ c. search name_laws) (λ c. search name_laws) (λ c κs. search name_laws) (λ c. search name_laws)
     (λ c. search name_laws) (λ c. search name_laws) (λ c κs. search name_laws) (λ c. search name_laws) (λ c. search name_laws) (λ c. search name_laws)
     (λ c. search name_laws) (λ c. search name_laws))

@@ -7,16 +7,16 @@ use Rattle.writer.proofs.Gathering.{StatesLeft, written_laws}
 use Rattle.writer.proofs.tables.gather_written.Statement.{statement}
 use Rattle.writer.proofs.tables.gather_written.Tie as tie
 
-abbrev invariant-loop : tie.invariant-loop
-invariant-loop s marks list₀ n end₀ q₀ list end q = (q ≤ n) × StatesLeft (is_written (read s)) (states (state_count s)) list₀ list end q
+abbrev invariant-loop-q : tie.invariant-loop-q
+invariant-loop-q s marks list₀ n end₀ q₀ list end q = (q ≤ n) × StatesLeft (is_written (read s)) (states (state_count s)) list₀ list end q
 
-abbrev decreases-loop : tie.decreases-loop
-decreases-loop s marks list₀ n end₀ q₀ list end q = n - q
+abbrev decreases-loop-q : tie.decreases-loop-q
+decreases-loop-q s marks list₀ n end₀ q₀ list end q = n - q
 
-pub gather-written-spec : {M : Type 1} → statement M
-gather-written-spec =
+pub gather_written_spec : {M : Type 1} → statement M
+gather_written_spec =
     tie.close
     (tie.spec
-    invariant-loop decreases-loop (λ c. search written_laws) (λ c. search written_laws) (λ c. search written_laws) (λ c. search written_laws)
+    invariant-loop-q decreases-loop-q (λ c. search written_laws) (λ c. search written_laws) (λ c. search written_laws) (λ c. search written_laws)
     (λ c κs. search written_laws) (λ c. search written_laws) (λ c. search written_laws) (λ c. search written_laws) (λ c. search written_laws)
     (λ c. search written_laws))

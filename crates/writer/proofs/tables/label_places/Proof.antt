@@ -7,15 +7,15 @@ use Rattle.writer.proofs.Places.{placing_laws}
 use Rattle.writer.proofs.tables.label_places.Statement.{statement}
 use Rattle.writer.proofs.tables.label_places.Tie as tie
 
-abbrev invariant-loop : tie.invariant-loop
-invariant-loop labels n places₀ at₀ q₀ places at q = (q ≤ n) × (at ≡ label_place labels q) × (places ≡ places_below labels places₀ q)
+abbrev invariant-loop-q : tie.invariant-loop-q
+invariant-loop-q labels n places₀ at₀ q₀ places at q = (q ≤ n) × (at ≡ label_place labels q) × (places ≡ places_below labels places₀ q)
 
-abbrev decreases-loop : tie.decreases-loop
-decreases-loop labels n places₀ at₀ q₀ places at q = n - q
+abbrev decreases-loop-q : tie.decreases-loop-q
+decreases-loop-q labels n places₀ at₀ q₀ places at q = n - q
 
-pub label-places-spec : {M : Type 1} → statement M
-label-places-spec =
+pub label_places_spec : {M : Type 1} → statement M
+label_places_spec =
     tie.close
     (tie.spec
-    invariant-loop decreases-loop (λ c. search placing_laws) (λ c. search placing_laws) (λ c. search placing_laws) (λ c κs. search placing_laws)
+    invariant-loop-q decreases-loop-q (λ c. search placing_laws) (λ c. search placing_laws) (λ c. search placing_laws) (λ c κs. search placing_laws)
     (λ c. search placing_laws) (λ c. search placing_laws) (λ c. search placing_laws) (λ c. search placing_laws) (λ c. search placing_laws))

@@ -6,18 +6,18 @@ use Rattle.writer.proofs.Marks.{MarksLeft, marks_laws}
 use Rattle.writer.proofs.tables.mark_states.Statement.{statement}
 use Rattle.writer.proofs.tables.mark_states.Tie as tie
 
-abbrev invariant-loop : tie.invariant-loop
-invariant-loop s marks₀ start at₀ marks at = (at ≤ length s) × MarksLeft s marks at
+abbrev invariant-loop-at : tie.invariant-loop-at
+invariant-loop-at s marks₀ start at₀ marks at = (at ≤ length s) × MarksLeft s marks at
 
-abbrev decreases-loop : tie.decreases-loop
-decreases-loop s marks₀ start at₀ marks at = length s - at
+abbrev decreases-loop-at : tie.decreases-loop-at
+decreases-loop-at s marks₀ start at₀ marks at = length s - at
 
-pub mark-states-spec : {M : Type 1} → statement M
-mark-states-spec =
+pub mark_states_spec : {M : Type 1} → statement M
+mark_states_spec =
     tie.close
     (tie.spec
-    invariant-loop decreases-loop (λ c. search marks_laws) (λ c. search marks_laws) (λ c. search marks_laws) (λ c. search marks_laws) (λ c. search marks_laws)
+    invariant-loop-at decreases-loop-at (λ c. search marks_laws) (λ c. search marks_laws) (λ c. search marks_laws) (λ c. search marks_laws) (λ c. search marks_laws)
     (λ c. search marks_laws) (λ c. search marks_laws) (λ c. search marks_laws) (λ c. search marks_laws) (λ c. search marks_laws)
-    (λ c. omega (arith, c.shared-slice-known3.given c.before.before.loop.at)) (λ c. search marks_laws) (λ c. search marks_laws)
-    (λ c. search marks_laws) (λ c. omega (arith, c.shared-slice-known4.given (c.before.before.before.loop.at + 4))) (λ c. search marks_laws)
+    (λ c. omega (arith, c.shared_slice_known-in-loop-at-1.given c.loop-at.at)) (λ c. search marks_laws) (λ c. search marks_laws)
+    (λ c. search marks_laws) (λ c. omega (arith, c.shared_slice_known-in-loop-at-2-1.given (c.loop-at.at + 4))) (λ c. search marks_laws)
     (λ c. search marks_laws) (λ c. search marks_laws) (λ c. search marks_laws) (λ c. search marks_laws) (λ c. search marks_laws) (λ c. search marks_laws))

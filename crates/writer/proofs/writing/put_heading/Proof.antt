@@ -3,9 +3,9 @@ use Rattle.writer.proofs.Putting.{heading_laws}
 use Rattle.writer.proofs.writing.put_heading.Statement.{statement}
 use Rattle.writer.proofs.writing.put_heading.Tie as tie
 
-pub put-heading-spec : {M : Type 1} → statement M
-put-heading-spec =
+pub put_heading_spec : {M : Type 1} → statement M
+put_heading_spec =
     tie.close
     (tie.spec
-    (λ c. search heading_laws) (λ c κs. search heading_laws) (λ c κs. search heading_laws) (λ c κs. search heading_laws) (λ c. search heading_laws)
+     (λ c κs. search heading_laws) (λ c κs. search heading_laws) (λ c κs. search heading_laws) (λ c. search heading_laws)
     (λ c. search heading_laws))

@@ -4,35 +4,35 @@ use Rattle.writer.proofs.Putting.{text_heading, text_transitions, text_closing, 
 use Rattle.writer.proofs.writing.put_text.Statement.{statement}
 use Rattle.writer.proofs.writing.put_text.Tie as tie
 
-pub put-text-spec : {M : Type 1} → statement M
-put-text-spec =
+pub put_text_spec : {M : Type 1} → statement M
+put_text_spec =
     tie.close
     (tie.spec
     (λ c. search ready_laws) (λ c. search ready_laws) (λ c. search ready_laws) (λ c. search ready_laws)
     (λ c κs. (
       search ready_laws,
       search ready_laws,
-      text_heading _ _ _ _ c.before.before.before.before.before.before.before.before.args.out.now
-          c.before.before.before.before.before.before.before.before.requires.0 c.before.before.before.before.before.before.before.before.requires.1,
+      text_heading _ _ _ _ c.args.out.now
+          c.requires.0 c.requires.1,
     ))
     (λ c. search ready_laws) (λ c. search ready_laws) (λ c. search ready_laws) (λ c. search ready_laws)
     (λ c κs. (
       search ready_laws,
       search ready_laws,
       text_transitions _ _ _ _ _
-          c.before.before.before.before.before.before.before.before.before.before.before.before.before.requires.0
-          c.before.before.before.before.before.before.before.before.before.before.before.before.before.requires.1 _ _ c.before.before.before.before.put-heading.ensures,
+          c.requires.0
+          c.requires.1 _ _ c.put_heading-transitions.ensures,
     ))
     (λ c κs. (
       search ready_laws,
       search ready_laws,
       search ready_laws,
       text_closing _ _ _ _ _
-          c.before.before.before.before.before.before.before.before.before.before.before.before.before.before.before.before.before.requires.0
-          c.before.before.before.before.before.before.before.before.before.before.before.before.before.before.before.before.before.requires.1 _ _
-          c.before.before.before.before.before.before.before.before.put-heading.ensures _ _ c.before.before.before.put-transitions.ensures,
+          c.requires.0
+          c.requires.1 _ _
+          c.put_heading-transitions.ensures _ _ c.put_transitions-closing.ensures,
     ))
     (λ c. search ready_laws)
-    (λ c. text_put _ _ _ _ _ c.before.before.before.before.before.before.before.before.before.before.before.before.before.before.before.before.before.before.before.before.requires.0 c.before.before.before.before.before.before.before.before.before.before.before.before.before.before.before.before.before.before.before.before.requires.1 _ _
-    c.before.before.before.before.before.before.before.before.before.before.before.put-heading.ensures _ _
-    c.before.before.before.before.before.before.put-transitions.ensures _ _ c.before.before.put-closing.ensures))
+    (λ c. text_put _ _ _ _ _ c.requires.0 c.requires.1 _ _
+    c.put_heading-transitions.ensures _ _
+    c.put_transitions-closing.ensures _ _ c.put_closing.ensures))

@@ -8,20 +8,20 @@ use Rattle.writer.proofs.Putting.{TransitionsToPut, transitions_put_laws}
 use Rattle.writer.proofs.writing.put_transitions.Statement.{statement}
 use Rattle.writer.proofs.writing.put_transitions.Tie as tie
 
-abbrev invariant-loop : tie.invariant-loop
-invariant-loop out₀ at labels places records end₀ i₀ out end i =
+abbrev invariant-loop-i : tie.invariant-loop-i
+invariant-loop-i out₀ at labels places records end₀ i₀ out end i =
     (i ≤ length records)
     × TransitionsToPut (read_labels labels) records at out₀ out end i
     × Named (label_count labels) (read_records (drop i records))
 
-abbrev decreases-loop : tie.decreases-loop
-decreases-loop out₀ at labels places records end₀ i₀ out end i = length records - i
+abbrev decreases-loop-i : tie.decreases-loop-i
+decreases-loop-i out₀ at labels places records end₀ i₀ out end i = length records - i
 
-pub put-transitions-spec : {M : Type 1} → statement M
-put-transitions-spec =
+pub put_transitions_spec : {M : Type 1} → statement M
+put_transitions_spec =
     tie.close
     (tie.spec
-    invariant-loop decreases-loop (λ c. search transitions_put_laws) (λ c. search transitions_put_laws) (λ c. search transitions_put_laws)
+    invariant-loop-i decreases-loop-i (λ c. search transitions_put_laws) (λ c. search transitions_put_laws) (λ c. search transitions_put_laws)
     (λ c. search transitions_put_laws) (λ c. search transitions_put_laws) (λ c. search transitions_put_laws) (λ c. search transitions_put_laws)
     (λ c κs. search transitions_put_laws) (λ c. search transitions_put_laws) (λ c. search transitions_put_laws) (λ c. search transitions_put_laws)
     (λ c. search transitions_put_laws) (λ c. search transitions_put_laws))
