@@ -105,7 +105,7 @@ module _ (t : Two) (total : Total t) where
   steps_right q [] = accept_right t q
   steps_right q (x ∷ w) = rw (successor_right t q x) (steps_right (successor t.two q x) w)
 
-  forced_steps : {p q : ℕ} {w : List ℕ} → Forced t p q → Word t.lower t.upper w → Forced t (steps p w) (steps q w)
+  forced_steps : {w : List ℕ} {p q : ℕ} → Forced t p q → Word t.lower t.upper w → Forced t (steps p w) (steps q w)
   unfolding steps
   forced_steps f none = f
   forced_steps f (more {a = x} lower upper v) = forced_steps (follow x (lower, upper) f) v

@@ -4,8 +4,8 @@ use Rattle.determinizations.proofs.Fronts.{both_laws}
 use Rattle.determinizations.proofs.determinize_both.Statement.{statement}
 use Rattle.determinizations.proofs.determinize_both.Tie as tie
 
-pub determinize-both-spec : {M : Type 1} → statement M
-determinize-both-spec =
+pub determinize_both_spec : {M : Type 1} → statement M
+determinize_both_spec =
     tie.close
     (tie.spec (λ c κs. search rules) (λ c. search rules) (λ c κs. search rules) (λ c. search rules) (λ c. search rules) (λ c. search rules)
     (λ c. search rules) (λ c. search rules) (λ c. search both_laws)

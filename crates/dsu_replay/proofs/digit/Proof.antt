@@ -3,7 +3,7 @@ use Rattle.dsu_replay.proofs.Runs.{line_laws}
 use Rattle.dsu_replay.proofs.digit.Statement.{statement}
 use Rattle.dsu_replay.proofs.digit.Tie as tie
 
-pub digit-spec : {M : Type 1} → statement M
-digit-spec =
+pub digit_spec : {M : Type 1} → statement M
+digit_spec =
     tie.close
     (tie.spec (λ c κs. search line_laws) (λ c. search line_laws) (λ c κs. search line_laws) (λ c. search line_laws))

@@ -3,7 +3,7 @@ use Rattle.dsu_replay.proofs.Runs.{line_laws}
 use Rattle.dsu_replay.proofs.line_of.Statement.{statement}
 use Rattle.dsu_replay.proofs.line_of.Tie as tie
 
-pub line-of-spec : {M : Type 1} → statement M
-line-of-spec =
+pub line_of_spec : {M : Type 1} → statement M
+line_of_spec =
     tie.close
     (tie.spec (λ c κs. search line_laws) (λ c κs. search line_laws) (λ c. search line_laws) (λ c. search line_laws))

@@ -6,7 +6,7 @@ use Rattle.dsu_replay.proofs.read_line.Tie as tie
 
 ruleset read_laws = (ended, ten, rules)
 
-pub read-line-spec : {M : Type 1} → statement M
-read-line-spec =
+pub read_line_spec : {M : Type 1} → statement M
+read_line_spec =
     tie.close
     (tie.spec (λ c. search rules) (λ c κs. search rules) (λ c. search read_laws) (λ c κs. search rules) (λ c. search read_laws))

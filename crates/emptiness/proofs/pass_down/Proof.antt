@@ -1,5 +1,5 @@
 -- `pass_down` meets its contract: the transitions of the records from `left` on that leave a state that was met lead to states that were met.
-use Prim.Native.Nat.{◌-◌, ◌≤◌}
+use Prim.Native.Nat.{◌≤◌}
 use native.Mathlib.Omega.{arith}
 use Rattle.sheets.specs.inner.Accepted.{record_count}
 use Rattle.sheets.specs.Sheet.{records_at, read}

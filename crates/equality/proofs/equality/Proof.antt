@@ -3,8 +3,8 @@ use Rattle.equality.proofs.Comparing.{comparing}
 use Rattle.equality.proofs.equality.Statement.{statement}
 use Rattle.equality.proofs.equality.Tie as tie
 
-pub equality-spec : {M : Type 1} → statement M
-equality-spec =
+pub equality_spec : {M : Type 1} → statement M
+equality_spec =
     tie.close
     (tie.spec (λ c. search comparing) (λ c κs. search comparing) (λ c. search comparing) (λ c. search comparing)
     (λ c. search comparing) (λ c κs. search comparing) (λ c. search comparing) (λ c. search comparing) (λ c. search comparing)

@@ -4,5 +4,5 @@ use Rattle.lookups.proofs.Sheets.{colliding_laws}
 use Rattle.lookups.proofs.colliding.Statement.{statement}
 use Rattle.lookups.proofs.colliding.Tie as tie
 
-pub colliding-spec : {M : Type 1} → statement M
-colliding-spec = tie.close (tie.spec (λ c. search rules) (λ c κs. search rules) (λ c κs. search colliding_laws) (λ c. search rules) (λ c. search colliding_laws))
+pub colliding_spec : {M : Type 1} → statement M
+colliding_spec = tie.close (tie.spec (λ c. search rules) (λ c κs. search rules) (λ c κs. search colliding_laws) (λ c. search rules) (λ c. search colliding_laws))

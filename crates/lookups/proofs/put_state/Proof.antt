@@ -3,5 +3,5 @@ use Rattle.lookups.proofs.Sheets.{state_laws}
 use Rattle.lookups.proofs.put_state.Statement.{statement}
 use Rattle.lookups.proofs.put_state.Tie as tie
 
-pub put-state-spec : {M : Type 1} → statement M
-put-state-spec = tie.close (tie.spec (λ c κs. search state_laws) (λ c. search state_laws) (λ c. search state_laws) (λ c. search state_laws))
+pub put_state_spec : {M : Type 1} → statement M
+put_state_spec = tie.close (tie.spec (λ c κs. search state_laws) (λ c. search state_laws) (λ c. search state_laws) (λ c. search state_laws))

@@ -8,17 +8,17 @@ use Rattle.replay.proofs.Cases.{byte_laws}
 use Rattle.replay.proofs.bytes.Statement.{statement}
 use Rattle.replay.proofs.bytes.Tie as tie
 
-abbrev invariant-loop : tie.invariant-loop
-invariant-loop list out₀ i₀ out i =
+abbrev invariant-loop-i : tie.invariant-loop-i
+invariant-loop-i list out₀ i₀ out i =
     (i ≤ length out₀) × (length out ≡ length out₀) × Written out₀ 0 (take i list) out i
     × (i + bytes_before (drop i (take (length out₀) list)) ≡ bytes_before (take (length out₀) list))
 
-abbrev decreases-loop : tie.decreases-loop
-decreases-loop list out₀ i₀ out i = length list - i
+abbrev decreases-loop-i : tie.decreases-loop-i
+decreases-loop-i list out₀ i₀ out i = length list - i
 
-pub bytes-spec : {M : Type 1} → statement M
-bytes-spec =
+pub bytes_spec : {M : Type 1} → statement M
+bytes_spec =
     tie.close
-    (tie.spec invariant-loop decreases-loop (λ c. search byte_laws) (λ c. search byte_laws) (λ c. search byte_laws) (λ c. search byte_laws) (λ c. search byte_laws)
+    (tie.spec invariant-loop-i decreases-loop-i (λ c. search byte_laws) (λ c. search byte_laws) (λ c. search byte_laws) (λ c. search byte_laws) (λ c. search byte_laws)
     (λ c. search byte_laws) (λ c. search byte_laws) (λ c. search byte_laws) (λ c. search byte_laws) (λ c. search byte_laws) (λ c. search byte_laws)
     (λ c. search byte_laws) (λ c. search byte_laws) (λ c. search byte_laws))

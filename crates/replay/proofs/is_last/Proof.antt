@@ -4,8 +4,8 @@ use Rattle.replay.specs.Cases.{is_last}
 use Rattle.replay.proofs.is_last.Statement.{statement}
 use Rattle.replay.proofs.is_last.Tie as tie
 
-pub is-last-spec : {M : Type 1} → statement M
+pub is_last_spec : {M : Type 1} → statement M
 unfolding is_last
-is-last-spec =
+is_last_spec =
     tie.close
     (tie.spec (λ c. search tests) (λ c. search tests) (λ c. search tests) (λ c. search tests) (λ c. search tests) (λ c. search tests))

@@ -7,18 +7,18 @@ use Rattle.replay.proofs.Lines.{outcome, line_laws, feed_laws, other_laws, over_
 use Rattle.replay.proofs.read_line.Statement.{statement}
 use Rattle.replay.proofs.read_line.Tie as tie
 
-abbrev invariant-loop : tie.invariant-loop
-invariant-loop text at out₀ n₀ begun₀ v₀ i₀ out n begun v i =
+abbrev invariant-loop-i : tie.invariant-loop-i
+invariant-loop-i text at out₀ n₀ begun₀ v₀ i₀ out n begun v i =
     (length out ≡ length out₀) × (v < 2 ^ 32) × (n + (length text - i) ≤ length text)
     × (outcome out n i (line_from begun v (drop i text)) ≡ outcome out₀ 0 at (line_at text at))
 
-abbrev decreases-loop : tie.decreases-loop
-decreases-loop text at out₀ n₀ begun₀ v₀ i₀ out n begun v i = length text - i
+abbrev decreases-loop-i : tie.decreases-loop-i
+decreases-loop-i text at out₀ n₀ begun₀ v₀ i₀ out n begun v i = length text - i
 
-pub read-line-spec : {M : Type 1} → statement M
-read-line-spec =
+pub read_line_spec : {M : Type 1} → statement M
+read_line_spec =
     tie.close
-    (tie.spec invariant-loop decreases-loop (λ c. search line_laws) (λ c. search line_laws) (λ c κs. search line_laws) (λ c. search line_laws) (λ c κs. search line_laws)
+    (tie.spec invariant-loop-i decreases-loop-i (λ c. search line_laws) (λ c. search line_laws) (λ c κs. search line_laws) (λ c. search line_laws) (λ c κs. search line_laws)
     (λ c. search line_laws) (λ c. search feed_laws) (λ c κs. search line_laws) (λ c. search line_laws) (λ c. search line_laws) (λ c. search line_laws)
     (λ c κs. search line_laws) (λ c. search line_laws) (λ c. search other_laws) (λ c. search line_laws) (λ c κs. search line_laws) (λ c. search line_laws)
     (λ c. search over_laws) (λ c. search line_laws) (λ c. search line_laws) (λ c. search line_laws) (λ c. search line_laws) (λ c κs. search line_laws)

@@ -3,7 +3,7 @@ use Rattle.lists.proofs.Tests.{tests}
 use Rattle.replay.proofs.tell.Statement.{statement}
 use Rattle.replay.proofs.tell.Tie as tie
 
-pub tell-spec : {M : Type 1} → statement M
-tell-spec =
+pub tell_spec : {M : Type 1} → statement M
+tell_spec =
     tie.close
     (tie.spec (λ c. search tests) (λ c. search tests))

@@ -3,8 +3,8 @@ use Rattle.equality.proofs.Reading.{reading}
 use Rattle.equality.proofs.walk.first_common.Statement.{statement}
 use Rattle.equality.proofs.walk.first_common.Tie as tie
 
-pub first-common-spec : {M : Type 1} → statement M
-first-common-spec =
+pub first_common_spec : {M : Type 1} → statement M
+first_common_spec =
     tie.close
     (tie.spec (λ c. search reading) (λ c. search reading) (λ c. search reading) (λ c. search reading) (λ c κs. search reading)
     (λ c. search reading) (λ c. search reading) (λ c κs. search reading) (λ c. search reading) (λ c. search reading)

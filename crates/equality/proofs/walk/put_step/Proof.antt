@@ -4,8 +4,8 @@ use borrow.Author.Rules.{rules}
 use Rattle.equality.proofs.walk.put_step.Statement.{statement}
 use Rattle.equality.proofs.walk.put_step.Tie as tie
 
-pub put-step-spec : {M : Type 1} → statement M
-put-step-spec =
+pub put_step_spec : {M : Type 1} → statement M
+put_step_spec =
     tie.close
     (tie.spec (λ c. search rules) (λ c. search rules) (λ c. search rules) (λ c. search rules) (λ c. search rules)
     (λ c. search rules) (λ c. search rules) (λ c. search rules) (λ c. search rules) (λ c. search rules)

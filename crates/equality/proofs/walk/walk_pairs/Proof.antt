@@ -8,69 +8,61 @@ use Rattle.equality.proofs.WalkLaws.{WalkInvariant, walk_laws, walk_fits, walk_b
 use Rattle.equality.proofs.walk.walk_pairs.Statement.{statement}
 use Rattle.equality.proofs.walk.walk_pairs.Tie as tie
 
-abbrev invariant-loop : tie.invariant-loop
-invariant-loop a b starts-a starts-b ends word₀ n1 n2 n repr₀ size₀ queue₀ trail₀ made₀ head₀ word repr size queue trail made head = WalkInvariant a b starts-a starts-b ends.lower ends.upper n1 head (pairs_of repr size queue n made) trail word × (word ≡ word₀)
+abbrev invariant-loop-head : tie.invariant-loop-head
+invariant-loop-head a b starts-a starts-b ends word₀ n1 n2 n repr₀ size₀ queue₀ trail₀ made₀ head₀ word repr size queue trail made head = WalkInvariant a b starts-a starts-b ends.lower ends.upper n1 head (pairs_of repr size queue n made) trail word × (word ≡ word₀)
 
-abbrev decreases-loop : tie.decreases-loop
-decreases-loop a b starts-a starts-b ends word₀ n1 n2 n repr₀ size₀ queue₀ trail₀ made₀ head₀ word repr size queue trail made head = 512 - head
+abbrev decreases-loop-head : tie.decreases-loop-head
+decreases-loop-head a b starts-a starts-b ends word₀ n1 n2 n repr₀ size₀ queue₀ trail₀ made₀ head₀ word repr size queue trail made head = 512 - head
 
-join-pair-requires : tie.Need-join-pair-requires invariant-loop decreases-loop
-join-pair-requires c κs = let n = c.before.before.before.before.before.before.before.before in walk_fits _ _ _ _ _ _ _ n.before.before.before.before.before.before.before.before.requires _ n.new.ensures _ refl
+join_pair-made-requires : tie.Need-join_pair-made-requires invariant-loop-head decreases-loop-head
+join_pair-made-requires c κs = walk_fits _ _ _ _ _ _ _ c.requires _ c.new-fresh.ensures _ refl
 
-loop-holds : tie.Need-loop-init invariant-loop decreases-loop
-loop-holds c = let n = c.before.before.before.before.before.before.before.before.before in (walk_begin _ _ _ _ _ _ _ n.before.before.before.before.before.before.before.before.requires _ n.new.ensures _ refl _ c.join-pair.ensures _ refl refl, refl)
+loop-head-init : tie.Need-loop-head-init invariant-loop-head decreases-loop-head
+loop-head-init c = (walk_begin _ _ _ _ _ _ _ c.requires _ c.new-fresh.ensures _ refl _ c.join_pair-made.ensures _ refl refl, refl)
 
-run-requires : tie.Need-run-requires invariant-loop decreases-loop
-run-requires c κs = walk_run_a _ _ _ _ _ _ _ _ _ _ _ c.before.loop.invariant.0 c.loop-test.true
+run-ra-requires : tie.Need-run-ra-requires invariant-loop-head decreases-loop-head
+run-ra-requires c κs = walk_run_a _ _ _ _ _ _ _ _ _ _ _ c.loop-head.invariant.0 c.loop-head-test.true
 
-run-requires-2 : tie.Need-run-requires-2 invariant-loop decreases-loop
-run-requires-2 c κs = let l = c.before in walk_run_b _ _ _ _ _ _ _ _ _ _ _ l.before.loop.invariant.0 l.loop-test.true
+run-rb-requires : tie.Need-run-rb-requires invariant-loop-head decreases-loop-head
+run-rb-requires c κs = walk_run_b _ _ _ _ _ _ _ _ _ _ _ c.loop-head.invariant.0 c.loop-head-test.true
 
-compare-runs-requires : tie.Need-compare-runs-requires invariant-loop decreases-loop
-compare-runs-requires c κs =
-    let r = c.before.before.before.before in
-    let l = r.before.before in
-    walk_runs _ _ _ _ _ _ _ _ _ _ _ l.before.loop.invariant.0 l.loop-test.true _ _ r.before.run.ensures r.run2.ensures
+compare_runs-t-requires : tie.Need-compare_runs-t-requires invariant-loop-head decreases-loop-head
+compare_runs-t-requires c κs =
+    walk_runs _ _ _ _ _ _ _ _ _ _ _ c.loop-head.invariant.0 c.loop-head-test.true _ _ c.run-ra.ensures c.run-rb.ensures
 
-spell-requires : tie.Need-spell-requires invariant-loop decreases-loop
+spell-requires : tie.Need-spell-requires invariant-loop-head decreases-loop-head
 spell-requires c κs =
-    let t = c.before.before.before.before.before in
-    let l = t.before.before.before.before.before.before.before.before in
-    let r = t.compare-runs.new.1.1.1.1.1 in
-    walk_spell _ _ _ _ _ _ _ _ _ _ _ l.loop.invariant.0 (pairs_of r.0 r.1.0 r.1.1.0 l.before.before.before.before.before.before.before.before.before.before.new.result.sets.n t.compare-runs.result.made) r.1.1.1.0 _ t.compare-runs.ensures _ c.before.before.before.comparison.given.1
+    let r = c.compare_runs-t.new in
+    walk_spell _ _ _ _ _ _ _ _ _ _ _ c.loop-head.invariant.0 (pairs_of r.repr r.size r.queue c.new-fresh.result.sets.n c.compare_runs-t.result.made) r.trail _ c.compare_runs-t.ensures _ c.in-Differ.is
 
-same_length : tie.Need-same-length invariant-loop decreases-loop
-same_length c = c.before.before.spell.auto.1.1.1.0 ∙ ap length c.before.before.before.before.before.before.before.before.before.before.before.before.before.before.before.before.loop.invariant.1
+shape_of-word-in-Differ : tie.Need-shape_of-word-in-Differ invariant-loop-head decreases-loop-head
+shape_of-word-in-Differ c = c.spell.auto.out ∙ ap length c.loop-head.invariant.1
 
-returns : tie.Need-returns invariant-loop decreases-loop
-returns c =
-    let t = c.before.before.before.before.before.before.before.before in
-    let l = t.before.before.before.before.before.before.before.before in
-    let r = t.compare-runs.new.1.1.1.1.1 in
-    walk_differs _ _ _ _ _ _ _ _ _ _ _ l.loop.invariant.0 (pairs_of r.0 r.1.0 r.1.1.0 l.before.before.before.before.before.before.before.before.before.before.new.result.sets.n t.compare-runs.result.made) r.1.1.1.0 _ t.compare-runs.ensures _ c.before.before.before.before.before.before.comparison.given.1 _ _ c.before.before.spell.ensures _ l.loop.invariant.1
+returns-in-Differ : tie.Need-returns-in-Differ invariant-loop-head decreases-loop-head
+returns-in-Differ c =
+    let r = c.compare_runs-t.new in
+    walk_differs _ _ _ _ _ _ _ _ _ _ _ c.loop-head.invariant.0 (pairs_of r.repr r.size r.queue c.new-fresh.result.sets.n c.compare_runs-t.result.made) r.trail _ c.compare_runs-t.ensures _ c.in-Differ.is _ _ c.spell.ensures _ c.loop-head.invariant.1
 
-add-head : tie.Need-overflow-add-head invariant-loop decreases-loop
-add-head c = let l = c.before.before.before.before.before.before.before.before.before in record { fits = omega (arith, l.loop-test.true, walk_few _ _ _ _ _ _ _ _ _ _ _ l.before.loop.invariant.0) }
+overflow_add-head : tie.Need-overflow_add-head invariant-loop-head decreases-loop-head
+overflow_add-head c = record { fits = omega (arith, c.loop-head-test.true, walk_few _ _ _ _ _ _ _ _ _ _ _ c.loop-head.invariant.0) }
 
-loop-less : tie.Need-loop-smaller invariant-loop decreases-loop
-loop-less c = let l = c.before.before.before.before.before.before.before.before.before in omega (arith, l.loop-test.true, walk_few _ _ _ _ _ _ _ _ _ _ _ l.before.loop.invariant.0)
+loop-head-smaller : tie.Need-loop-head-smaller invariant-loop-head decreases-loop-head
+loop-head-smaller c = omega (arith, c.loop-head-test.true, walk_few _ _ _ _ _ _ _ _ _ _ _ c.loop-head.invariant.0)
 
-loop-again : tie.Need-loop-preserved invariant-loop decreases-loop
-loop-again c =
-    let t = c.before.before in
-    let l = t.before.before.before.before.before.before.before.before in
-    let r = t.compare-runs.new.1.1.1.1.1 in
-    (walk_next _ _ _ _ _ _ _ _ _ _ _ l.loop.invariant.0 (pairs_of r.0 r.1.0 r.1.1.0 l.before.before.before.before.before.before.before.before.before.before.new.result.sets.n t.compare-runs.result.made) r.1.1.1.0 _ t.compare-runs.ensures c.enum_told.given.1, l.loop.invariant.1)
+loop-head-preserved : tie.Need-loop-head-preserved invariant-loop-head decreases-loop-head
+loop-head-preserved c =
+    let r = c.compare_runs-t.new in
+    (walk_next _ _ _ _ _ _ _ _ _ _ _ c.loop-head.invariant.0 (pairs_of r.repr r.size r.queue c.new-fresh.result.sets.n c.compare_runs-t.result.made) r.trail _ c.compare_runs-t.ensures c.in-Alike.is, c.loop-head.invariant.1)
 
-returns-2 : tie.Need-returns-2 invariant-loop decreases-loop
-returns-2 c = walk_same _ _ _ _ _ _ _ _ _ _ _ c.before.loop.invariant.0 c.loop-test.false _ c.before.loop.invariant.1
+returns : tie.Need-returns invariant-loop-head decreases-loop-head
+returns c = walk_same _ _ _ _ _ _ _ _ _ _ _ c.loop-head.invariant.0 c.loop-head-test.false _ c.loop-head.invariant.1
 
-pub walk-pairs-spec : {M : Type 1} → statement M
-walk-pairs-spec =
+pub walk_pairs_spec : {M : Type 1} → statement M
+walk_pairs_spec =
     tie.close
-    (tie.spec invariant-loop decreases-loop
+    (tie.spec invariant-loop-head decreases-loop-head
     (λ c. search walk_laws) (λ c. search walk_laws) (λ c. search walk_laws) (λ c. search walk_laws) (λ c. search walk_laws)
-    (λ c κs. search walk_laws) (λ c. search walk_laws) (λ c. search walk_laws) join-pair-requires loop-holds
+    (λ c κs. search walk_laws) (λ c. search walk_laws) (λ c. search walk_laws) join_pair-made-requires loop-head-init
     (λ c. search walk_laws) (λ c. search walk_laws) (λ c. search walk_laws) (λ c. search walk_laws) (λ c. search walk_laws)
-    (λ c. search walk_laws) (λ c. search walk_laws) run-requires run-requires-2 compare-runs-requires (λ c. search walk_laws)
-    spell-requires same_length returns (λ c. search walk_laws) add-head loop-less loop-again (λ c. ap length c.before.loop.invariant.1) returns-2)
+    (λ c. search walk_laws) (λ c. search walk_laws) run-ra-requires run-rb-requires compare_runs-t-requires (λ c. search walk_laws)
+    spell-requires shape_of-word-in-Differ returns-in-Differ (λ c. search walk_laws) overflow_add-head loop-head-smaller loop-head-preserved (λ c. ap length c.loop-head.invariant.1) returns)

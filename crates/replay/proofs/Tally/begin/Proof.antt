@@ -3,7 +3,7 @@ use Rattle.replay.proofs.Counting.{tally_laws}
 use Rattle.replay.proofs.Tally.begin.Statement.{statement}
 use Rattle.replay.proofs.Tally.begin.Tie as tie
 
-pub begin-spec : {M : Type 1} → statement M
-begin-spec =
+pub begin_spec : {M : Type 1} → statement M
+begin_spec =
     tie.close
     (tie.spec (λ c. search tally_laws) (λ c κs. search tally_laws) (λ c. search tally_laws) (λ c κs. search tally_laws) (λ c. search tally_laws))

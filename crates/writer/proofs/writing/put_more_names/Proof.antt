@@ -6,10 +6,10 @@ use Rattle.writer.proofs.writing.put_more_names.Statement.{statement}
 use Rattle.writer.proofs.writing.put_more_names.Tie as tie
 
 abbrev invariant-loop-i : tie.invariant-loop-i
-invariant-loop-i out₀ at labels places states end₀ i₀ t9 out end i = (i ≤ length states) × NamesToPut labels states at out₀ out end i
+invariant-loop-i out₀ at labels places states end₀ i₀ out end i = (i ≤ length states) × NamesToPut labels states at out₀ out end i
 
 abbrev decreases-loop-i : tie.decreases-loop-i
-decreases-loop-i out₀ at labels places states end₀ i₀ t9 out end i = length states - i
+decreases-loop-i out₀ at labels places states end₀ i₀ out end i = length states - i
 
 pub put_more_names_spec : {M : Type 1} → statement M
 put_more_names_spec =
