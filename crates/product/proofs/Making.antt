@@ -26,7 +26,7 @@ use Rattle.refusal.specs.declared.InputRefusal.TheVariants.{Epsilon}
 use Rattle.refusal.specs.declared.Refusal.TheVariants.{Input, State}
 use Rattle.refusal.specs.declared.StateRefusal.TheVariants.{OutputLength, States, Transitions}
 use Rattle.refusal.specs.Answer.{refused}
-use Rattle.search.specs.Search.{over, found, table}
+use Rattle.search.specs.Search.{found, table}
 use Rattle.sheets.specs.inner.Accepted.{Accepted}
 use Rattle.sheets.specs.declared.Checked.{Checked}
 use Rattle.sheets.specs.declared.Checked.TheVariants as checked

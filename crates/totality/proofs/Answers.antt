@@ -7,7 +7,6 @@ use borrow.Author.Rules.{rules}
 use borrow.Author.Tests.{lt-ltb, le-ltb}
 use lib.ListN.{length}
 use Rattle.labels.specs.Labels.{labels_fault, read_labels}
-use Rattle.labels.proofs.Labels.{label_list}
 use Rattle.output.specs.declared.Made.{Made}
 use Rattle.output.specs.declared.Made.TheVariants.{Refused}
 use Rattle.output.specs.Made.{output_of}

@@ -30,7 +30,6 @@ use Rattle.output.proofs.Answers.{made_given}
 use Rattle.refusal.specs.declared.Refusal.TheVariants.{State}
 use Rattle.refusal.specs.declared.StateRefusal.TheVariants.{States, Transitions}
 use Rattle.refusal.specs.Answer.{given}
-use Rattle.sheets.proofs.Accepted.{accepted}
 use Rattle.sheets.specs.inner.Accepted.{Accepted, record_count}
 use Rattle.sheets.specs.Sheet.{state_count, records_at, read, write}
 use Rattle.sheets.proofs.Meaning.{read_well, read_fits, write_read_sheet}

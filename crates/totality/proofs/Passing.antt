@@ -11,8 +11,6 @@ use lib.Dec.{ltb, eqb}
 use lib.ListN.{length}
 use Rattle.lists.proofs.Tests.{test}
 use Rattle.labels.specs.Labels.{labels_fault}
-use Rattle.labels.proofs.Labels.{label_list}
-use Rattle.output.specs.declared.Made.TheVariants.{Refused}
 use Rattle.output.specs.Output.{labels_first}
 use Rattle.output.proofs.Answers.{room_lacking, room_enough, room_words, room_bytes, labels_passed, labels_refused}
 use Rattle.refusal.specs.Answer.{Answer, refused}

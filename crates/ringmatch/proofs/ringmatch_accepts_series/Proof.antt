@@ -3,7 +3,7 @@ use Rattle.ringmatch.proofs.Replies.{replies}
 use Rattle.ringmatch.proofs.ringmatch_accepts_series.Statement.{statement}
 use Rattle.ringmatch.proofs.ringmatch_accepts_series.Tie as tie
 
-pub ringmatch-accepts-series-spec : {M : Type 1} → statement M
-ringmatch-accepts-series-spec =
+pub ringmatch_accepts_series_spec : {M : Type 1} → statement M
+ringmatch_accepts_series_spec =
     tie.close
     (tie.spec (λ c κs. search replies) (λ c κs. search replies) (λ c. search replies))

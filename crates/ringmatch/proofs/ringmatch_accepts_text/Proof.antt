@@ -3,7 +3,7 @@ use Rattle.ringmatch.proofs.Replies.{replies}
 use Rattle.ringmatch.proofs.ringmatch_accepts_text.Statement.{statement}
 use Rattle.ringmatch.proofs.ringmatch_accepts_text.Tie as tie
 
-pub ringmatch-accepts-text-spec : {M : Type 1} → statement M
-ringmatch-accepts-text-spec =
+pub ringmatch_accepts_text_spec : {M : Type 1} → statement M
+ringmatch_accepts_text_spec =
     tie.close
     (tie.spec (λ c κs. search replies) (λ c κs. search replies) (λ c. search replies))

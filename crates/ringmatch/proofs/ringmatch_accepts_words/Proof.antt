@@ -3,7 +3,7 @@ use Rattle.ringmatch.proofs.Replies.{replies}
 use Rattle.ringmatch.proofs.ringmatch_accepts_words.Statement.{statement}
 use Rattle.ringmatch.proofs.ringmatch_accepts_words.Tie as tie
 
-pub ringmatch-accepts-words-spec : {M : Type 1} → statement M
-ringmatch-accepts-words-spec =
+pub ringmatch_accepts_words_spec : {M : Type 1} → statement M
+ringmatch_accepts_words_spec =
     tie.close
     (tie.spec (λ c κs. search replies) (λ c κs. search replies) (λ c. search replies))

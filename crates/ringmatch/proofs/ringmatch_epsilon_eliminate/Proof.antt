@@ -3,7 +3,7 @@ use Rattle.ringmatch.proofs.Replies.{mades}
 use Rattle.ringmatch.proofs.ringmatch_epsilon_eliminate.Statement.{statement}
 use Rattle.ringmatch.proofs.ringmatch_epsilon_eliminate.Tie as tie
 
-pub ringmatch-epsilon-eliminate-spec : {M : Type 1} → statement M
-ringmatch-epsilon-eliminate-spec =
+pub ringmatch_epsilon_eliminate_spec : {M : Type 1} → statement M
+ringmatch_epsilon_eliminate_spec =
     tie.close
     (tie.spec (λ c κs. search mades) (λ c κs. search mades) (λ c. search mades) (λ c. search mades) (λ c. search mades))

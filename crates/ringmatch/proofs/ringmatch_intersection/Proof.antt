@@ -3,7 +3,7 @@ use Rattle.ringmatch.proofs.Replies.{mades}
 use Rattle.ringmatch.proofs.ringmatch_intersection.Statement.{statement}
 use Rattle.ringmatch.proofs.ringmatch_intersection.Tie as tie
 
-pub ringmatch-intersection-spec : {M : Type 1} → statement M
-ringmatch-intersection-spec =
+pub ringmatch_intersection_spec : {M : Type 1} → statement M
+ringmatch_intersection_spec =
     tie.close
     (tie.spec (λ c κs. search mades) (λ c κs. search mades) (λ c. search mades) (λ c. search mades) (λ c. search mades))

@@ -3,7 +3,7 @@ use Rattle.ringmatch.proofs.Replies.{decisions}
 use Rattle.ringmatch.proofs.ringmatch_is_nfa.Statement.{statement}
 use Rattle.ringmatch.proofs.ringmatch_is_nfa.Tie as tie
 
-pub ringmatch-is-nfa-spec : {M : Type 1} → statement M
-ringmatch-is-nfa-spec =
+pub ringmatch_is_nfa_spec : {M : Type 1} → statement M
+ringmatch_is_nfa_spec =
     tie.close
     (tie.spec (λ c κs. search decisions) (λ c κs. search decisions) (λ c. search decisions))

@@ -3,7 +3,7 @@ use Rattle.ringmatch.proofs.Replies.{decisions}
 use Rattle.ringmatch.proofs.ringmatch_is_subautomaton.Statement.{statement}
 use Rattle.ringmatch.proofs.ringmatch_is_subautomaton.Tie as tie
 
-pub ringmatch-is-subautomaton-spec : {M : Type 1} → statement M
-ringmatch-is-subautomaton-spec =
+pub ringmatch_is_subautomaton_spec : {M : Type 1} → statement M
+ringmatch_is_subautomaton_spec =
     tie.close
     (tie.spec (λ c κs. search decisions) (λ c κs. search decisions) (λ c. search decisions))

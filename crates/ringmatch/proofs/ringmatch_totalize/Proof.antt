@@ -3,7 +3,7 @@ use Rattle.ringmatch.proofs.Replies.{mades}
 use Rattle.ringmatch.proofs.ringmatch_totalize.Statement.{statement}
 use Rattle.ringmatch.proofs.ringmatch_totalize.Tie as tie
 
-pub ringmatch-totalize-spec : {M : Type 1} → statement M
-ringmatch-totalize-spec =
+pub ringmatch_totalize_spec : {M : Type 1} → statement M
+ringmatch_totalize_spec =
     tie.close
     (tie.spec (λ c κs. search mades) (λ c κs. search mades) (λ c. search mades) (λ c. search mades) (λ c. search mades))

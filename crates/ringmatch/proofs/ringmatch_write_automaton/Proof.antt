@@ -3,7 +3,7 @@ use Rattle.ringmatch.proofs.Replies.{writes}
 use Rattle.ringmatch.proofs.ringmatch_write_automaton.Statement.{statement}
 use Rattle.ringmatch.proofs.ringmatch_write_automaton.Tie as tie
 
-pub ringmatch-write-automaton-spec : {M : Type 1} → statement M
-ringmatch-write-automaton-spec =
+pub ringmatch_write_automaton_spec : {M : Type 1} → statement M
+ringmatch_write_automaton_spec =
     tie.close
     (tie.spec (λ c κs. search writes) (λ c κs. search writes) (λ c. search writes) (λ c. search writes))

@@ -3,8 +3,8 @@ use Rattle.verdict_line.proofs.Judging.{input_laws}
 use Rattle.verdict_line.proofs.compare.Statement.{statement}
 use Rattle.verdict_line.proofs.compare.Tie as tie
 
-pub compare-spec : {M : Type 1} → statement M
-compare-spec =
+pub compare_spec : {M : Type 1} → statement M
+compare_spec =
     tie.close
     (tie.spec (λ c. search input_laws) (λ c κs. search input_laws) (λ c. search input_laws) (λ c. search input_laws) (λ c. search input_laws)
     (λ c. search input_laws) (λ c κs. search input_laws) (λ c. search input_laws) (λ c. search input_laws) (λ c. search input_laws) (λ c. search input_laws))

@@ -4,8 +4,8 @@ use Rattle.replay_all.proofs.Bytes.{text_laws}
 use Rattle.replay_all.proofs.acceptance.text.Statement.{statement}
 use Rattle.replay_all.proofs.acceptance.text.Tie as tie
 
-pub text-spec : {M : Type 1} → statement M
-text-spec =
+pub text_spec : {M : Type 1} → statement M
+text_spec =
     tie.close
     (tie.spec (λ c κs. search rules) (λ c. search rules) (λ c κs. search rules) (λ c. search rules) (λ c. search rules) (λ c. search rules)
     (λ c κs. search rules) (λ c. search text_laws) (λ c. search rules) (λ c. search rules) (λ c κs. search rules) (λ c κs. search rules)

@@ -3,8 +3,8 @@ use Rattle.replay_all.proofs.Decisions.{told_laws}
 use Rattle.replay_all.proofs.acceptance.word.Statement.{statement}
 use Rattle.replay_all.proofs.acceptance.word.Tie as tie
 
-pub word-spec : {M : Type 1} → statement M
-word-spec =
+pub word_spec : {M : Type 1} → statement M
+word_spec =
     tie.close
     (tie.spec (λ c κs. search told_laws) (λ c. search told_laws) (λ c κs. search told_laws) (λ c. search told_laws) (λ c. search told_laws)
     (λ c κs. search told_laws) (λ c κs. search told_laws) (λ c. search told_laws))

@@ -11,32 +11,32 @@ use Rattle.replay_all.proofs.Rows.{row_begun, row_short, row_other, row_next, ro
 use Rattle.replay_all.proofs.closures.is_row.Statement.{statement}
 use Rattle.replay_all.proofs.closures.is_row.Tie as tie
 
-abbrev invariant-loop : tie.invariant-loop
-invariant-loop rows p members i₀ q₀ i q =
+abbrev invariant-loop-q : tie.invariant-loop-q
+invariant-loop-q rows p members i₀ q₀ i q =
     (q ≤ 256) × (i ≤ length members)
     × (same_label members (set_at rows (4 * p)) ≡ same_label (drop i members) (members_from q (set_at rows (4 * p))))
 
-abbrev decreases-loop : tie.decreases-loop
-decreases-loop rows p members i₀ q₀ i q = 256 - q
+abbrev decreases-loop-q : tie.decreases-loop-q
+decreases-loop-q rows p members i₀ q₀ i q = 256 - q
 
-pub is-row-spec : {M : Type 1} → statement M
-is-row-spec =
+pub is_row_spec : {M : Type 1} → statement M
+is_row_spec =
     tie.close
-    (tie.spec invariant-loop decreases-loop (λ c. (search rules, search rules, search row_begun)) (λ c κs. search rules)
-    (λ c. row_short _ _ _ _ _ c.before.before.before.before.loop.invariant.2 _ c.before.before.has.ensures c.before.if1.true
-    c.if2.true) (λ c. omega arith) (λ c. omega arith)
+    (tie.spec invariant-loop-q decreases-loop-q (λ c. (search rules, search rules, search row_begun)) (λ c κs. search rules)
+    (λ c. row_short _ _ _ _ _ c.loop-q.invariant.2 _ c.has.ensures c.if-has.true
+    c.if-members-i.true) (λ c. omega arith) (λ c. omega arith)
     (λ c κs. search rules) (λ c. search row_other) (λ c. search rules) (λ c. search rules) (λ c. search rules)
     (λ c. (
       search rules,
       search rules,
-      row_next _ _ _ _ _ c.before.before.before.before.before.before.before.loop.invariant.2 _
-          c.before.before.before.before.before.has.ensures c.before.before.before.before.if1.true c.before.before.before.if2.false _
-          c.before.wide.ensures c.if3.false,
+      row_next _ _ _ _ _ c.loop-q.invariant.2 _
+          c.has.ensures c.if-has.true c.if-members-i.false _
+          c.wide.ensures c.if-wide-q.false,
     )) (λ c. search rules)
     (λ c. search rules)
     (λ c. (
       search rules,
       search rules,
-      row_skip _ _ _ c.before.before.before.loop.i _ c.before.before.before.loop.invariant.2 _
-          c.before.has.ensures c.if1.false,
+      row_skip _ _ _ c.loop-q.i _ c.loop-q.invariant.2 _
+          c.has.ensures c.if-has.false,
     )) (λ c. search row_ended))

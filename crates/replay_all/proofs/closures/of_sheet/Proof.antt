@@ -4,8 +4,8 @@ use Rattle.replay_all.proofs.Sheets.{accepted_laws}
 use Rattle.replay_all.proofs.closures.of_sheet.Statement.{statement}
 use Rattle.replay_all.proofs.closures.of_sheet.Tie as tie
 
-pub of-sheet-spec : {M : Type 1} → statement M
-of-sheet-spec =
+pub of_sheet_spec : {M : Type 1} → statement M
+of_sheet_spec =
     tie.close
     (tie.spec (λ c κs. search accepted_laws) (λ c κs. search accepted_laws) (λ c. search accepted_laws) (λ c κs. search accepted_laws)
     (λ c. search accepted_laws) (λ c. search closure_laws) (λ c. search closure_laws))

@@ -4,8 +4,8 @@ use Rattle.replay_all.proofs.Outcomes.{listed_laws}
 use Rattle.replay_all.proofs.operations.is_listed.Statement.{statement}
 use Rattle.replay_all.proofs.operations.is_listed.Tie as tie
 
-pub is-listed-spec : {M : Type 1} → statement M
-is-listed-spec =
+pub is_listed_spec : {M : Type 1} → statement M
+is_listed_spec =
     tie.close
     (tie.spec (λ c. search listed_laws) (λ c κs. search rules) (λ c. search rules) (λ c. search rules) (λ c κs. search rules) (λ c. search rules)
     (λ c. search rules) (λ c. search listed_laws) (λ c. search rules) (λ c κs. search rules) (λ c. search listed_laws) (λ c κs. search rules)

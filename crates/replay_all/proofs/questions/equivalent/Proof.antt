@@ -3,8 +3,8 @@ use Rattle.replay_all.proofs.Decisions.{told_laws}
 use Rattle.replay_all.proofs.questions.equivalent.Statement.{statement}
 use Rattle.replay_all.proofs.questions.equivalent.Tie as tie
 
-pub equivalent-spec : {M : Type 1} → statement M
-equivalent-spec =
+pub equivalent_spec : {M : Type 1} → statement M
+equivalent_spec =
     tie.close
     (tie.spec (λ c κs. search told_laws) (λ c. search told_laws) (λ c κs. search told_laws) (λ c. search told_laws) (λ c. search told_laws)
     (λ c κs. search told_laws) (λ c κs. search told_laws) (λ c. search told_laws))

@@ -4,8 +4,8 @@ use Rattle.replay_all.proofs.Spans.{span_laws}
 use Rattle.replay_all.proofs.symbols.are_holes.Statement.{statement}
 use Rattle.replay_all.proofs.symbols.are_holes.Tie as tie
 
-pub are-holes-spec : {M : Type 1} → statement M
-are-holes-spec =
+pub are_holes_spec : {M : Type 1} → statement M
+are_holes_spec =
     tie.close
     (tie.spec (λ c. search rules) (λ c κs. search rules) (λ c. search span_laws) (λ c. search rules) (λ c. search rules) (λ c. search rules)
     (λ c. search rules) (λ c κs. search rules) (λ c. search span_laws))

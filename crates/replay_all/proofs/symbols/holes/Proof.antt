@@ -4,8 +4,8 @@ use Rattle.replay_all.proofs.Spans.{holes_laws}
 use Rattle.replay_all.proofs.symbols.holes.Statement.{statement}
 use Rattle.replay_all.proofs.symbols.holes.Tie as tie
 
-pub holes-spec : {M : Type 1} → statement M
-holes-spec =
+pub holes_spec : {M : Type 1} → statement M
+holes_spec =
     tie.close
     (tie.spec (λ c κs. search holes_laws) (λ c. search holes_laws) (λ c κs. search holes_laws) (λ c. search holes_laws)
     (λ c. search holes_laws) (λ c. search holes_laws) (λ c κs. search holes_laws) (λ c. search holes_laws) (λ c. search holes_laws)

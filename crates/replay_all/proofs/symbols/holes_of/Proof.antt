@@ -6,18 +6,18 @@ use Rattle.replay_all.proofs.Spans.{hole_laws}
 use Rattle.replay_all.proofs.symbols.holes_of.Statement.{statement}
 use Rattle.replay_all.proofs.symbols.holes_of.Tie as tie
 
-run-requires : tie.Need-run-requires
-run-requires c κs = first_run _ c.before.before.before.before.before.before.before.before.before.requires _ _ c.before.before.run-starts.ensures refl
+run-run-requires : tie.Need-run-run-requires
+run-run-requires c κs = first_run _ c.requires _ _ c.run_starts.ensures refl
 
-are-holes-requires : tie.Need-are-holes-requires
-are-holes-requires c κs =
-    let a = c.before.before.before.before.before.before.before.before.before.before.before.before.before.before.requires in
-    let e = c.before.before.before.before.run.ensures in
+are_holes-requires : tie.Need-are_holes-requires
+are_holes-requires c κs =
+    let a = c.requires in
+    let e = c.run-run.ensures in
     (run_sorted _ a _ e, run_short _ a _ e)
 
-pub holes-of-spec : {M : Type 1} → statement M
-holes-of-spec =
+pub holes_of_spec : {M : Type 1} → statement M
+holes_of_spec =
     tie.close
     (tie.spec (λ c. search hole_laws) (λ c. search rules) (λ c κs. search rules) (λ c. search rules) (λ c. search rules) (λ c. search hole_laws)
-    (λ c. search rules) (λ c κs. search rules) (λ c. search rules) run-requires (λ c. search rules) (λ c. search rules) (λ c κs. search rules)
-    (λ c κs. search rules) are-holes-requires (λ c. search hole_laws) (λ c. search hole_laws))
+    (λ c. search rules) (λ c κs. search rules) (λ c. search rules) run-run-requires (λ c. search rules) (λ c. search rules) (λ c κs. search rules)
+    (λ c κs. search rules) are_holes-requires (λ c. search hole_laws) (λ c. search hole_laws))

@@ -3,7 +3,7 @@ use Rattle.replay_all.proofs.Spans.{bit_laws}
 use Rattle.replay_all.proofs.symbols.is_answer.Statement.{statement}
 use Rattle.replay_all.proofs.symbols.is_answer.Tie as tie
 
-pub is-answer-spec : {M : Type 1} → statement M
-is-answer-spec =
+pub is_answer_spec : {M : Type 1} → statement M
+is_answer_spec =
     tie.close
     (tie.spec (λ c. search bit_laws) (λ c. search bit_laws))

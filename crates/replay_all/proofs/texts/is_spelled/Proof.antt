@@ -4,8 +4,8 @@ use Rattle.replay_all.proofs.Spelling.{spelled_laws}
 use Rattle.replay_all.proofs.texts.is_spelled.Statement.{statement}
 use Rattle.replay_all.proofs.texts.is_spelled.Tie as tie
 
-pub is-spelled-spec : {M : Type 1} → statement M
-is-spelled-spec =
+pub is_spelled_spec : {M : Type 1} → statement M
+is_spelled_spec =
     tie.close
     (tie.spec (λ c. search spelled_laws) (λ c. search rules) (λ c. search rules) (λ c. search spelled_laws) (λ c. search rules)
     (λ c κs. search rules) (λ c. search rules) (λ c. search rules) (λ c. search spelled_laws) (λ c. search rules) (λ c κs. search rules)

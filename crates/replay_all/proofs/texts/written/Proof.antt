@@ -4,19 +4,15 @@ use Rattle.replay_all.proofs.Spelling.{write_told, written_laws}
 use Rattle.replay_all.proofs.texts.written.Statement.{statement}
 use Rattle.replay_all.proofs.texts.written.Tie as tie
 
-returns-2 : tie.Need-returns-2
-returns-2 c =
-    let w = c.before.before.before in
-    let e = w.before.before.before in
-    let b = e.before.before in
-    let l = b.before.before in
-    write_told _ _ _ l.before.list.ensures l.list2.ensures _ b.bytes.ensures.1.1 e.if1.false _ _ b.bytes.ensures.1.0 b.bytes.ensures.0.0 _ _
-    w.write-automaton.ensures c.is-text.ensures
+returns : tie.Need-returns
+returns c =
+    write_told _ _ _ c.list-sheet.ensures c.list-list.ensures _ c.bytes-k.ensures.1.1 c.if-k-list.false _ _ c.bytes-k.ensures.1.0 c.bytes-k.ensures.0.0 _ _
+    c.write_automaton-answer.ensures c.is_text.ensures
 
-pub written-spec : {M : Type 1} → statement M
-written-spec =
+pub written_spec : {M : Type 1} → statement M
+written_spec =
     tie.close
     (tie.spec (λ c κs. search rules) (λ c. search rules) (λ c κs. search rules) (λ c. search rules) (λ c κs. search rules)
     (λ c. search written_laws) (λ c. search rules) (λ c. search rules) (λ c. search rules) (λ c κs. search rules) (λ c. search rules)
     (λ c. search rules) (λ c. search rules) (λ c κs. search rules)
-    returns-2)
+    returns)

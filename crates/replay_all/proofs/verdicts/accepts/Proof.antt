@@ -4,7 +4,7 @@ use Rattle.replay_all.proofs.Judging.{apart_laws}
 use Rattle.replay_all.proofs.verdicts.accepts.Statement.{statement}
 use Rattle.replay_all.proofs.verdicts.accepts.Tie as tie
 
-pub accepts-spec : {M : Type 1} → statement M
-accepts-spec =
+pub accepts_spec : {M : Type 1} → statement M
+accepts_spec =
     tie.close
     (tie.spec (λ c κs. search rules) (λ c. search rules) (λ c. search rules) (λ c. search apart_laws) (λ c. search apart_laws))

@@ -4,8 +4,8 @@ use Rattle.replay_all.specs.Verdicts.{last_of}
 use Rattle.replay_all.proofs.verdicts.last.Statement.{statement}
 use Rattle.replay_all.proofs.verdicts.last.Tie as tie
 
-pub last-spec : {M : Type 1} → statement M
+pub last_spec : {M : Type 1} → statement M
 unfolding last_of
-last-spec =
+last_spec =
     tie.close
     (tie.spec (λ c. search tests) (λ c. search tests) (λ c. search tests) (λ c. search tests) (λ c κs. search tests) (λ c. search tests))

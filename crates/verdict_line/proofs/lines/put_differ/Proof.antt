@@ -8,15 +8,15 @@ use Rattle.verdict_line.proofs.Printing.{differ_laws}
 use Rattle.verdict_line.proofs.lines.put_differ.Statement.{statement}
 use Rattle.verdict_line.proofs.lines.put_differ.Tie as tie
 
-abbrev invariant-loop : tie.invariant-loop
-invariant-loop out₀ word at₀ i₀ out at i = (i ≤ length word) × (at ≤ at₀ + 11 * i) × (length out ≡ length out₀) × Written out₀ at₀ (symbols (take i word)) out at
+abbrev invariant-loop-i : tie.invariant-loop-i
+invariant-loop-i out₀ word at₀ i₀ out at i = (i ≤ length word) × (at ≤ at₀ + 11 * i) × (length out ≡ length out₀) × Written out₀ at₀ (symbols (take i word)) out at
 
-abbrev decreases-loop : tie.decreases-loop
-decreases-loop out₀ word at₀ i₀ out at i = length word - i
+abbrev decreases-loop-i : tie.decreases-loop-i
+decreases-loop-i out₀ word at₀ i₀ out at i = length word - i
 
-pub put-differ-spec : {M : Type 1} → statement M
-put-differ-spec =
+pub put_differ_spec : {M : Type 1} → statement M
+put_differ_spec =
     tie.close
-    (tie.spec invariant-loop decreases-loop (λ c. search differ_laws) (λ c κs. search differ_laws) (λ c. search differ_laws) (λ c. search differ_laws)
+    (tie.spec invariant-loop-i decreases-loop-i (λ c κs. search differ_laws) (λ c. search differ_laws) (λ c. search differ_laws)
     (λ c. search differ_laws) (λ c κs. search differ_laws) (λ c. search differ_laws) (λ c. search differ_laws) (λ c. search differ_laws)
     (λ c κs. search differ_laws) (λ c. search differ_laws) (λ c. search differ_laws))

@@ -3,8 +3,8 @@ use Rattle.verdict_line.proofs.Printing.{same_laws}
 use Rattle.verdict_line.proofs.lines.put_same.Statement.{statement}
 use Rattle.verdict_line.proofs.lines.put_same.Tie as tie
 
-pub put-same-spec : {M : Type 1} → statement M
-put-same-spec =
+pub put_same_spec : {M : Type 1} → statement M
+put_same_spec =
     tie.close
-    (tie.spec (λ c. search same_laws) (λ c κs. search same_laws) (λ c κs. search same_laws) (λ c κs. search same_laws) (λ c. search same_laws)
+    (tie.spec (λ c κs. search same_laws) (λ c κs. search same_laws) (λ c κs. search same_laws) (λ c. search same_laws)
     (λ c. search same_laws))
