@@ -8,16 +8,14 @@ pub determinize_small_spec : {M : Type 1} → statement M
 determinize_small_spec =
     tie.close
     (tie.spec (λ c. search rules) (λ c κs. search rules) (λ c. search rules) (λ c. search rules)
-    (λ c κs.
-    (
+    (λ c κs. (
       c.requires.0.tables.accepted,
       attempt_finished _ _ _ _ _ _ c.explore.ensures _ c.in-Finished.is,
       omega (arith, c.requires.0.long),
       c.requires.1,
     ))
     (λ c. search rules)
-    (λ c κs.
-    (
+    (λ c κs. (
       record {
         tables = c.requires.0.tables;
         start = attempt_start _ _ _ _ _ _ c.explore.ensures c.in-Unfinished.is;

@@ -11,8 +11,7 @@ write_marked_spec =
     (λ c. search marked_laws) (λ c κs. search marked_laws) (λ c. search marked_laws) (λ c. search marked_laws) (λ c. search marked_laws)
     (λ c. search marked_laws) (λ c κs. search marked_laws) (λ c. search marked_laws) (λ c. search marked_laws) (λ c. search marked_laws)
     (λ c. search marked_laws) (λ c. search marked_laws) (λ c. search marked_laws) (λ c. search marked_laws)
-    (λ c κs.
-    (
+    (λ c κs. (
       ready _ _ _ _ c.requires.0 c.gather_written-n.ensures refl _ _ _ c.gather_accepting-k.ensures refl c.if-k-eq0.false _ _ c.requires.1
           c.requires.3,
       search marked_laws,

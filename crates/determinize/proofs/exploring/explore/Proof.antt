@@ -24,8 +24,7 @@ pub explore_spec : {M : Type 1} → statement M
 explore_spec =
     tie.close
     (tie.spec invariant-loop-i decreases-loop-i (λ c. search rules) (λ c κs. search rules)
-    (λ c.
-    (
+    (λ c. (
       c.requires.0.long,
       c.requires.1,
       search rules,
@@ -40,8 +39,7 @@ explore_spec =
     (λ c κs. search rules) (λ c. search rules) (λ c. search rules)
     (λ c. search (attempt_unfinished, rules))
     (λ c. search rules)
-    (λ c κs.
-    (
+    (λ c κs. (
       (
         c.requires.0.tables,
         record {
@@ -57,8 +55,7 @@ explore_spec =
     ))
     (λ c. search rules) (λ c. search rules) (λ c. search rules) (λ c. search rules)
     (λ c.
-    let visited = tried_visited _ _ _ _ _ _ _ _ _ _ _ _ c.visit_set.ensures.0 _ c.in-Finished.is in
-    (
+    let visited = tried_visited _ _ _ _ _ _ _ _ _ _ _ _ c.visit_set.ensures.0 _ c.in-Finished.is in (
       omega (arith, c.table-1.given, c.loop-i.invariant.0),
       omega (arith, c.notes-1.given, c.loop-i.invariant.1),
       omega (arith, c.notes-1.given, c.loop-i.invariant.2),

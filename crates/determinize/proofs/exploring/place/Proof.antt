@@ -12,19 +12,16 @@ place_spec =
     (place_empty _ _ _ c.requires.0 _ c.is_empty.ensures c.if-is_empty.true, c.requires.3))
     (λ c κs. (c.requires.3, omega (arith, c.requires.0), omega (arith, c.requires.0, c.requires.1), c.requires.2))
     (λ c κs. search rules) (λ c. search rules) (λ c. search rules) (λ c. search rules)
-    (λ c.
-    (
+    (λ c. (
       place_known _ _ _ c.requires.0 _ c.is_empty.ensures c.if-is_empty.false _ c.find-found.ensures.0 c.if-found-n.true,
       c.requires.3,
     ))
-    (λ c κs.
-    (
+    (λ c κs. (
       (c.requires.3, c.requires.0, omega (arith, c.requires.0, c.requires.1), c.requires.2),
       (place_absent _ _ _ c.requires.0 _ c.is_empty.ensures c.if-is_empty.false _ c.find-found.ensures.0 c.if-found-n.false, c.find-found.ensures.1),
     ))
     (λ c. search rules) (λ c. search rules) (λ c. search rules) (λ c. search rules)
-    (λ c.
-    (
+    (λ c. (
       place_new _ _ _ c.requires.0 _ c.is_empty.ensures c.if-is_empty.false _ c.find-found.ensures.0 c.if-found-n.false c.requires.1 _ c.add.ensures.0.0,
       c.add.ensures.1,
     )))

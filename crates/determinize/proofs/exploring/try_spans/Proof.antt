@@ -24,8 +24,7 @@ pub try_spans_spec : {M : Type 1} → statement M
 try_spans_spec =
     tie.close
     (tie.spec invariant-loop-a decreases-loop-a (λ c. search rules) (λ c. search rules) (λ c. search rules) (λ c. search (visit_begins, rules)) (λ c. search rules)
-    (λ c κs.
-    (
+    (λ c κs. (
       (c.requires.0.0, c.requires.0.1, c.loop-a-test.true, c.loop-a.invariant.0),
       (c.loop-a.invariant.5, c.loop-a.invariant.1, c.loop-a.invariant.13),
     ))
@@ -33,8 +32,7 @@ try_spans_spec =
     (λ c.
     omega (arith, c.table-1.given, c.loop-a.invariant.1, c.requires.1.0.long))
     (λ c. search rules) (λ c. search rules)
-    (λ c.
-    (
+    (λ c. (
       try_finished _ _ _ _ _ _ _ _ _ _ _ _
           (visit_over _ _ _ _ _ _ _ _ _ _ _ _ _ c.loop-a.invariant.11 c.loop-a-test.true _ c.visit-visited.ensures.0 _ _ _
           (visit_done _ _ _ _ _ _ _ _ _ _ _ c.visit-visited.ensures.1.0 c.note.ensures) c.if-n-eq256.true),
@@ -48,8 +46,7 @@ try_spans_spec =
     (λ c.
     omega (arith, c.table-1.given, c.loop-a.invariant.1, c.requires.1.0.long))
     (λ c. search rules) (λ c. search rules)
-    (λ c.
-    (
+    (λ c. (
       try_unfinished _ _ _ _ _ _ _ _ _ _ _
           (first_kept _ _ _ _ _ _ _ _ _ _ _ (visit_done _ _ _ _ _ _ _ _ _ _ _ c.visit-visited.ensures.1.0 c.note.ensures) c.loop-a.invariant.4 _ c.loop-a.invariant.9),
       placed_unfinished _ _,
@@ -73,8 +70,7 @@ try_spans_spec =
       c.visit-visited.ensures.1.1,
     ))
     (λ c. search rules) (λ c. search rules) (λ c. search rules)
-    (λ c.
-    (
+    (λ c. (
       try_finished _ _ _ _ _ _ _ _ _ _ _ _
           (visit_ended _ _ _ _ _ _ _ _ _ _ _ _ _ c.loop-a.invariant.11 c.loop-a-test.false c.loop-a.invariant.5 c.loop-a.invariant.10 c.loop-a.invariant.8 c.loop-a.invariant.6),
       placed_finished _ _ _ (placed_sets _ _ _ _ c.loop-a.invariant.13),

@@ -8,8 +8,7 @@ pub visit_set_spec : {M : Type 1} → statement M
 visit_set_spec =
     tie.close
     (tie.spec (λ c. search row_laws) (λ c κs. search row_laws) (λ c. search row_laws) (λ c. search row_laws)
-    (λ c κs.
-    (
+    (λ c κs. (
       (c.requires.0.0, record { canon = row_canon _ _ _ c.copy_row.ensures _ c.requires.0.2 _ c.requires.0.1.canonical; long = search rules }),
       (c.requires.0.1, omega (arith, c.requires.0.2), c.requires.1),
     ))

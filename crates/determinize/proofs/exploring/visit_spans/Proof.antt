@@ -24,8 +24,7 @@ pub visit_spans_spec : {M : Type 1} → statement M
 visit_spans_spec =
     tie.close
     (tie.spec invariant-loop-a decreases-loop-a (λ c. search rules) (λ c. search rules) (λ c. search rules) (λ c. search (visit_begins, rules)) (λ c. search rules)
-    (λ c κs.
-    (
+    (λ c κs. (
       (c.requires.0.0, c.requires.0.1, c.loop-a-test.true, c.loop-a.invariant.0),
       (c.loop-a.invariant.4, c.loop-a.invariant.1, c.loop-a.invariant.10),
     ))
@@ -35,8 +34,7 @@ visit_spans_spec =
     (λ c.
     omega (arith, c.places-1.given, c.loop-a.invariant.9))
     (λ c. search rules)
-    (λ c.
-    (
+    (λ c. (
       visit_over _ _ _ _ _ _ _ _ _ _ _ _ _ c.loop-a.invariant.8 c.loop-a-test.true _ c.visit-visited.ensures.0 _ _ _
           (visit_done _ _ _ _ _ _ _ _ _ _ _ c.visit-visited.ensures.1.0 c.note.ensures) c.if-n-eq256.true,
       placed_over _ _,

@@ -12,8 +12,7 @@ explore_by_events_spec =
     (λ c κs.
     (c.requires.0.tables.accepted, search rules, omega (arith, c.requires.1)))
     (λ c. search rules) (λ c. search rules) (λ c. search rules) (λ c. search rules) (λ c. search rules) (λ c. search rules)
-    (λ c κs.
-    (
+    (λ c κs. (
       c.requires.0,
       timed_lined _ _ _ _ c.order_events-opened.ensures,
       timed_lined _ _ _ _ c.order_events-ended.ensures,

@@ -21,8 +21,7 @@ pub explore_swept_spec : {M : Type 1} → statement M
 explore_swept_spec =
     tie.close
     (tie.spec invariant-loop-i decreases-loop-i (λ c. search rules) (λ c κs. search rules)
-    (λ c.
-    (
+    (λ c. (
       c.requires.0.long,
       c.requires.3,
       search rules,
@@ -34,8 +33,7 @@ explore_swept_spec =
       c.place_first.ensures.1,
     ))
     (λ c. search rules)
-    (λ c κs.
-    (
+    (λ c κs. (
       (c.requires.0.tables, c.requires.1, c.requires.2),
       (
         record {
@@ -50,8 +48,7 @@ explore_swept_spec =
       ),
     ))
     (λ c. search rules) (λ c. search rules) (λ c. search rules)
-    (λ c.
-    (
+    (λ c. (
       omega (arith, c.table-1.given, c.loop-i.invariant.0),
       omega (arith, c.notes-1.given, c.loop-i.invariant.1),
       omega (arith, c.notes-1.given, c.loop-i.invariant.2),

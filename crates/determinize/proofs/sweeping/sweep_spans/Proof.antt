@@ -52,8 +52,7 @@ sweep_spans_spec =
     (λ c κs.
     (c.loop-turn.invariant.11, c.requires.0.3, c.loop-turn-test.true))
     (λ c. search rules)
-    (λ c κs.
-    (
+    (λ c κs. (
       search rules,
       cut_some _ _ _ _ c.step-turn.ensures.0 c.loop-turn-test.true,
       cut_most _ _ _ _ c.step-turn.ensures.0 c.loop-turn.invariant.0,

@@ -10,8 +10,7 @@ visit_entry_spec =
     tie.close
     (tie.spec (λ c. search row_laws) (λ c κs. search row_laws) (λ c. search row_laws) (λ c κs. search row_laws) (λ c. search row_laws)
     (λ c. search row_laws)
-    (λ c κs.
-    (
+    (λ c κs. (
       (tables_closed _ _ _ c.requires.0.0, c.requires.0.1, c.requires.0.2, search rules),
       (c.requires.1.0, c.requires.1.2),
     ))
@@ -19,8 +18,7 @@ visit_entry_spec =
     (λ c.
     (row_visited _ _ _ c.copy_row.ensures _ c.requires.1.1 _ _ _ _ _ _ _ _ _ c.sweep_spans.ensures.0, c.sweep_spans.ensures.1))
     (λ c. search row_laws) (λ c. search row_laws)
-    (λ c κs.
-    (
+    (λ c κs. (
       (c.requires.0.0, record { canon = row_canon _ _ _ c.copy_row.ensures _ c.requires.1.1 _ c.requires.1.0.canonical; long = search rules }),
       (c.requires.1.0, c.requires.1.2),
     ))

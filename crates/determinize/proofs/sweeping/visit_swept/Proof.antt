@@ -12,8 +12,7 @@ visit_swept_spec =
     (c.requires.3, c.requires.4, search rules, c.requires.6, c.requires.7))
     (λ c. search rules) (λ c. search rules)
     (λ c κs. search rules) (λ c κs. search rules) (λ c. search rules) (λ c. search rules) (λ c. search rules)
-    (λ c.
-    (
+    (λ c. (
       visit_swept_done _ _ _ _ _ _ _ _ _ _ _ _ c.copy_row.ensures c.place_near-placed.ensures.0 c.note.ensures,
       (numbered_next _ _ _ _ _ _ _ c.place_near-placed.ensures.0 c.requires.6 c.next_near.ensures, c.place_near-placed.ensures.1),
     )))

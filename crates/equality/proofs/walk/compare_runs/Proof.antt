@@ -36,12 +36,12 @@ loop-k-preserved : tie.Need-loop-k-preserved invariant-loop-k decreases-loop-k i
 loop-k-preserved c =
     runs_next_b _ _ _ _ _ _ _ _ _ _ _ _
     (elim c.match-first_common.branch [
-      in-Nothing w ↦
-        rw (w.repr-is, w.size-is, w.queue-is, w.trail-is, w.made-is) (runs_skip _ _ _ _ _ _ _ _ _ _ _ _ c.loop-k.invariant _ c.first_common.ensures w.in-Nothing.is)
+      | in-Nothing w ↦
+          rw (w.repr-is, w.size-is, w.queue-is, w.trail-is, w.made-is) (runs_skip _ _ _ _ _ _ _ _ _ _ _ _ c.loop-k.invariant _ c.first_common.ensures w.in-Nothing.is)
       | in-Symbol+else-accept_word w ↦
-        rw (w.repr-is, w.size-is, w.queue-is, w.trail-is, w.made-is)
-        (runs_joined _ _ _ _ _ _ _ _ _ _ _ _ c.loop-k.invariant _ c.first_common.ensures _ w.in-Symbol.is c.if-ca-j.false c.if-cb-k.false
-        _ _ w.accept_word.ensures w.accept_word-in-Symbol.ensures w.if-accept_word.false _ w.join_pair-more.ensures _ w.put_step.ensures)
+          rw (w.repr-is, w.size-is, w.queue-is, w.trail-is, w.made-is)
+          (runs_joined _ _ _ _ _ _ _ _ _ _ _ _ c.loop-k.invariant _ c.first_common.ensures _ w.in-Symbol.is c.if-ca-j.false c.if-cb-k.false
+          _ _ w.accept_word.ensures w.accept_word-in-Symbol.ensures w.if-accept_word.false _ w.join_pair-more.ensures _ w.put_step.ensures)
     ])
     c.if-last-rb.false
 
@@ -49,12 +49,12 @@ runs-preserved : tie.Need-runs-preserved invariant-loop-k decreases-loop-k invar
 runs-preserved c =
     runs_next_a _ _ _ _ _ _ _ _ _ _ _ _
     (elim c.match-first_common.branch [
-      in-Nothing w ↦
-        rw (w.repr-is, w.size-is, w.queue-is, w.trail-is, w.made-is) (runs_skip _ _ _ _ _ _ _ _ _ _ _ _ c.loop-k.invariant _ c.first_common.ensures w.in-Nothing.is)
+      | in-Nothing w ↦
+          rw (w.repr-is, w.size-is, w.queue-is, w.trail-is, w.made-is) (runs_skip _ _ _ _ _ _ _ _ _ _ _ _ c.loop-k.invariant _ c.first_common.ensures w.in-Nothing.is)
       | in-Symbol+else-accept_word w ↦
-        rw (w.repr-is, w.size-is, w.queue-is, w.trail-is, w.made-is)
-        (runs_joined _ _ _ _ _ _ _ _ _ _ _ _ c.loop-k.invariant _ c.first_common.ensures _ w.in-Symbol.is c.if-ca-j.false c.if-cb-k.false
-        _ _ w.accept_word.ensures w.accept_word-in-Symbol.ensures w.if-accept_word.false _ w.join_pair-more.ensures _ w.put_step.ensures)
+          rw (w.repr-is, w.size-is, w.queue-is, w.trail-is, w.made-is)
+          (runs_joined _ _ _ _ _ _ _ _ _ _ _ _ c.loop-k.invariant _ c.first_common.ensures _ w.in-Symbol.is c.if-ca-j.false c.if-cb-k.false
+          _ _ w.accept_word.ensures w.accept_word-in-Symbol.ensures w.if-accept_word.false _ w.join_pair-more.ensures _ w.put_step.ensures)
     ])
     c.if-last-rb.true
 

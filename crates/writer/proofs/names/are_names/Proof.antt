@@ -23,8 +23,7 @@ are_names_spec =
     (λ c. search listed_laws) (λ c. search listed_laws) (λ c κs. search listed_laws) (λ c. search listed_laws) (λ c. search listed_laws)
     (λ c κs. search listed_laws) (λ c. search listed_laws) (λ c. search listed_laws) (λ c. search listed_laws) (λ c. search listed_laws)
     (λ c. search listed_laws) (λ c. search listed_laws)
-    (λ c.
-    (
+    (λ c. (
       search rules,
       listed_next _ _ _ _ c.requires.0 c.requires.1 c.loop-i-test.true _
           c.next_label-next.ensures _ _

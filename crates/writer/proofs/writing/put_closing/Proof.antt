@@ -7,5 +7,5 @@ pub put_closing_spec : {M : Type 1} → statement M
 put_closing_spec =
     tie.close
     (tie.spec
-     (λ c κs. search closing_laws) (λ c κs. search closing_laws) (λ c κs. search closing_laws)
+    (λ c κs. search closing_laws) (λ c κs. search closing_laws) (λ c κs. search closing_laws)
     (λ c. search closing_laws) (λ c. search closing_laws))

@@ -7,5 +7,5 @@ pub put_heading_spec : {M : Type 1} → statement M
 put_heading_spec =
     tie.close
     (tie.spec
-     (λ c κs. search heading_laws) (λ c κs. search heading_laws) (λ c κs. search heading_laws) (λ c. search heading_laws)
+    (λ c κs. search heading_laws) (λ c κs. search heading_laws) (λ c κs. search heading_laws) (λ c. search heading_laws)
     (λ c. search heading_laws))

@@ -7,7 +7,7 @@ pub put_range_spec : {M : Type 1} → statement M
 put_range_spec =
     tie.close
     (tie.spec
-     (λ c κs. search range_laws) (λ c κs. search range_laws) (λ c κs. search range_laws)
+    (λ c κs. search range_laws) (λ c κs. search range_laws) (λ c κs. search range_laws)
     (λ c κs. search range_laws) (λ c κs. search range_laws) (λ c. search range_laws)
     (λ c.
     range_put _ _ _ _ c.requires _ _ c.put_bytes-first.ensures _ _ c.put_decimal-comma.ensures _ _ c.put_bytes-last.ensures
