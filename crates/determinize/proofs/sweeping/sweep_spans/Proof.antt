@@ -70,7 +70,7 @@ sweep_spans_spec =
     omega (arith, c.notes-1.given, c.loop-turn.invariant.5))
     (λ c.
     let visited = visited_root _ _ _ _ _ _ _ _ _ _ _ c.step-turn.ensures.1.0 c.visit_swept-placed.ensures.0 in
-    (visit_over _ _ _ _ _ _ _ _ _ _ _ _ _ c.loop-turn.invariant.10 c.loop-turn-test.true _ c.step-turn.ensures.0 _ _ _ visited c.if-n-eq256.true, placed_over _ _))
+    (visit_over _ _ _ _ _ _ _ _ _ _ _ _ _ c.loop-turn.invariant.10 c.loop-turn-test.true _ c.step-turn.ensures.0 _ _ _ visited (omega arith), placed_over _ _))
     (λ c.
     omega (arith, c.loop-turn.invariant.8, c.loop-turn.invariant.7, c.loop-turn.invariant.1))
     (λ c.
