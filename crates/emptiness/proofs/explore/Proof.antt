@@ -31,17 +31,6 @@ accept_word-requires c κs =
     let pre = c.requires in
     (pre.accepted, state_bound _ _ _ _ _ pre _ _ _ _ c.loop-q.invariant)
 
-shape_of-marks-then-accept_word-gt0 : tie.Need-shape_of-marks-then-accept_word-gt0 invariant-loop-q decreases-loop-q
-shape_of-marks-then-accept_word-gt0 c = search search_laws
-
-shape_of-stack-then-accept_word-gt0 : tie.Need-shape_of-stack-then-accept_word-gt0 invariant-loop-q decreases-loop-q
-shape_of-stack-then-accept_word-gt0 c = search search_laws
-
-returns-then-accept_word-gt0 : tie.Need-returns-then-accept_word-gt0 invariant-loop-q decreases-loop-q
-returns-then-accept_word-gt0 c =
-    let pre = c.requires in
-    state_accepts _ _ _ _ _ pre _ _ _ _ c.loop-q.invariant _ c.accept_word.ensures c.if-accept_word-gt0.true
-
 overflow_cast-p : tie.Need-overflow_cast-p invariant-loop-q decreases-loop-q
 overflow_cast-p c =
     let pre = c.requires in
@@ -136,12 +125,12 @@ push_unmet-top-requires c κs =
 loop-q-smaller-then-marks-first-eq0 : tie.Need-loop-q-smaller-then-marks-first-eq0 invariant-loop-q decreases-loop-q
 loop-q-smaller-then-marks-first-eq0 c =
     let pre = c.requires in
-    first_less _ _ _ _ _ pre _ _ _ _ c.loop-q.invariant c.if-marks-first-eq0.true _ c.accept_word.ensures c.if-accept_word-gt0.false _ _ _ c.push_unmet-top.ensures
+    first_less _ _ _ _ _ pre _ _ _ _ c.loop-q.invariant c.if-marks-first-eq0.true _ c.accept_word.ensures (omega arith) _ _ _ c.push_unmet-top.ensures
 
 loop-q-preserved-then-marks-first-eq0 : tie.Need-loop-q-preserved-then-marks-first-eq0 invariant-loop-q decreases-loop-q
 loop-q-preserved-then-marks-first-eq0 c =
     let pre = c.requires in
-    search_first _ _ _ _ _ pre _ _ _ _ c.loop-q.invariant c.if-marks-first-eq0.true _ c.accept_word.ensures c.if-accept_word-gt0.false _ _ _ c.push_unmet-top.ensures
+    search_first _ _ _ _ _ pre _ _ _ _ c.loop-q.invariant c.if-marks-first-eq0.true _ c.accept_word.ensures (omega arith) _ _ _ c.push_unmet-top.ensures
 
 push_unmet-top-requires-else-marks-first-eq0 : tie.Need-push_unmet-top-requires-else-marks-first-eq0 invariant-loop-q decreases-loop-q
 push_unmet-top-requires-else-marks-first-eq0 c κs =
@@ -157,7 +146,7 @@ shape_of-stack-then-top-eq0 c = search search_laws
 returns-then-top-eq0 : tie.Need-returns-then-top-eq0 invariant-loop-q decreases-loop-q
 returns-then-top-eq0 c =
     let pre = c.requires in
-    search_end _ _ _ _ _ pre _ _ _ _ c.loop-q.invariant _ c.accept_word.ensures c.if-accept_word-gt0.false _ _ _ c.push_unmet-top-else-marks-first-eq0.ensures c.if-top-eq0.true
+    search_end _ _ _ _ _ pre _ _ _ _ c.loop-q.invariant _ c.accept_word.ensures (omega arith) _ _ _ c.push_unmet-top-else-marks-first-eq0.ensures c.if-top-eq0.true
 
 overflow_sub-top : tie.Need-overflow_sub-top invariant-loop-q decreases-loop-q
 overflow_sub-top c = search search_laws
@@ -168,17 +157,17 @@ offset_bounds-stack-top c = search search_laws
 bounds-stack-top : tie.Need-bounds-stack-top invariant-loop-q decreases-loop-q
 bounds-stack-top c =
     let pre = c.requires in
-    back_place _ _ _ _ _ pre _ _ _ _ c.loop-q.invariant _ c.accept_word.ensures c.if-accept_word-gt0.false _ _ _ c.push_unmet-top-else-marks-first-eq0.ensures c.if-top-eq0.false
+    back_place _ _ _ _ _ pre _ _ _ _ c.loop-q.invariant _ c.accept_word.ensures (omega arith) _ _ _ c.push_unmet-top-else-marks-first-eq0.ensures c.if-top-eq0.false
 
 loop-q-smaller : tie.Need-loop-q-smaller invariant-loop-q decreases-loop-q
 loop-q-smaller c =
     let pre = c.requires in
-    back_less _ _ _ _ _ pre _ _ _ _ c.loop-q.invariant _ c.accept_word.ensures c.if-accept_word-gt0.false _ _ _ c.push_unmet-top-else-marks-first-eq0.ensures c.if-top-eq0.false
+    back_less _ _ _ _ _ pre _ _ _ _ c.loop-q.invariant _ c.accept_word.ensures (omega arith) _ _ _ c.push_unmet-top-else-marks-first-eq0.ensures c.if-top-eq0.false
 
 loop-q-preserved : tie.Need-loop-q-preserved invariant-loop-q decreases-loop-q
 loop-q-preserved c =
     let pre = c.requires in
-    search_back _ _ _ _ _ pre _ _ _ _ c.loop-q.invariant _ c.accept_word.ensures c.if-accept_word-gt0.false _ _ _ c.push_unmet-top-else-marks-first-eq0.ensures c.if-top-eq0.false
+    search_back _ _ _ _ _ pre _ _ _ _ c.loop-q.invariant _ c.accept_word.ensures (omega arith) _ _ _ c.push_unmet-top-else-marks-first-eq0.ensures c.if-top-eq0.false
 
 pub explore_spec : {M : Type 1} → statement M
 explore_spec =
@@ -191,9 +180,11 @@ explore_spec =
     bounds-marks-q
     loop-q-init
     accept_word-requires
-    shape_of-marks-then-accept_word-gt0
-    shape_of-stack-then-accept_word-gt0
-    returns-then-accept_word-gt0
+    (λ c. search search_laws)
+    (λ c. search search_laws)
+    (λ c.
+    let pre = c.requires in
+    state_accepts _ _ _ _ _ pre _ _ _ _ c.loop-q.invariant _ c.accept_word.ensures (omega arith))
     overflow_cast-p
     overflow_add-end
     offset_bounds-starts-p

@@ -84,12 +84,6 @@ loop-at-preserved-then-marks-from-eq0 c =
     let inv = c.loop-at.invariant.2 in
     (omega (arith, c.loop-at.invariant.0, c.if-idle-eq-MOST_IDLE.false), omega (arith, c.loop-at-test.true), up_unmet _ pre.0 _ _ inv c.loop-at-test.true c.if-marks-from-eq0.true)
 
-shape_of-marks-then-to-from : tie.Need-shape_of-marks-then-to-from invariant-loop-at decreases-loop-at
-shape_of-marks-then-to-from c = search up_laws
-
-returns-then-to-from : tie.Need-returns-then-to-from invariant-loop-at decreases-loop-at
-returns-then-to-from c = undecided c.loop-at.invariant.2.met
-
 accept_word-requires : tie.Need-accept_word-requires invariant-loop-at decreases-loop-at
 accept_word-requires c κs =
     let pre = c.requires in
@@ -121,7 +115,7 @@ loop-at-preserved-else-marks-from-eq0 : tie.Need-loop-at-preserved-else-marks-fr
 loop-at-preserved-else-marks-from-eq0 c =
     let pre = c.requires in
     let inv = c.loop-at.invariant.2 in
-    (c.loop-at.invariant.0, omega (arith, c.loop-at-test.true), up_marks _ pre.0 _ _ inv c.loop-at-test.true c.if-marks-from-eq0.false _ c.accept_word.ensures c.if-accept_word-gt0.false c.if-to-from.false)
+    (c.loop-at.invariant.0, omega (arith, c.loop-at-test.true), up_marks _ pre.0 _ _ inv c.loop-at-test.true c.if-marks-from-eq0.false _ c.accept_word.ensures c.if-accept_word-gt0.false (omega arith))
 
 loop-at-smaller : tie.Need-loop-at-smaller invariant-loop-at decreases-loop-at
 loop-at-smaller c = search up_laws
@@ -142,6 +136,6 @@ pub pass_up_spec : {M : Type 1} → statement M
 pass_up_spec =
     tie.close
     (tie.spec invariant-loop-at decreases-loop-at bounds-s-2 overflow_cast-at overflow_add-at loop-at-init overflow_sub-s overflow_add-to offset_bounds-s-record bounds-s-record overflow_add-at-in-loop-at overflow_cast-to
-    bounds-marks-to offset_bounds-s-record-then-marks-to-eq0 bounds-s-record-then-marks-to-eq0 overflow_cast-from bounds-marks-from shape_of-marks-then-idle-eq-MOST_IDLE returns-then-idle-eq-MOST_IDLE overflow_add-idle loop-at-smaller-then-marks-from-eq0 loop-at-preserved-then-marks-from-eq0 shape_of-marks-then-to-from returns-then-to-from
+    bounds-marks-to offset_bounds-s-record-then-marks-to-eq0 bounds-s-record-then-marks-to-eq0 overflow_cast-from bounds-marks-from shape_of-marks-then-idle-eq-MOST_IDLE returns-then-idle-eq-MOST_IDLE overflow_add-idle loop-at-smaller-then-marks-from-eq0 loop-at-preserved-then-marks-from-eq0 (λ c. search up_laws) (λ c. undecided c.loop-at.invariant.2.met)
     accept_word-requires shape_of-marks-then-accept_word-gt0 returns-then-accept_word-gt0 overflow_cast-marks bounds-marks-to-else-marks-from-eq0 loop-at-smaller-else-marks-from-eq0 loop-at-preserved-else-marks-from-eq0 loop-at-smaller loop-at-preserved shape_of-marks
     returns)
