@@ -1,5 +1,5 @@
 -- Demand 3 whole.
---   demand-3     what `ringmatch_equality` answers, and that the products of each determinization with the other's complement, made by
+--   demand_3     what `ringmatch_equality` answers, and that the products of each determinization with the other's complement, made by
 --                `ringmatch_determinize`, `ringmatch_complement` and `ringmatch_intersection`, are empty by `ringmatch_has_reachable_accepting_state`
 --                exactly in the equal case
 -- Assumes nothing.

@@ -7,7 +7,7 @@ last_digits zero n = []
 last_digits (suc k) n = elim (ltb n 10) [ true ↦ (48 + n) ∷ [] | false ↦ last_digits k (n / 10) ++ (48 + n % 10) ∷ [] ]
 
 -- all digits of n, of which there are at most n + 1: a number below 10 is one digit, any other has the digits of n / 10 and
--- then that of n % 10 (the laws `digits-one` and `digits_more`)
+-- then that of n % 10 (the laws `digits_one` and `digits_more`)
 unfoldable pub digits : ℕ → List ℕ
 digits n = last_digits (suc n) n
 

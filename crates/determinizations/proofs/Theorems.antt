@@ -1,13 +1,13 @@
 -- What is proved of the determinizations of two automata.
---   determinized-both      where both are given, they are the two automata
---   determinized-parts     and only then
---   determinized-first, determinized-second     a refusal of the first is that of both, and so is one of the second behind it
---   determinized-21, determinized-22     each refusal, exactly
---   determinized-number    there is no other
---   determinized-given     nothing is refused exactly where both fit
---   total-few              both have at most 512 states together
---   accepts-determinized   the accept word at the end of a word says whether the automaton accepts it
---   same-words, one_word   where no word tells the determinizations apart the automata accept the same words; a word that does is accepted by exactly one
+--   determinized_both      where both are given, they are the two automata
+--   determinized_parts     and only then
+--   determinized_first, determinized_second     a refusal of the first is that of both, and so is one of the second behind it
+--   determinized_21, determinized_22     each refusal, exactly
+--   determinized_number    there is no other
+--   determinized_given     nothing is refused exactly where both fit
+--   total_few              both have at most 512 states together
+--   accepts_determinized   the accept word at the end of a word says whether the automaton accepts it
+--   same_words, one_word   where no word tells the determinizations apart the automata accept the same words; a word that does is accepted by exactly one
 -- Assumes nothing.
 use Prim.Native.Nat.{ℕ, zero, suc, ◌≤◌, ◌<◌}
 use mathlib.Core.List.{List}

@@ -1,18 +1,18 @@
 -- What is proved of determinizing, for every automaton whose states are in bounds. An accepted sheet reads as such an automaton, and as a
 -- well-formed one. `lower` and `upper` are the least and the greatest symbol.
--- determinize-parts, determinize-holes, determinize-targets: the parts, the holes and the targets of a set are those of document 01.
--- determinize-words, determinize-kinds: the words are kept.
--- determinize-one, determinize-deterministic, determinize-between: every symbol has exactly one transition in every state.
--- determinize-reached, determinize-sink: words lead to all states but the last, which is the sink.
--- determinize-state: states are sets; determinize-part, determinize-hole, determinize-only: each part and each hole has its transition, and there are
+-- determinize_parts, determinize_holes, determinize_targets: the parts, the holes and the targets of a set are those of document 01.
+-- determinize_words, determinize_kinds: the words are kept.
+-- determinize_one, determinize_deterministic, determinize_between: every symbol has exactly one transition in every state.
+-- determinize_reached, determinize_sink: words lead to all states but the last, which is the sink.
+-- determinize_state: states are sets; determinize_part, determinize_hole, determinize_only: each part and each hole has its transition, and there are
 -- no others.
--- reached-listed, determinize-states, determinize-transitions: how many states and transitions there are, counted in a list of the sets.
--- determinize-wellformed, determinize-fits, determinize-written, determinize-read, determinize-room: the result can be written as a sheet.
--- refused-21, refused-22, determinize-given: the exact conditions of the answers.
+-- reached_listed, determinize_states, determinize_transitions: how many states and transitions there are, counted in a list of the sets.
+-- determinize_wellformed, determinize_fits, determinize_written, determinize_read, determinize_room: the result can be written as a sheet.
+-- refused_21, refused_22, determinize_given: the exact conditions of the answers.
 -- Of the call `determinize::determinize`, from its contract:
--- determinize-left, determinize-left-words, determinize-left-one: the result that it leaves in the outputs.
--- determinize-20, determinize-fault, determinize-21, determinize-22, determinize-0: the exact conditions of its refusals, and of none.
--- determinize-unchanged: a refusal leaves the outputs as they were.
+-- determinize_left, determinize_left_words, determinize_left_one: the result that it leaves in the outputs.
+-- determinize_20, determinize_fault, determinize_21, determinize_22, determinize_0: the exact conditions of its refusals, and of none.
+-- determinize_unchanged: a refusal leaves the outputs as they were.
 use Rattle.std.proofs.Common.{◌≡◌, ℕ, suc, ◌+◌, ◌<◌, ◌≤◌, ◌⊎◌, ◌↔◌, List, [], ◌∷◌, length, take, sym, refl, ap, ◌∙◌, subst, arith}
 use Rattle.lists.specs.Lists.{◌∈◌, any, filter}
 use Rattle.lists.proofs.Lists.{filter_out, length_tabulate}

@@ -1,6 +1,6 @@
 -- What `new`, `find` and `union` answer, and the sets afterwards, on every value of the struct: `repr` has each element's parent,
 -- `size` the size of its class, and n is the number of elements. The refusal `Element` is document 01's 23, `JoinSets` its 24.
--- After a refusal the sets are as they were. `union` is that on lent arrays, `unionIn`, on copies of the struct's.
+-- After a refusal the sets are as they were. `union` is that on lent arrays, `union_in`, on copies of the struct's.
 use Rattle.std.specs.Prelude.{ℕ, zero, suc, ◌+◌, cond, List, [], ◌∷◌, ◌++◌, leb, ltb, eqb, get_or, set, replicate}
 use Rattle.refusal.specs.declared.StateRefusal.{StateRefusal}
 use Rattle.refusal.specs.declared.StateRefusal.TheVariants.{Element, JoinSets}

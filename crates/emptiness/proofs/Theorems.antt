@@ -1,11 +1,11 @@
 -- What is proved of emptiness:
---   reachable-call: true is answered exactly when a path from the start leads to a state that accepts
---   empty-call: false is answered exactly when no word is accepted
---   empty-call-symbols: the same of words of u32 symbols, for a sheet of u32 words
---   refused-call: a refusal is answered exactly when it is the sheet's fault
---   reachable-paths, accepting-paths: the reachable states are those that paths lead to
---   empty-exact, empty-symbols, empty-sheet: an automaton whose ranges are not empty accepts no word exactly when no reachable state accepts
---   reachable-refused: the answer of the definition is the sheet's fault, where it has one
+--   reachable_call: true is answered exactly when a path from the start leads to a state that accepts
+--   empty_call: false is answered exactly when no word is accepted
+--   empty_call_symbols: the same of words of u32 symbols, for a sheet of u32 words
+--   refused_call: a refusal is answered exactly when it is the sheet's fault
+--   reachable_paths, accepting_paths: the reachable states are those that paths lead to
+--   empty_exact, empty_symbols, empty_sheet: an automaton whose ranges are not empty accepts no word exactly when no reachable state accepts
+--   reachable_refused: the answer of the definition is the sheet's fault, where it has one
 use Prim.Native.Nat.{ℕ, zero, suc, ◌+◌, ◌≤◌, ◌<◌}
 use mathlib.Core.Bool.{Bool, true, false, cond, true≢false}
 use mathlib.Core.List.{List, [], ◌∷◌}

@@ -1,20 +1,20 @@
 -- What is proved of epsilon elimination (document 01, "Beside the equality").
 --
 -- Of an automaton whose states are in bounds, as an accepted sheet reads:
---   eliminate-words        the words are kept
---   eliminate-kinds        and so are the accept words that they get
---   eliminate-ranges       no transition is an epsilon
---   eliminate-transitions  each state has the ranges of its closure
---   eliminate-accept       and its acceptance
+--   eliminate_words        the words are kept
+--   eliminate_kinds        and so are the accept words that they get
+--   eliminate_ranges       no transition is an epsilon
+--   eliminate_transitions  each state has the ranges of its closure
+--   eliminate_accept       and its acceptance
 -- Of the call on the sheet s with the labels b, from its contract:
---   eliminate-left         where lengths are answered, the eliminated automaton and the labels of the input stand in the outputs
---   eliminate-left-words   the sheet left accepts the words that s accepts
---   eliminate-left-ranges  it has no epsilon
---   eliminate-left-states  it has the states and the start of s
---   eliminate-lengths      where lengths are answered, exactly
---   eliminate-20, eliminate-fault, eliminate-10, eliminate-22, eliminate-never-21
+--   eliminate_left         where lengths are answered, the eliminated automaton and the labels of the input stand in the outputs
+--   eliminate_left_words   the sheet left accepts the words that s accepts
+--   eliminate_left_ranges  it has no epsilon
+--   eliminate_left_states  it has the states and the start of s
+--   eliminate_lengths      where lengths are answered, exactly
+--   eliminate_20, eliminate_fault, eliminate_10, eliminate_22, eliminate_never_21
 --                          where each number is answered, exactly
---   eliminate-unchanged    a refusal leaves both outputs as they were
+--   eliminate_unchanged    a refusal leaves both outputs as they were
 use Prim.Native.Nat.{ℕ, ◌≤◌, ◌<◌}
 use mathlib.Core.List.{List, []}
 use mathlib.Core.Logic.{◌↔◌}

@@ -1,4 +1,4 @@
--- What the refusal of a verdict says: the number is that of the answer `equalityAnswer`, and each of its numbers has one condition. Assumes nothing.
+-- What the refusal of a verdict says: the number is that of the answer `equality_answer`, and each of its numbers has one condition. Assumes nothing.
 use Prim.Native.Nat.{ℕ, ◌≤◌, ◌<◌}
 use mathlib.Core.Bool.{Bool, true, false}
 use mathlib.Core.List.{List}

@@ -1,12 +1,12 @@
 -- What is proved of exact equality, against Rabin and Scott's acceptance: demand 3 but for its products, which crate `crossed` adds.
---   equality-exact      the verdict on two sheets whose determinizations are given: same exactly where every word is accepted by both or by neither, else
+--   equality_exact      the verdict on two sheets whose determinizations are given: same exactly where every word is accepted by both or by neither, else
 --                       a word that exactly one accepts; the joins
---   equality-within     the same where both determinizations fit 256 states and 2,048 transitions
---   forced-smallest     the equivalence whose classes the joins count is the smallest such
---   classes-number      it has one number of classes
---   equality-20, equality-fault, equality-21, equality-22     each refusal of the call, exactly
---   equality-given      the call refuses nothing else
---   equality-kept       after a refusal the lent word is as it was
+--   equality_within     the same where both determinizations fit 256 states and 2,048 transitions
+--   forced_smallest     the equivalence whose classes the joins count is the smallest such
+--   classes_number      it has one number of classes
+--   equality_20, equality_fault, equality_21, equality_22     each refusal of the call, exactly
+--   equality_given      the call refuses nothing else
+--   equality_kept       after a refusal the lent word is as it was
 -- Assumes nothing.
 use Prim.Native.Nat.{ℕ, ◌≤◌, ◌<◌}
 use mathlib.Core.List.{List}

@@ -32,7 +32,7 @@ pub record Smallest (t : Two) (R : ℕ → ℕ → Type 0) : Type 1 where
   pub joins : JoinsSuccessors t R
   pub least : (S : ℕ → ℕ → Type 0) → JoinsSuccessors t S → (p q : ℕ) → R p q → S p q
 
--- what follows from the starts; of two determinizations this is the smallest (the theorem `forced-smallest`)
+-- what follows from the starts; of two determinizations this is the smallest (the theorem `forced_smallest`)
 pub data Forced (t : Two) : ℕ → ℕ → Type 0 where
   starts : Forced t (left t t.one.start) (right t t.two.start)
   follow : {p q : ℕ} (x : ℕ) → Symbol t x → Forced t p q → Forced t (successor_in t p x) (successor_in t q x)

@@ -1,9 +1,9 @@
 -- What is proved of `is_equivalent`:
---   equivalent-call, different-call: true is answered exactly when no pair that equal triggers reach differs, false exactly when one does
---   words-call: without epsilons or overlaps, an answer of true implies equal words
---   refused-call: a refusal is answered exactly when it is the first sheet's fault or, where that has none, the second's
---   equivalent-exact, different-exact, equivalent-words: the same of well-formed automata; an accepted sheet reads as one
---   sheets-exact, sheets-words, equivalent-refused: the same of the definition's answer for two sheets
+--   equivalent_call, different_call: true is answered exactly when no pair that equal triggers reach differs, false exactly when one does
+--   words_call: without epsilons or overlaps, an answer of true implies equal words
+--   refused_call: a refusal is answered exactly when it is the first sheet's fault or, where that has none, the second's
+--   equivalent_exact, different_exact, equivalent_words: the same of well-formed automata; an accepted sheet reads as one
+--   sheets_exact, sheets_words, equivalent_refused: the same of the definition's answer for two sheets
 use Prim.Native.Nat.{ℕ}
 use mathlib.Core.Bool.{Bool, true, false, cond}
 use mathlib.Core.List.{List}

@@ -1,8 +1,8 @@
 -- What is proved of label lists:
---   labels-exact: bytes are the labels of n states without a fault exactly when they are the writing of n labels of 1 to 64 bytes
---   write_read, read-write: each of reading and writing undoes the other
---   fault-write: what is written of labels has no fault
---   size-write: 256 labels fit the output's fixed size
+--   labels_exact: bytes are the labels of n states without a fault exactly when they are the writing of n labels of 1 to 64 bytes
+--   write_read, read_write: each of reading and writing undoes the other
+--   fault_write: what is written of labels has no fault
+--   size_write: 256 labels fit the output's fixed size
 use Prim.Native.Nat.{ℕ, ◌≤◌}
 use mathlib.Core.List.{List}
 use mathlib.Core.Logic.{◌↔◌}

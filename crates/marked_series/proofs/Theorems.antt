@@ -1,13 +1,13 @@
--- What is proved of marked series (document 02, M-103). The answer of `accepts_series` is `acceptsSeriesAnswer s w mark`, for the sheet s and the series w:
---   series-unfinished   with the mark 1 the answer for w and one more ring is that of `accepts_words` for w, whatever the ring
---   series-whole        with the mark 0 it is that of `accepts_words` for w
---   series-empty        for the empty series it is that of `accepts_words`, with the mark 0 as with 1
---   series-given        an accept word is answered exactly where the sheet has no fault and the mark is 0 or 1
---   series-accepts      it is not 0 exactly where a run accepts the whole rings
---   series-bit          it is 0 or 1
---   series-some         no refusal has the number 0
---   series-fault        1 to 6 are answered exactly where the sheet has that fault
---   series-34           34 exactly where the sheet has no fault and the mark is over 1
+-- What is proved of marked series (document 02, M-103). The answer of `accepts_series` is `accepts_series_answer s w mark`, for the sheet s and the series w:
+--   series_unfinished   with the mark 1 the answer for w and one more ring is that of `accepts_words` for w, whatever the ring
+--   series_whole        with the mark 0 it is that of `accepts_words` for w
+--   series_empty        for the empty series it is that of `accepts_words`, with the mark 0 as with 1
+--   series_given        an accept word is answered exactly where the sheet has no fault and the mark is 0 or 1
+--   series_accepts      it is not 0 exactly where a run accepts the whole rings
+--   series_bit          it is 0 or 1
+--   series_some         no refusal has the number 0
+--   series_fault        1 to 6 are answered exactly where the sheet has that fault
+--   series_34           34 exactly where the sheet has no fault and the mark is over 1
 use Prim.Native.Nat.{ℕ, zero, suc, ◌≤◌, ◌<◌}
 use mathlib.Core.Bool.{true, false}
 use mathlib.Core.List.{List, [], ◌∷◌, ◌++◌}

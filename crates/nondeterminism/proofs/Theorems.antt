@@ -1,13 +1,13 @@
 -- What is proved of `is_nfa` (document 01, "Product, totality, complement, emptiness").
 --
 -- Of an automaton; `lower` and `upper` are the least and the greatest symbol:
---   nfa-deterministic-at   `is_nfa` is false exactly where no state has an epsilon, an overlap or a hole
+--   nfa_deterministic_at   `is_nfa` is false exactly where no state has an epsilon, an overlap or a hole
 -- Of a well-formed one, as an accepted sheet reads:
---   nfa-nondeterministic   and true exactly where there is one of them
---   nfa-exact              it is false exactly where every symbol has one transition in every state and no epsilon stands
---   nfa-sheet              the same of a sheet of 32-bit words
+--   nfa_nondeterministic   and true exactly where there is one of them
+--   nfa_exact              it is false exactly where every symbol has one transition in every state and no epsilon stands
+--   nfa_sheet              the same of a sheet of 32-bit words
 -- Of the call of `is_nfa` on the sheet s, from its contract:
---   is-nfa-yes, is-nfa-no, is-nfa-deterministic, is-nfa-refused
+--   is_nfa_yes, is_nfa_no, is_nfa_deterministic, is_nfa_refused
 --                          where each answer is given, exactly
 use Prim.Native.Nat.{ℕ, ◌≤◌, ◌<◌}
 use mathlib.Core.Bool.{Bool, true, false}

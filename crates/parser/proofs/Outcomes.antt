@@ -1,4 +1,4 @@
--- What `readingAnswer` answers, by cases, and the exact condition of each answer.
+-- What `reading_answer` answers, by cases, and the exact condition of each answer.
 use Prim.Native.Nat.{ℕ, ◌≤◌, ◌<◌}
 use mathlib.Core.List.{List}
 use mathlib.Core.Logic.{◌↔◌}

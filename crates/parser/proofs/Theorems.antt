@@ -1,18 +1,18 @@
 -- What is proved of `parse_automaton`.
--- What a text means that says s, where `statesOf s` are the labels and the place of a label is the number of its state:
--- parse-start: the start is state 0, and its label is the initial name;
--- parse-size: there is a state for each label;
--- parse-states: the labels are the initial name and the names in transitions;
--- parse-labels-distinct: no label stands twice;
--- parse-numbered: states number by appearance;
--- parse-transitions: a transition is there exactly where the text says it between the states that it names;
--- parse-accept: a state accepts exactly where its label is among the accepting names.
+-- What a text means that says s, where `states_of s` are the labels and the place of a label is the number of its state:
+-- parse_start: the start is state 0, and its label is the initial name;
+-- parse_size: there is a state for each label;
+-- parse_states: the labels are the initial name and the names in transitions;
+-- parse_labels_distinct: no label stands twice;
+-- parse_numbered: states number by appearance;
+-- parse_transitions: a transition is there exactly where the text says it between the states that it names;
+-- parse_accept: a state accepts exactly where its label is among the accepting names.
 -- The call, by its contract:
--- parse-left: the bytes that were read are a text of the rules, and the outputs hold what it means;
--- parse-read: nothing is refused exactly where there is room, a text stands at the front whose accepting names are states, and it is within the limits;
--- parse-20, parse-8, parse-33, parse-21, parse-22: each number exactly by its condition;
--- parse-refused: a refusal leaves everything as it was;
--- parse-dropping: without an accepting name that is no state, the answer is that of a reader which drops such names, as the original's does.
+-- parse_left: the bytes that were read are a text of the rules, and the outputs hold what it means;
+-- parse_read: nothing is refused exactly where there is room, a text stands at the front whose accepting names are states, and it is within the limits;
+-- parse_20, parse_8, parse_33, parse_21, parse_22: each number exactly by its condition;
+-- parse_refused: a refusal leaves everything as it was;
+-- parse_dropping: without an accepting name that is no state, the answer is that of a reader which drops such names, as the original's does.
 use Prim.Native.Nat.{ℕ, ◌≤◌, ◌<◌}
 use mathlib.Core.Bool.{Bool, true, false, cond}
 use mathlib.Core.List.Memᴰ
@@ -117,7 +117,7 @@ module _ (t o l o' l' : List ℕ) (r : Parsed) (call : parsed_of r o' l' ≡ par
   unfolding parse_answer
   as_made = made_call o l o' l' r (reading_answer t) call
 
-  -- a number other than 20 is answered exactly where there is room and `readingAnswer` gives it
+  -- a number other than 20 is answered exactly where there is room and `reading_answer` gives it
   by_number : (k : ℕ) → (k ≡ 0 → ⊥) → (k ≡ 20 → ⊥) → (parsed_number r ≡ k) ↔ (Room o l × (reading_answer t ≡ refused k))
   by_number k some other =
       let c = call_number o l o' l' (made_of r) (patterns_of (reading_answer t)) as_made k some other in

@@ -1,22 +1,22 @@
 -- What is proved of the product of two automata (document 01, "Product, totality, complement, emptiness").
 --
 -- Of two automata, as accepted sheets read:
---   product-words            where neither holds an epsilon the product accepts just the words that both accept
---   product-labels           state q stands for pair q of the table, and its label is `(i, j)` for the states i and j of that pair
---   product-pairs            the table holds exactly the reached pairs, each once
---   product-wellformed, product-written, product-read
+--   product_words            where neither holds an epsilon the product accepts just the words that both accept
+--   product_labels           state q stands for pair q of the table, and its label is `(i, j)` for the states i and j of that pair
+--   product_pairs            the table holds exactly the reached pairs, each once
+--   product_wellformed, product_written, product_read
 --                            the product is well-formed, and written as an accepted sheet, which reads as the product
---   refused-21, refused-7, refused-22
+--   refused_21, refused_7, refused_22
 --                            where each number is refused, exactly
---   product-given            where none is, a product is given
+--   product_given            where none is, a product is given
 -- Of the call on the sheets a and b, from its contract:
---   intersection-left        where lengths are answered, the product and its labels stand in the outputs
---   intersection-left-labels state q of the sheet left stands for pair q of the table, and its label is `(i, j)`
---   intersection-left-words  where neither sheet holds an epsilon, the sheet left accepts just the words that both accept
---   intersection-lengths     where lengths are answered, exactly
---   intersection-20, intersection-fault, intersection-21, intersection-7, intersection-22
+--   intersection_left        where lengths are answered, the product and its labels stand in the outputs
+--   intersection_left_labels state q of the sheet left stands for pair q of the table, and its label is `(i, j)`
+--   intersection_left_words  where neither sheet holds an epsilon, the sheet left accepts just the words that both accept
+--   intersection_lengths     where lengths are answered, exactly
+--   intersection_20, intersection_fault, intersection_21, intersection_7, intersection_22
 --                            where each number is answered, exactly
---   intersection-unchanged   a refusal leaves both outputs as they were
+--   intersection_unchanged   a refusal leaves both outputs as they were
 use Prim.Native.Nat.{ℕ, ◌≤◌, ◌<◌}
 use mathlib.Core.Bool.{false, false≢true}
 use mathlib.Core.List.{List, map}

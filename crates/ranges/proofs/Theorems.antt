@@ -1,8 +1,8 @@
 -- What is proved of ranges:
---   intersect-exact: a symbol lies in two ranges exactly when it lies in what they share
---   overlap-shared: sorted ranges overlap exactly when two different ones hold the same symbol
---   missing-holes: the spans that `missing` gives are the maximal runs of symbols that no range holds, ascending
---   holes-unique: there is only one list of such runs
+--   intersect_exact: a symbol lies in two ranges exactly when it lies in what they share
+--   overlap_shared: sorted ranges overlap exactly when two different ones hold the same symbol
+--   missing_holes: the spans that `missing` gives are the maximal runs of symbols that no range holds, ascending
+--   holes_unique: there is only one list of such runs
 use Prim.Native.Nat.{ℕ, ◌≤◌}
 use mathlib.Core.Bool.{true}
 use mathlib.Core.List.{List}

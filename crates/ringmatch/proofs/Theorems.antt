@@ -1,23 +1,23 @@
 -- What is proved of `ringmatch_write_automaton`, by its contract: s is the sheet, b its labels, o is lent for the text, and the cell held old. The
 -- words of a sheet are of 32 bits.
---   write-replied: with the code 0 the cell holds the length of a text at the front of the buffer, which is read to its end as the written part of the
+--   write_replied: with the code 0 the cell holds the length of a text at the front of the buffer, which is read to its end as the written part of the
 --     pattern under its labels, with the same words; behind it nothing is changed
---   write-parsed: `ringmatch_parse_automaton` reads that text whole and refuses nothing; its outputs hold that pattern
---   write-spelt: it never refuses that text by 33
---   write-code-0, write-code-20, write-code-sheet, write-code-10, write-code-30, write-code-31, write-code-32: each code exactly by its condition, where
---     no earlier one's holds; write-code-sheet is 1 to 6
---   write-code: a code other than 0 is answered exactly where `writeAnswer` has it
+--   write_parsed: `ringmatch_parse_automaton` reads that text whole and refuses nothing; its outputs hold that pattern
+--   write_spelt: it never refuses that text by 33
+--   write_code_0, write_code_20, write_code_sheet, write_code_10, write_code_30, write_code_31, write_code_32: each code exactly by its condition, where
+--     no earlier one's holds; write_code_sheet is 1 to 6
+--   write_code: a code other than 0 is answered exactly where `write_answer` has it
 --   write_kept: and then the cell and the buffer are as they were
 -- What is proved of `ringmatch_parse_automaton`, by its contract:
---   parse-code: a code other than 0 and 20 is answered exactly where there is room and `readingAnswer` has it
---   parse-code-33: 33 exactly where there is room and some accepting name of the text at the front is no state (document 02, M-101)
+--   parse_code: a code other than 0 and 20 is answered exactly where there is room and `reading_answer` has it
+--   parse_code_33: 33 exactly where there is room and some accepting name of the text at the front is no state (document 02, M-101)
 -- What is proved of `ringmatch_accepts_series`, by its contract (document 02, M-103): s is the sheet, w the series, and the cell held old.
---   series-reply-unfinished: with the mark 1 the reply for w and one more ring is that of `ringmatch_accepts_words` for w, whatever the ring
---   series-reply-whole: with the mark 0 it is that of `ringmatch_accepts_words` for w
---   series-reply-empty: for the empty series it is that of `ringmatch_accepts_words`, with the mark 0 as with 1
---   series-answer: with the code 0 the cell holds 0 or 1, and 1 exactly where a run accepts the whole rings
---   series-code-0, series-code-sheet, series-code-34: each code exactly by its condition, where no earlier one's holds; series-code-sheet is 1 to 6
---   series-kept: with another code than 0 the cell is as it was
+--   series_reply_unfinished: with the mark 1 the reply for w and one more ring is that of `ringmatch_accepts_words` for w, whatever the ring
+--   series_reply_whole: with the mark 0 it is that of `ringmatch_accepts_words` for w
+--   series_reply_empty: for the empty series it is that of `ringmatch_accepts_words`, with the mark 0 as with 1
+--   series_answer: with the code 0 the cell holds 0 or 1, and 1 exactly where a run accepts the whole rings
+--   series_code_0, series_code_sheet, series_code_34: each code exactly by its condition, where no earlier one's holds; series_code_sheet is 1 to 6
+--   series_kept: with another code than 0 the cell is as it was
 use Prim.Native.Nat.{ℕ, ◌≤◌, ◌<◌}
 use mathlib.Core.List.{List, [], ◌∷◌, ◌++◌}
 use mathlib.Core.Logic.Iff

@@ -115,7 +115,7 @@ module _ (S : Set) (c : Canon 256 S) where
       (next_cases q)
 
   -- A loop `q = next(0); while q < 256 { ..; q = next(q + 1) }` goes through the members: at its head q is the next member from itself on,
-  -- and `membersFrom q S` is what is left.
+  -- and `members_from q S` is what is left.
   pub visit_start : (q : ℕ) → q ≡ next_member S 0 → members_from q S ≡ S
   visit_start q e = ap (λ x. members_from x S) e ∙ sym (next_from 0) ∙ from_all S
 

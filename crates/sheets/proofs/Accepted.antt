@@ -1,5 +1,5 @@
 -- A sheet without a fault is what document 01 calls an accepted automaton: its sections fit their counts and its records pass. Theorems has the other
--- direction too (`accepted-exact`).
+-- direction too (`accepted_exact`).
 use Prim.Native.Nat.{ℕ, suc, ◌+◌, ◌*◌, ◌≤◌, ◌<◌}
 use mathlib.Core.Path.{◌≡◌, sym, ap, ◌∙◌, subst}
 use mathlib.Core.Bool.{true, ◌||◌}

@@ -1,4 +1,4 @@
--- A question's answer as the code gives it, read from its contract `decisionOf r ≡ a`: the laws by which each question's theorems about its call are proved.
+-- A question's answer as the code gives it, read from its contract `decision_of r ≡ a`: the laws by which each question's theorems about its call are proved.
 use Prim.Native.Nat.{ℕ, ◌-◌, ◌<◌}
 use mathlib.Core.Bool.{Bool, true, false, cond}
 use mathlib.Core.List.{List, [], ◌∷◌}

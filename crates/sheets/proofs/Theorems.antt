@@ -1,9 +1,9 @@
 -- What is proved of sheets:
---   sheet-exact: a sheet has no fault exactly when it is the writing of a well-formed automaton that fits
---   accepted-exact: `Accepted` says just that a sheet has no fault
---   read-well, read_fits: a sheet without a fault reads as a well-formed automaton that fits
---   write-read-sheet, read-write-sheet: each of reading and writing undoes the other
---   write-accepted: a well-formed automaton that fits is written as a sheet without a fault
+--   sheet_exact: a sheet has no fault exactly when it is the writing of a well-formed automaton that fits
+--   accepted_exact: `Accepted` says just that a sheet has no fault
+--   read_well, read_fits: a sheet without a fault reads as a well-formed automaton that fits
+--   write_read_sheet, read_write_sheet: each of reading and writing undoes the other
+--   write_accepted: a well-formed automaton that fits is written as a sheet without a fault
 use Prim.Native.Nat.{ℕ}
 use mathlib.Core.List.{List}
 use mathlib.Core.Logic.{◌↔◌}

@@ -1,9 +1,9 @@
 -- What is proved of `is_subautomaton`:
---   subautomaton-call: true is answered exactly when the first pattern is a subautomaton of the second in document 01's words
---   subautomaton-answers: a truth is answered exactly when neither a sheet nor a label list has a fault
---   subautomaton-sheets: 1 to 6 is answered exactly when it is the first sheet's fault or, where that has none, the second's
---   subautomaton-labels: 10 is answered exactly when the sheets have no fault, and the first label list has one or else the second
---   subautomaton-words: the test of the definition holds exactly when document 01's conditions do
+--   subautomaton_call: true is answered exactly when the first pattern is a subautomaton of the second in document 01's words
+--   subautomaton_answers: a truth is answered exactly when neither a sheet nor a label list has a fault
+--   subautomaton_sheets: 1 to 6 is answered exactly when it is the first sheet's fault or, where that has none, the second's
+--   subautomaton_labels: 10 is answered exactly when the sheets have no fault, and the first label list has one or else the second
+--   subautomaton_words: the test of the definition holds exactly when document 01's conditions do
 use Prim.Native.Nat.{ℕ, ◌≤◌, ◌<◌}
 use mathlib.Core.Bool.{Bool, true, false, ◌||◌}
 use mathlib.Core.List.{List}

@@ -30,7 +30,7 @@ is_subautomaton P Q =
     all (has_state P Q) (states P.automaton.size)
     && (same_label (label_of P P.automaton.start) (label_of Q Q.automaton.start) && all (is_covered P Q) P.automaton.transitions)
 
--- the same in document 01's words, without a test: the theorem `subautomaton-words`
+-- the same in document 01's words, without a test: the theorem `subautomaton_words`
 pub record Covers (P Q : Pattern) (d e : Transition) : Type 0 where
   pub from : label_of P d.from ≡ label_of Q e.from
   pub to : label_of P d.to ≡ label_of Q e.to

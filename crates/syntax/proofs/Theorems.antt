@@ -1,4 +1,4 @@
--- What is proved of the rules and the reader, `wholeText` of crate `grammar`:
+-- What is proved of the rules and the reader, `whole_text` of crate `grammar`:
 -- sound: what the reader takes from the front of a text is a text of the rules, and says what was found;
 -- complete: where a text of the rules stands at the front it is taken to its end, whatever stands behind it;
 -- taken: n bytes that say s are taken exactly where the first n bytes are a text that says s;

@@ -1,24 +1,24 @@
 -- What is proved of `totalize` and `complement` (document 01, "Product, totality, complement, emptiness").
 --
 -- Of a well-formed automaton, as an accepted sheet reads; `lower` and `upper` are the least and the greatest symbol:
---   totalize-words         totalizing keeps the words
---   totalize-total         and then every symbol has a transition in every state
---   complement-words       where no epsilon and no overlap stood, the complement accepts the other words
+--   totalize_words         totalizing keeps the words
+--   totalize_total         and then every symbol has a transition in every state
+--   complement_words       where no epsilon and no overlap stood, the complement accepts the other words
 -- Of the call of `totalize` on the sheet s with the labels b, from its contract:
---   totalize-left          where lengths are answered, the totalized automaton and its labels stand in the outputs
---   totalize-left-words    the sheet left accepts the words that s accepts
---   totalize-left-total    in it every symbol has a transition in every state
---   totalize-lengths       where lengths are answered, exactly
---   totalize-20, totalize-fault, totalize-10, totalize-21, totalize-22
+--   totalize_left          where lengths are answered, the totalized automaton and its labels stand in the outputs
+--   totalize_left_words    the sheet left accepts the words that s accepts
+--   totalize_left_total    in it every symbol has a transition in every state
+--   totalize_lengths       where lengths are answered, exactly
+--   totalize_20, totalize_fault, totalize_10, totalize_21, totalize_22
 --                          where each number is answered, exactly
---   totalize-unchanged     a refusal leaves both outputs as they were
+--   totalize_unchanged     a refusal leaves both outputs as they were
 -- Of the call of `complement` likewise:
---   complement-left        where lengths are answered, the complement and its labels stand in the outputs
---   complement-left-words  where s has no epsilon and no overlap, the sheet left accepts the other words
---   complement-lengths     where lengths are answered, exactly
---   complement-20, complement-fault, complement-10, complement-21, complement-22
+--   complement_left        where lengths are answered, the complement and its labels stand in the outputs
+--   complement_left_words  where s has no epsilon and no overlap, the sheet left accepts the other words
+--   complement_lengths     where lengths are answered, exactly
+--   complement_20, complement_fault, complement_10, complement_21, complement_22
 --                          where each number is answered, exactly
---   complement-unchanged   a refusal leaves both outputs as they were
+--   complement_unchanged   a refusal leaves both outputs as they were
 use Prim.Native.Nat.{ℕ, ◌≤◌, ◌<◌}
 use mathlib.Core.Bool.{true, cond}
 use mathlib.Core.List.{List, [], ◌∷◌, ◌++◌}

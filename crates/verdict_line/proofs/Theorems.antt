@@ -1,7 +1,7 @@
 -- What is proved of the line of the program `verdict`:
---   verdict-says: on two texts whose determinizations fit it is `same` exactly when their automata accept the same words, and otherwise `differ` with a
+--   verdict_says: on two texts whose determinizations fit it is `same` exactly when their automata accept the same words, and otherwise `differ` with a
 --   short word that exactly one of them accepts (demand 3)
---   verdict-first-33, verdict-second-33: on two texts it is `refused 33` where an accepting name of the first is no state, and where one of the second is
+--   verdict_first_33, verdict_second_33: on two texts it is `refused 33` where an accepting name of the first is no state, and where one of the second is
 --   none and the first is read (document 02, M-101)
 use Prim.Native.Nat.{ℕ, ◌+◌, ◌≤◌}
 use mathlib.Core.List.{List}

@@ -1,10 +1,10 @@
 -- What is proved of acceptance: what closures and simulated sets hold, and what the two entries answer.
--- closure-ascends, closure-runs: a closure is the ascending list of the states that epsilons reach.
--- simulate-runs: the set at the end of a word has exactly the states at the ends of the word's runs.
--- kind-runs: the kind of a word is the least accept word other than 0 among those states, or 0.
--- accepts-words, accepts-words-bit, accepts-words-fault: the word entry answers 1 exactly for accepted words, and otherwise 0; it refuses a sheet
+-- closure_ascends, closure_runs: a closure is the ascending list of the states that epsilons reach.
+-- simulate_runs: the set at the end of a word has exactly the states at the ends of the word's runs.
+-- kind_runs: the kind of a word is the least accept word other than 0 among those states, or 0.
+-- accepts_words, accepts_words_bit, accepts_words_fault: the word entry answers 1 exactly for accepted words, and otherwise 0; it refuses a sheet
 -- exactly by its fault.
--- accepts-text, accepts-text-bit, accepts-text-0, accepts-text-fault, accepts-text-9: the text entry answers likewise for the code points that the
+-- accepts_text, accepts_text_bit, accepts_text_0, accepts_text_fault, accepts_text_9: the text entry answers likewise for the code points that the
 -- text encodes; it refuses a sheet by its fault, and with 9 exactly where no code points encode to the text.
 use Prim.Native.Nat.{ℕ, zero, suc, ◌≤◌, ◌<◌}
 use mathlib.Core.Bool.{Bool, true, false, cond}

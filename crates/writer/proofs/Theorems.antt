@@ -1,16 +1,16 @@
 -- What is proved of writing patterns (document 02, M-100):
 --   written_read: the text of a pattern is read to its end, as the written part of the pattern under its labels
 --   write_read: the text of a sheet and its labels is read so, and what is read accepts the same words
---   written-exact: a written state is the start, or a record names it
---   write-text: a text is given exactly where nothing is refused
---   write-20, write-sheet, write-10: 20 exactly where the buffer is too short, 1 to 6 exactly by the sheet's fault behind it, 10 by that of its labels
---   write-some: no refusal has the number 0
---   write-30, write-31, write-32: each number exactly by its condition, behind 20 and the faults of the sheet and of its labels
+--   written_exact: a written state is the start, or a record names it
+--   write_text: a text is given exactly where nothing is refused
+--   write_20, write_sheet, write_10: 20 exactly where the buffer is too short, 1 to 6 exactly by the sheet's fault behind it, 10 by that of its labels
+--   write_some: no refusal has the number 0
+--   write_30, write_31, write_32: each number exactly by its condition, behind 20 and the faults of the sheet and of its labels
 -- The call, by its contract:
---   write-left: the text stands at the front of the buffer and is read so, and nothing is changed behind it
---   write-gives: a length is answered exactly where a text is given
---   write-refuses: a number is answered exactly where `writeAnswer` has it
---   write-unchanged: a refusal leaves the buffer as it was
+--   write_left: the text stands at the front of the buffer and is read so, and nothing is changed behind it
+--   write_gives: a length is answered exactly where a text is given
+--   write_refuses: a number is answered exactly where `write_answer` has it
+--   write_unchanged: a refusal leaves the buffer as it was
 use Prim.Native.Nat.{ℕ, ◌+◌, ◌≤◌}
 use mathlib.Core.List.{List}
 use mathlib.Core.Logic.{◌↔◌, ◌⊎◌, ⊎_elim}
@@ -125,7 +125,7 @@ module _ (s b o : List ℕ) (x : Outcome ℕ (List ℕ)) (call : x ≡ write_out
   pub write_gives : ((n : ℕ) × (x.answer ≡ given n)) ↔ ((t : List ℕ) × (write_answer s b o ≡ given t))
   write_gives = call_given o (write_answer s b o) x call
 
-  -- a number is answered exactly where `writeAnswer` has it
+  -- a number is answered exactly where `write_answer` has it
   pub write_refuses : (m : ℕ) → (x.answer ≡ refused m) ↔ (write_answer s b o ≡ refused m)
   write_refuses = call_number o (write_answer s b o) x call
 

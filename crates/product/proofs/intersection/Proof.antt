@@ -1,4 +1,4 @@
--- `intersectionAnswer` meets its contract: room for the outputs, and then the first sheet.
+-- `intersection_answer` meets its contract: room for the outputs, and then the first sheet.
 use borrow.Author.Rules.{rules}
 use Rattle.output.proofs.Answers.{room_words, room_bytes}
 use Rattle.sheets.proofs.Accepted.{check_accepted}

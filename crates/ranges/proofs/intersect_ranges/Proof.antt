@@ -1,4 +1,4 @@
--- `intersect_ranges` meets its contract: the test is that of `intersectRanges`.
+-- `intersect_ranges` meets its contract: the test is that of `intersect_ranges`.
 use Prim.Native.Nat.{ℕ, ◌≤◌, ◌<◌, min, max}
 use mathlib.Core.Option.{none, some}
 use mathlib.Core.Path.{◌≡◌}

@@ -1,4 +1,4 @@
--- `check_states` meets its contract: the tests on the way are those of `statesFault`.
+-- `check_states` meets its contract: the tests on the way are those of `states_fault`.
 use Rattle.lists.proofs.Tests.{tests}
 use Rattle.sheets.proofs.Checking.{sections, states_at}
 use Rattle.sheets.proofs.check_states.Statement.{statement}

@@ -1,4 +1,4 @@
--- `check_transitions` meets its contract: the tests on the way are those of `transitionsFault`.
+-- `check_transitions` meets its contract: the tests on the way are those of `transitions_fault`.
 use Rattle.sheets.proofs.Checking.{sections}
 use Rattle.sheets.proofs.check_transitions.Statement.{statement}
 use Rattle.sheets.proofs.check_transitions.Tie as tie

@@ -1,4 +1,4 @@
--- `is_bad` meets its contract: at each return the tests on the way say what the test in `isBad` is.
+-- `is_bad` meets its contract: at each return the tests on the way say what the test in `is_bad` is.
 use Rattle.lists.proofs.Tests.{tests}
 use Rattle.sheets.specs.Fault.{is_bad}
 use Rattle.sheets.proofs.is_bad.Statement.{statement}

@@ -1,4 +1,4 @@
--- `range_key` meets its contract: at each return the tests on the way say what the tests in `rangeKey` are.
+-- `range_key` meets its contract: at each return the tests on the way say what the tests in `range_key` are.
 use Rattle.lists.proofs.Tests.{tests}
 use Rattle.sheets.specs.inner.Passed.{range_key}
 use Rattle.sheets.proofs.Passing.{range_not, range_is}

@@ -8,7 +8,7 @@ use Rattle.sheets.specs.Fault.{accept_words, records_fault}
 abbrev pub record_count : List ℕ → ℕ
 record_count s = get_or s (state_count s + 3) 0
 
--- a sheet without a fault, and only such a sheet (the theorem `accepted-exact`): an accepted automaton of document 01
+-- a sheet without a fault, and only such a sheet (the theorem `accepted_exact`): an accepted automaton of document 01
 pub record Accepted (s : List ℕ) : Type 0 where
   pub one_start : get_or s 0 0 ≡ 1
   pub some_state : 0 < state_count s

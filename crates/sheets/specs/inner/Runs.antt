@@ -30,7 +30,7 @@ pub record RunEnds (t ends : List ℕ) (k : ℕ) : Type 0 where
   pub most : (q : ℕ) → get_or ends q 0 ≤ below q (read_records t)
   pub least : (j : ℕ) → j < k → j < get_or ends (get_or t (5 * j) 0 + 1) 0
 
--- starts is, at its front, the table `startsOf` of the sheet s
+-- starts is, at its front, the table `starts_of` of the sheet s
 pub record Indexed (s starts : List ℕ) : Type 0 where
   pub long : state_count s < length starts
   pub at : (q : ℕ) → q ≤ state_count s → get_or starts q 0 ≡ records_at s + 5 * below q (read s).transitions
