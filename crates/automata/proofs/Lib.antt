@@ -6,3 +6,4 @@ pub mod Records
 pub mod Successors
 pub mod SameWords
 pub mod Ordered
+pub mod Chunks

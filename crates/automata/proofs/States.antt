@@ -2,12 +2,15 @@
 use Prim.Native.Nat.{ℕ, suc, ◌+◌, ◌≤◌, ◌<◌}
 use mathlib.Core.List.{[], ◌∷◌}
 use mathlib.Core.Path.{◌≡◌, sym, ◌∙◌, ap}
+use native.Mathlib.Omega.{arith}
 use native.Mathlib.Numerals.{add-one}
 use lib.ListN.{length, drop, drop_of_length-le}
 use lib.Seq.{drop-cons}
+use Rattle.std.specs.List.{range_with_len}
 use Rattle.lists.specs.Lists.{◌∈◌, Ascending, tabulate}
 use Rattle.lists.proofs.Lists.{tabulate_at, length_tabulate}
 use Rattle.lists.proofs.Every.{tabulate_in, tabulate_out, tabulate_ascend}
+use Rattle.lists.proofs.Chains.{range_listed}
 use Rattle.automata.specs.Automaton.{states}
 
 pub length_states : (n : ℕ) → length (states n) ≡ n
@@ -35,3 +38,8 @@ states_at n q h =
 
 pub states_end : (n q : ℕ) → n ≤ q → drop q (states n) ≡ []
 states_end n q h = drop_of_length-le (states n) {i = q} (rw (length_states n) h)
+
+-- the states as the numbers of a range
+pub states_listed : (n : ℕ) → range_with_len 0 n ≡ states n
+unfolding states
+states_listed n = range_listed 0 n (λ q. q) (λ k. omega arith)

@@ -11,10 +11,10 @@ fn put_digits(out: &mut [u8], at: usize, x: u32) -> usize
     ensures { Written out.old at (digits x) out.new result }
 {
     if x < 10 {
-        return stores::put_byte(out, at, (48 + x) as u8);
+        return stores::put(out, at, (48 + x) as u8);
     }
     let last = put_digits(out, at, x / 10);
-    stores::put_byte(out, last, (48 + x % 10) as u8)
+    stores::put(out, last, (48 + x % 10) as u8)
 }
 
 // Writes the decimal digits of x from at on, and answers the place behind.

@@ -1,9 +1,9 @@
 -- What `determinize_accepted` and `determinize_both` leave at the fronts of their outputs. Assumes nothing.
+use Rattle.std.proofs.Common.{Result, Ok, Err}
 use Prim.Native.Nat.{ℕ, ◌+◌, ◌≤◌}
 use mathlib.Core.List.{List, ◌++◌}
 use mathlib.Core.Path.{◌≡◌, refl, sym, ap, subst, ◌∙◌}
 use native.Mathlib.Omega.{arith}
-use borrow.Author.Rules.{rules}
 use lib.ListN.{length, take, drop}
 use lib.Seq.{sets, sets-eq, length-sets, take-append_seam}
 use Rattle.automata.specs.Automaton.{Automaton}
@@ -16,11 +16,9 @@ use Rattle.sheets.specs.Sheet.{read, write}
 use Rattle.sheets.proofs.Accepted.{accepted}
 use Rattle.sheets.proofs.Meaning.{read_well}
 use Rattle.determinize.specs.declared.Determinized.{Determinized}
-use Rattle.determinize.specs.declared.Determinized.TheVariants.{Sheet, Refused}
 use Rattle.determinize.specs.Determinize.{determinize}
 use Rattle.determinize.specs.inner.Sheets.{SheetSize, SheetOutput, sheet_output, determinized_of}
 use Rattle.determinize.proofs.Theorems.{determinize_deterministic, determinize_written, determinize_read, determinize_room}
-use Rattle.determinizations.specs.declared.Both.TheVariants as both
 use Rattle.determinizations.specs.inner.Sheets.{BothDeterminized}
 use Rattle.determinizations.proofs.Theorems.{determinized_both, determinized_first, determinized_second}
 
@@ -32,33 +30,33 @@ record Front (lower upper : ℕ) (s o : List ℕ) (n : ℕ) : Type 0 where
   one : Deterministic lower upper (read (take n o))
 
 -- the answer of `determinize_accepted`, with the output before and after
-module _ (lower upper : ℕ) (s old new : List ℕ) (r : Determinized) (e : determinized_of r new ≡ sheet_output old (determinize lower upper (read s))) where
-  front_refused : (k : StateRefusal) → r ≡ Refused k → determinize lower upper (read s) ≡ refused (state_number k)
+module _ (lower upper : ℕ) (s old new : List ℕ) (r : Result Determinized StateRefusal) (e : determinized_of r new ≡ sheet_output old (determinize lower upper (read s))) where
+  front_refused : (k : StateRefusal) → r ≡ Err k → determinize lower upper (read s) ≡ refused (state_number k)
   unfolding sheet_output
   front_refused k q = by_answer (determinize lower upper (read s)) refl
     where
       by_answer : (x : Answer Automaton) → determinize lower upper (read s) ≡ x → x ≡ refused (state_number k)
       by_answer (refused n) h =
-          let z : determinized_of (Refused k) new ≡ sheet_output old (refused n) = ap (λ (r : Determinized). determinized_of r new) (sym q) ∙ e ∙ ap (sheet_output old) h in
+          let z : determinized_of (Err k) new ≡ sheet_output old (refused n) = ap (λ (r : Result Determinized StateRefusal). determinized_of r new) (sym q) ∙ e ∙ ap (sheet_output old) h in
           let y = ap (λ (o : SheetOutput). o.answer) z in
           let n-is : state_number k ≡ n = cc in
           ap refused (sym n-is)
       by_answer (given D) h =
-          let z : determinized_of (Refused k) new ≡ sheet_output old (given D) = ap (λ (r : Determinized). determinized_of r new) (sym q) ∙ e ∙ ap (sheet_output old) h in
+          let z : determinized_of (Err k) new ≡ sheet_output old (given D) = ap (λ (r : Result Determinized StateRefusal). determinized_of r new) (sym q) ∙ e ∙ ap (sheet_output old) h in
           let y = ap (λ (o : SheetOutput). o.answer) z in
-          absurd (let w : ◌≡◌ {A = ℕ} 0 1 = cc in omega arith)
+          cc
 
-  module _ (n m : ℕ) (q : r ≡ Sheet n m) where
+  module _ (d : Determinized) (q : r ≡ Ok d) where
     record Stored (D : Automaton) : Type 0 where
-      is_n : n ≡ length (write D)
+      is_n : d.words ≡ length (write D)
       is_new : new ≡ sets old 0 (write D)
 
     stored : (D : Automaton) → determinize lower upper (read s) ≡ given D → Stored D
     unfolding sheet_output
     stored D h =
-        let z : determinized_of (Sheet n m) new ≡ sheet_output old (given D) = ap (λ (r : Determinized). determinized_of r new) (sym q) ∙ e ∙ ap (sheet_output old) h in
+        let z : determinized_of (Ok d) new ≡ sheet_output old (given D) = ap (λ (r : Result Determinized StateRefusal). determinized_of r new) (sym q) ∙ e ∙ ap (sheet_output old) h in
         let y = ap (λ (o : SheetOutput). o.answer) z in
-        let v : ◌≡◌ {A = SheetSize} (record { words = n; states = m }) (record { words = length (write D); states = D.size }) = cc in
+        let v : ◌≡◌ {A = SheetSize} (record { words = d.words; states = d.states }) (record { words = length (write D); states = D.size }) = cc in
         record { is_n = ap (λ (x : SheetSize). x.words) v; is_new = ap (λ (o : SheetOutput). o.memory) z }
 
     some : (D : Automaton) × (determinize lower upper (read s) ≡ given D)
@@ -68,11 +66,11 @@ module _ (lower upper : ℕ) (s old new : List ℕ) (r : Determinized) (e : dete
         by_answer : (x : Answer Automaton) → determinize lower upper (read s) ≡ x → (D : Automaton) × (determinize lower upper (read s) ≡ given D)
         by_answer (given D) h = (D, h)
         by_answer (refused k) h =
-            let z : determinized_of (Sheet n m) new ≡ sheet_output old (refused k) = ap (λ (r : Determinized). determinized_of r new) (sym q) ∙ e ∙ ap (sheet_output old) h in
+            let z : determinized_of (Ok d) new ≡ sheet_output old (refused k) = ap (λ (r : Result Determinized StateRefusal). determinized_of r new) (sym q) ∙ e ∙ ap (sheet_output old) h in
             let y = ap (λ (o : SheetOutput). o.answer) z in
-            absurd (let w : ◌≡◌ {A = ℕ} 0 1 = cc in omega arith)
+            cc
 
-    front_given : Accepted s → 10500 ≤ length old → Front lower upper s new n
+    front_given : Accepted s → 10500 ≤ length old → Front lower upper s new d.words
     front_given good long =
         let w = read_well s good in
         let D = some.0 in
@@ -81,8 +79,8 @@ module _ (lower upper : ℕ) (s old new : List ℕ) (r : Determinized) (e : dete
         let room = determinize_room lower upper (read s) w.states D is-d w in
         let k = determinize_read lower upper (read s) w.states D is-d w in
         let all = ap length t.is_new ∙ length-sets old 0 (write D) in
-        let front : take n new ≡ write D = ap (take n) (t.is_new ∙ sets-eq (write D) old 0 (omega arith)) ∙ ap (λ (k : ℕ). take k (write D ++ drop (0 + length (write D)) old)) t.is_n ∙ take-append_seam (write D) _ in
-        let reads : read (take n new) ≡ D = ap read front ∙ k in
+        let front : take d.words new ≡ write D = ap (take d.words) (t.is_new ∙ sets-eq (write D) old 0 (omega arith)) ∙ ap (λ (k : ℕ). take k (write D ++ drop (0 + length (write D)) old)) t.is_n ∙ take-append_seam (write D) _ in
+        let reads : read (take d.words new) ≡ D = ap read front ∙ k in
         record {
           inside = omega (arith, t.is_n, all);
           is = is-d ∙ ap given (sym reads);
@@ -91,26 +89,24 @@ module _ (lower upper : ℕ) (s old new : List ℕ) (r : Determinized) (e : dete
         }
 
 -- the answers on both sheets
-module _ (lower upper : ℕ) (a b o o' p : List ℕ) (r : Determinized) (is-r : determinized_of r o' ≡ sheet_output o (determinize lower upper (read a))) where
-  pub first_refused : (k : StateRefusal) → r ≡ Refused k → BothDeterminized lower upper (read a) (read b) o' p (both.Refused k)
+module _ (lower upper : ℕ) (a b o o' p : List ℕ) (r : Result Determinized StateRefusal) (is-r : determinized_of r o' ≡ sheet_output o (determinize lower upper (read a))) where
+  pub first_refused : (k : StateRefusal) → r ≡ Err k → BothDeterminized lower upper (read a) (read b) o' p (Err k)
   first_refused k e = determinized_first lower upper (read a) (read b) (state_number k) (front_refused lower upper a o o' r is-r k e)
 
-  module _ (m i : ℕ) (e : r ≡ Sheet m i) (good-a : Accepted a) (long-o : 10500 ≤ length o) (p' : List ℕ) (q : Determinized)
+  module _ (d : Determinized) (e : r ≡ Ok d) (good-a : Accepted a) (long-o : 10500 ≤ length o) (p' : List ℕ) (q : Result Determinized StateRefusal)
       (is-q : determinized_of q p' ≡ sheet_output p (determinize lower upper (read b))) where
-    first : Front lower upper a o' m
-    first = front_given lower upper a o o' r is-r m i e good-a long-o
+    first : Front lower upper a o' d.words
+    first = front_given lower upper a o o' r is-r d e good-a long-o
 
-    pub second_refused : (k : StateRefusal) → q ≡ Refused k → BothDeterminized lower upper (read a) (read b) o' p' (both.Refused k)
+    pub second_refused : (k : StateRefusal) → q ≡ Err k → BothDeterminized lower upper (read a) (read b) o' p' (Err k)
     second_refused k f = determinized_second lower upper (read a) (read b) _ first.is (state_number k) (front_refused lower upper b p p' q is-q k f)
 
-    pub both_given : (n j : ℕ) → q ≡ Sheet n j → Accepted b → 10500 ≤ length p → BothDeterminized lower upper (read a) (read b) o' p' (both.Lengths m n)
-    both_given n j f good-b long-p =
-        let second = front_given lower upper b p p' q is-q n j f good-b long-p in
+    pub both_given : (x : Determinized) → q ≡ Ok x → Accepted b → 10500 ≤ length p → BothDeterminized lower upper (read a) (read b) o' p' (Ok (d.words, x.words))
+    both_given x f good-b long-p =
+        let second = front_given lower upper b p p' q is-q x f good-b long-p in
         record {
           first_in = first.inside;
           second_in = second.inside;
           sheets = record { first = first.good; second = second.good; one = first.one; two = second.one };
           are = determinized_both lower upper (read a) (read b) _ _ first.is second.is;
         }
-
-pub ruleset both_laws = (first_refused, second_refused, both_given, rules)

@@ -1,20 +1,16 @@
 -- The laws by which the first pass gives up: the records of a set, the room for notes, and what the pass then came to.
-use Rattle.std.proofs.Common.{◌≡◌, ℕ, ◌+◌, ◌-◌, ◌*◌, ◌<◌, ◌≤◌, Bool, true, false, ◌&&◌, eqb, ltb, List, length, get_or, sym, refl, ap, ◌∙◌, subst, ⊎_elim, arith, rules, ltb-false, le-ltb, lt-ltb, eq-eqb, ne_eqb}
+use Rattle.std.proofs.Common.{◌≡◌, ℕ, ◌+◌, ◌-◌, ◌*◌, ◌<◌, ◌≤◌, Bool, true, false, ◌&&◌, eqb, ltb, Option, Some, None, Result, Ok, Err, List, length, get_or, sym, refl, ap, ◌∙◌, subst, ⊎_elim, arith, rules, ltb-false, le-ltb, lt-ltb, eq-eqb, ne_eqb}
 use Rattle.lists.proofs.Tests.{test}
 use Rattle.automata.specs.Automaton.{Automaton}
 use Rattle.sets.specs.Sets.{Set}
-use Rattle.sets.specs.inner.BitSet.{set_at, entries}
-use Rattle.sets.specs.inner.Places.{Placed}
+use Rattle.sets.specs.inner.BitSet.{set_at}
 use Rattle.sets.specs.inner.Members.{members_from, next_member}
 use Rattle.sets.proofs.BitSet.{at_canon}
 use Rattle.sets.proofs.Members.{visit_start, visit_next, from_end}
 use Rattle.words.specs.Simulation.{start_set}
 use Rattle.words.proofs.Visiting.{member_here, member_later}
-use Rattle.determinize.specs.declared.Progress.{Progress}
-use Rattle.determinize.specs.declared.Progress.TheVariants.{Sets, Over}
-use Rattle.determinize.specs.declared.Exploration.{Exploration}
-use Rattle.determinize.specs.declared.Exploration.TheVariants.{Finished, Unfinished}
-use Rattle.determinize.specs.inner.Memory.{ProgressPlaced, ExplorationPlaced}
+use Rattle.determinize.specs.declared.Unfinished.{Unfinished}
+use Rattle.determinize.specs.declared.exploring.SetCounts.{SetCounts}
 use Rattle.determinize.specs.inner.Notes.{SpansResult, TableResult}
 use Rattle.determinize.specs.inner.Attempts.{run_length, run_lengths, SpansExploration, TableResultWithRoom, TableExploration}
 
@@ -70,39 +66,22 @@ pub ruleset found_laws = (found_not, found_long, rules)
 
 -- a try to visit the spans of a state
 module _ (lower upper : ℕ) (A : Automaton) (S : Set) (T : List Set) (j : ℕ) (before : List ℕ) (k : ℕ) (t u r : List ℕ) where
-  pub try_unfinished : set_at u 0 ≡ set_at t 0 → SpansExploration lower upper A S T j before k t u r Unfinished
+  pub try_unfinished : (x : Unfinished) → set_at u 0 ≡ set_at t 0 → SpansExploration lower upper A S T j before k t u r (Err x)
   unfolding SpansExploration
-  try_unfinished e = e
+  try_unfinished x e = e
 
-  pub try_finished : (x : Progress) → SpansResult lower upper A S T j before k u r x → SpansExploration lower upper A S T j before k t u r (Finished x)
+  pub try_finished : (x : Option SetCounts) → SpansResult lower upper A S T j before k u r x → SpansExploration lower upper A S T j before k t u r (Ok x)
   unfolding SpansExploration
   try_finished x p = p
 
-  module _ (x : Exploration) (p : SpansExploration lower upper A S T j before k t u r x) where
-    pub tried_visited : (y : Progress) → x ≡ Finished y → SpansResult lower upper A S T j before k u r y
+  module _ (x : Result (Option SetCounts) Unfinished) (p : SpansExploration lower upper A S T j before k t u r x) where
+    pub tried_visited : (y : Option SetCounts) → x ≡ Ok y → SpansResult lower upper A S T j before k u r y
     unfolding SpansExploration
     tried_visited y e = subst (SpansExploration lower upper A S T j before k t u r) e p
 
-    pub tried_start : x ≡ Unfinished → set_at t 0 ≡ start_set A → set_at u 0 ≡ start_set A
+    pub tried_start : (y : Unfinished) → x ≡ Err y → set_at t 0 ≡ start_set A → set_at u 0 ≡ start_set A
     unfolding SpansExploration
-    tried_start e f = subst (SpansExploration lower upper A S T j before k t u r) e p ∙ f
-
--- the places after a part of the pass
-over_sets : (n m : ℕ) → Over ≡ Sets n m → ⊥
-over_sets n m e = let z : ◌≡◌ {A = ℕ} 0 1 = cc in omega arith
-
-module _ (places t : List ℕ) where
-  pub placed_over : ProgressPlaced places t Over
-  placed_over = record { placed = λ n k e. absurd (over_sets n k e) }
-
-  pub placed_sets : (n k : ℕ) → Placed places (entries t n) → ProgressPlaced places t (Sets n k)
-  placed_sets n k p = record { placed = λ m j e. let z : n ≡ m = cc in subst (λ x. Placed places (entries t x)) z p }
-
-  pub placed_unfinished : ExplorationPlaced places t Unfinished
-  placed_unfinished = record { placed = λ y e. let z : ◌≡◌ {A = ℕ} 0 1 = cc in absurd (omega arith) }
-
-  pub placed_finished : (x : Progress) → ProgressPlaced places t x → ExplorationPlaced places t (Finished x)
-  placed_finished x p = record { placed = λ y e. let z : x ≡ y = cc in subst (ProgressPlaced places t) z p }
+    tried_start y e f = subst (SpansExploration lower upper A S T j before k t u r) e p ∙ f
 
 -- `is_full`
 pub full_never : (l k : ℕ) → 10240 ≤ l → false ≡ (ltb l 10240 && ltb l k)
@@ -115,42 +94,35 @@ pub ruleset full_laws = (full_never, full_short, rules)
 
 -- what the first pass came to
 module _ (lower upper : ℕ) (A : Automaton) (t r : List ℕ) where
-  pub attempt_unfinished : set_at t 0 ≡ start_set A → TableExploration lower upper A t r Unfinished
+  pub attempt_unfinished : (x : Unfinished) → set_at t 0 ≡ start_set A → TableExploration lower upper A t r (Err x)
   unfolding TableExploration
-  attempt_unfinished e = e
+  attempt_unfinished x e = e
 
-  pub attempt_over : (before : List ℕ) → TableResult lower upper A before t r Over → TableExploration lower upper A t r (Finished Over)
+  pub attempt_over : (before : List ℕ) → TableResult lower upper A before t r None → TableExploration lower upper A t r (Ok None)
   unfolding TableExploration
-  attempt_over before p = record { before = before; explored = p; room = λ n m e. absurd (over_sets n m e) }
+  attempt_over before p = record { before = before; explored = p; room = λ c e h. cc }
 
-  pub attempt_done : (before : List ℕ) (n m : ℕ) → TableResult lower upper A before t r (Sets n m) → length r ≡ length before → (b : Bool)
-      → b ≡ (ltb (length r) 10240 && ltb (length r) (5 * m)) → b ≡ false → TableExploration lower upper A t r (Finished (Sets n m))
+  pub attempt_done : (before : List ℕ) (c : SetCounts) → TableResult lower upper A before t r (Some c) → length r ≡ length before → (b : Bool)
+      → b ≡ (ltb (length r) 10240 && ltb (length r) (5 * c.notes)) → b ≡ false → TableExploration lower upper A t r (Ok (Some c))
   unfolding TableExploration
-  attempt_done before n m p l b e f = record { before = before; explored = p; room = λ i j q h. let z : m ≡ j = cc in fits j h z }
+  attempt_done before c p l b e f = record { before = before; explored = p; room = λ d q h. let z : c.notes ≡ d.notes = cc in fits d.notes h z }
     where
-      fits : (j : ℕ) → j ≤ 2048 → m ≡ j → 5 * j ≤ length before
+      fits : (j : ℕ) → j ≤ 2048 → c.notes ≡ j → 5 * j ≤ length before
       fits j h z =
           ⊎_elim
-          (λ (c : ltb (length r) 10240 ≡ true).
+          (λ (g : ltb (length r) 10240 ≡ true).
           ⊎_elim
-          (λ (d : ltb (length r) (5 * m) ≡ true). let y : ◌≡◌ {A = Bool} true false = sym (rw (c, d)) ∙ sym e ∙ f in absurd (bools y))
-          (λ (d : ltb (length r) (5 * m) ≡ false). let y : 5 * m ≤ length r = ltb-false _ _ d in omega arith)
-          (test (ltb (length r) (5 * m))))
-          (λ (c : ltb (length r) 10240 ≡ false). let y : 10240 ≤ length r = ltb-false _ _ c in omega arith)
+          (λ (d : ltb (length r) (5 * c.notes) ≡ true). let y : ◌≡◌ {A = Bool} true false = sym (rw (g, d)) ∙ sym e ∙ f in cc)
+          (λ (d : ltb (length r) (5 * c.notes) ≡ false). let y : 5 * c.notes ≤ length r = ltb-false _ _ d in omega arith)
+          (test (ltb (length r) (5 * c.notes))))
+          (λ (g : ltb (length r) 10240 ≡ false). let y : 10240 ≤ length r = ltb-false _ _ g in omega arith)
           (test (ltb (length r) 10240))
-        where
-          bools : ◌≡◌ {A = Bool} true false → ⊥
-          bools y = let z : ◌≡◌ {A = ℕ} 0 1 = cc in omega arith
 
-  -- with room for all notes of a result
-  pub complete_all : (before : List ℕ) (x : Progress) → TableResult lower upper A before t r x → length before ≡ 10240 → TableResultWithRoom lower upper A t r x
-  complete_all before x p l = record { before = before; explored = p; room = λ n m e h. omega arith }
-
-  module _ (x : Exploration) (p : TableExploration lower upper A t r x) where
-    pub attempt_finished : (y : Progress) → x ≡ Finished y → TableResultWithRoom lower upper A t r y
+  module _ (x : Result (Option SetCounts) Unfinished) (p : TableExploration lower upper A t r x) where
+    pub attempt_finished : (y : Option SetCounts) → x ≡ Ok y → TableResultWithRoom lower upper A t r y
     unfolding TableExploration
     attempt_finished y e = subst (TableExploration lower upper A t r) e p
 
-    pub attempt_start : x ≡ Unfinished → set_at t 0 ≡ start_set A
+    pub attempt_start : (y : Unfinished) → x ≡ Err y → set_at t 0 ≡ start_set A
     unfolding TableExploration
-    attempt_start e = subst (TableExploration lower upper A t r) e p
+    attempt_start y e = subst (TableExploration lower upper A t r) e p

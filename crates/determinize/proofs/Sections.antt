@@ -1,15 +1,17 @@
 -- The laws by which the second pass is proved: the sections of the sheet.
 use Rattle.std.proofs.Common.{◌≡◌, ℕ, suc, ◌+◌, ◌-◌, ◌*◌, ◌/◌, ◌<◌, ◌≤◌, List, [], ◌∷◌, ◌++◌, map, length, get_or, take, drop, replicate, sym, refl, ap, ◌∙◌, subst, le_antisymm, add-one, arith, length-append, length-drop, length-take-le, rules, eq-eqb, ne_eqb}
-use native.Mathlib.Nat.{add-sub_cancel_left}
 use lib.ListN.{length-map}
+use Rattle.std.specs.Simd.{first_chunks}
 use Rattle.lists.specs.Lists.{tabulate}
 use Rattle.stores.specs.Written.{Written}
 use Rattle.lists.proofs.Lists.{tabulate_end}
 use Rattle.stores.proofs.Written.{written_none, written_append, written_length}
-use Rattle.automata.specs.Automaton.{Transition, Automaton}
+use Rattle.automata.specs.Automaton.{Automaton}
 use Rattle.automata.specs.Records.{read_records, write_records}
 use Rattle.automata.specs.inner.Records.{record_at}
-use Rattle.automata.proofs.Records.{records_at_lem, records_end, part_record}
+use Rattle.automata.specs.inner.Chunks.{records_of}
+use Rattle.automata.proofs.Chunks.{records_chunks, records_next, records_done}
+use Rattle.automata.proofs.Records.{length_write}
 use Rattle.sets.specs.Sets.{Set}
 use Rattle.sets.specs.inner.BitSet.{set_at, entries}
 use Rattle.sets.specs.inner.Words.{put_at}
@@ -18,7 +20,7 @@ use Rattle.sheets.specs.Sheet.{write}
 use Rattle.words.specs.Simulation.{kind_of}
 use Rattle.determinize.specs.inner.Notes.{noted_transition}
 use Rattle.determinize.specs.inner.Sheets.{noted_automaton}
-use Rattle.stores.proofs.Left.{Left, left_start, left_done, left_next}
+use Rattle.stores.proofs.Left.{Left, left_start, left_done, left_room, left_next}
 use Rattle.determinize.proofs.Queued.{row_at, row_canon}
 
 -- the record that a note stands for
@@ -35,40 +37,50 @@ module _ (l m note : List ℕ) (at sink r : ℕ) where
 
 pub ruleset noted_laws = (note_sink, note_set, rules)
 
+-- how many records words have
+count_read : (t : List ℕ) → length t / 5 ≡ length (read_records t)
+unfolding read_records
+count_read [] = refl
+count_read (a ∷ []) = refl
+count_read (a ∷ b ∷ []) = refl
+count_read (a ∷ b ∷ c ∷ []) = refl
+count_read (a ∷ b ∷ c ∷ d ∷ []) = refl
+count_read (a ∷ b ∷ c ∷ d ∷ e ∷ t) = let h = count_read t in omega arith
+
 -- the records that the notes stand for, one after the other
-module _ (notes : List ℕ) (sink : ℕ) (l : List ℕ) (at : ℕ) where
+module _ (notes : List ℕ) (sink : ℕ) (l : List ℕ) (at : ℕ) (rs : List (List ℕ)) where
   -- those of the notes from i on are left
   pub record NotesLeft (m : List ℕ) (end i : ℕ) : Type 0 where
-    pub left : Left l at (write_records (map (noted_transition sink) (read_records notes))) m end (write_records (map (noted_transition sink) (read_records (drop i notes))))
+    pub left : Left l at (write_records (map (noted_transition sink) (read_records notes))) m end (write_records (map (noted_transition sink) (records_of (drop i rs))))
 
-  pub notes_begin : NotesLeft l at 0
-  notes_begin = record { left = left_start l at _ }
+  pub notes_begin : rs ≡ first_chunks 5 (length notes / 5) notes → NotesLeft l at 0
+  notes_begin e =
+      let r : read_records notes ≡ records_of rs = sym (ap records_of e ∙ records_chunks notes) in
+      record { left = rw r (left_start l at (write_records (map (noted_transition sink) (records_of rs)))) }
 
   module _ (m : List ℕ) (end i : ℕ) (p : NotesLeft m end i) where
-    pub notes_next : 5 ≤ length notes - i → (n : List ℕ) (k : ℕ) → Written m end (write_records (noted_transition sink (record_at (take (i + 5 - i) (drop i notes)) 0) ∷ [])) n k → NotesLeft n k (i + 5)
+    notes_here : i < length rs → write_records (map (noted_transition sink) (records_of (drop i rs)))
+        ≡ write_records (noted_transition sink (record_at (get_or rs i []) 0) ∷ []) ++ write_records (map (noted_transition sink) (records_of (drop (i + 1) rs)))
     unfolding write_records
-    notes_next h n k w =
-        let e : write_records (map (noted_transition sink) (read_records (drop i notes)))
-        ≡ write_records (noted_transition sink (record_at notes i) ∷ []) ++ write_records (map (noted_transition sink) (read_records (drop (i + 5) notes))) =
-        ap (λ es. write_records (map (noted_transition sink) es)) (records_at_lem notes i h) in
-        record {
-          left = left_next _ _ _ _ _ _ p.left _ _ e n k
-              (subst (λ x. Written m end (write_records (noted_transition sink x ∷ [])) n k) (part_record notes i) w);
-        }
+    notes_here h = ap (λ es. write_records (map (noted_transition sink) es)) (records_next rs i h)
 
-    pub notes_ended : length notes - i < 5 → Written l at (write_records (map (noted_transition sink) (read_records notes))) m end
+    pub notes_room : i < length rs → at + length notes ≤ length l → end + 5 ≤ length m
+    notes_room h r =
+        let few : length (write_records (map (noted_transition sink) (read_records notes))) ≤ length notes =
+        omega (arith, length_write (map (noted_transition sink) (read_records notes)), length-map (read_records notes) (noted_transition sink), count_read notes) in
+        let one : length (write_records (noted_transition sink (record_at (get_or rs i []) 0) ∷ [])) ≡ 5 = length_write (noted_transition sink (record_at (get_or rs i []) 0) ∷ []) in
+        let room : end + length (write_records (noted_transition sink (record_at (get_or rs i []) 0) ∷ [])) ≤ length m =
+        left_room _ _ _ _ _ _ p.left _ _ (notes_here h) (omega (arith, few)) in
+        omega (arith, one, room)
+
+    pub notes_next : i < length rs → (n : List ℕ) (k : ℕ) → Written m end (write_records (noted_transition sink (record_at (get_or rs i []) 0) ∷ [])) n k → NotesLeft n k (i + 1)
+    notes_next h n k w = record { left = left_next _ _ _ _ _ _ p.left _ _ (notes_here h) n k w }
+
+    pub notes_ended : length rs ≤ i → Written l at (write_records (map (noted_transition sink) (read_records notes))) m end
     unfolding write_records
-    notes_ended h =
-        left_done _ _ _ _ _ _ p.left (ap (λ es. write_records (map (noted_transition sink) es)) (records_end notes i h))
+    notes_ended h = left_done _ _ _ _ _ _ p.left (ap (λ es. write_records (map (noted_transition sink) es)) (records_done rs i h))
 
-pub notes_part : (t : List ℕ) (i : ℕ) → 5 ≤ length t - i → length (take (i + 5 - i) (drop i t)) ≡ 5
-notes_part t i h = rw (add-sub_cancel_left, length-take-le 5 (drop i t) (rw (length-drop i t) h))
-
-pub notes_room : (t m n : List ℕ) (e : Transition) (end k i : ℕ) → 5 ≤ length t - i → Written m end (write_records (e ∷ [])) n k → end + (length t - i) ≤ length m → k + (length t - (i + 5)) ≤ length n
-unfolding write_records
-notes_room t m n e end k i h w r = omega (arith, w.behind, written_length m n _ end k w)
-
-pub ruleset notes_laws = (notes_begin, notes_next, notes_ended, notes_part, notes_room, rules)
+pub ruleset notes_laws = (notes_begin, notes_room, notes_next, notes_ended, rules)
 
 -- the accept words of the sets, one after the other
 module _ (A : Automaton) (t : List ℕ) where
@@ -100,15 +112,6 @@ module _ (A : Automaton) (t : List ℕ) where
 pub ruleset accept_laws = (accept_row, row_canon, accepts_none, accepts_next, accepts_done, rules)
 
 -- the sheet, section by section
-count_read : (t : List ℕ) → length t / 5 ≡ length (read_records t)
-unfolding read_records
-count_read [] = refl
-count_read (a ∷ []) = refl
-count_read (a ∷ b ∷ []) = refl
-count_read (a ∷ b ∷ c ∷ []) = refl
-count_read (a ∷ b ∷ c ∷ d ∷ []) = refl
-count_read (a ∷ b ∷ c ∷ d ∷ e ∷ t) = let h = count_read t in omega arith
-
 module _ (A : Automaton) (t o₀ o₁ o₂ : List ℕ) (n x start behind : ℕ) (u : Written o₀ 0 (1 ∷ 0 ∷ x ∷ []) o₁ start)
     (v : Written o₁ start (map (kind_of A) (entries t n) ++ 0 ∷ []) o₂ behind) where
   accepts_behind : behind ≡ 3 + n + 1

@@ -1,5 +1,5 @@
 -- The laws by which `determinize_accepted` is proved: what the notes of a finished table stand for, and the answers.
-use Rattle.std.proofs.Common.{◌≡◌, ℕ, suc, ◌+◌, ◌*◌, ◌<◌, ◌≤◌, List, [], ◌∷◌, ◌++◌, map, length, take, drop, sym, refl, ap, ◌∙◌, subst, ap₂, add-one, arith, length-take-le}
+use Rattle.std.proofs.Common.{◌≡◌, ℕ, suc, ◌+◌, ◌*◌, ◌<◌, ◌≤◌, Option, Some, None, List, [], ◌∷◌, ◌++◌, map, length, take, drop, sym, refl, ap, ◌∙◌, subst, ap₂, add-one, arith, length-take-le, Ok, Err}
 use lib.ListN.{length-map}
 use lib.Seq.{sets, sets-eq, take-append_seam}
 use Rattle.stores.specs.Written.{Written}
@@ -15,9 +15,7 @@ use Rattle.sheets.specs.Sheet.{state_count, read, write}
 use Rattle.sheets.proofs.Meaning.{read_well}
 use Rattle.words.specs.Simulation.{kind_of}
 use Rattle.refusal.specs.declared.StateRefusal.TheVariants.{States, Transitions}
-use Rattle.determinize.specs.declared.Progress.{Progress}
-use Rattle.determinize.specs.declared.Progress.TheVariants.{Sets, Over}
-use Rattle.determinize.specs.declared.Determinized.TheVariants.{Sheet, Refused}
+use Rattle.determinize.specs.declared.exploring.SetCounts.{SetCounts}
 use Rattle.determinize.specs.Determinize.{sets_and_sink, subset_automaton, determinize}
 use Rattle.determinize.specs.inner.Notes.{notes_from, noted_transition, Canonical, TableFinished, TableResult}
 use Rattle.determinize.specs.inner.Attempts.{TableResultWithRoom}
@@ -70,47 +68,47 @@ module _ (lower upper : ℕ) (A : Automaton) (ok : InBounds A) (before t r : Lis
       (ap (map (noted_transition (length (entries t n)))) (notes_read b) ∙ finished_transitions)
 
 -- the answers of determinizing an accepted sheet
-module _ (lower upper : ℕ) (s : List ℕ) (a : Accepted s) (t r : List ℕ) (x : Progress) (p : TableResultWithRoom lower upper (read s) t r x) where
-  pub accepted_over : (o : List ℕ) → x ≡ Over → determinized_of (Refused States) o ≡ sheet_output o (determinize lower upper (read s))
+module _ (lower upper : ℕ) (s : List ℕ) (a : Accepted s) (t r : List ℕ) (x : Option SetCounts) (p : TableResultWithRoom lower upper (read s) t r x) where
+  pub accepted_over : (o : List ℕ) → x ≡ None → determinized_of (Err States) o ≡ sheet_output o (determinize lower upper (read s))
   unfolding TableResult sheet_output
   accepted_over o e = sym (ap (sheet_output o) (answer_over lower upper (read s) (subst (TableResult lower upper (read s) p.before t r) e p.explored)))
 
-  module _ (n m : ℕ) (e : x ≡ Sets n m) where
-    finished : TableFinished lower upper (read s) p.before t r n m
+  module _ (c : SetCounts) (e : x ≡ Some c) where
+    finished : TableFinished lower upper (read s) p.before t r c.sets c.notes
     unfolding TableResult
     finished = subst (TableResult lower upper (read s) p.before t r) e p.explored
 
     ok : InBounds (read s)
     ok = (read_well s a).states
 
-    pub accepted_few : n < 256
+    pub accepted_few : c.sets < 256
     accepted_few = finished.few
 
-    pub accepted_canonical : Canonical (state_count s) (entries t n)
+    pub accepted_canonical : Canonical (state_count s) (entries t c.sets)
     accepted_canonical = finished.canonical
 
     -- the notes stand at the front: i is the number that the code compares with
-    pub accepted_part : (i : ℕ) → m ≤ i → i ≤ 2048 → 5 * m ≡ length (take (5 * m) r)
-    accepted_part i g h = sym (length-take-le (5 * m) r (omega (arith, p.room n m e (omega arith), written_length p.before r _ 0 (5 * m) finished.noted)))
+    pub accepted_part : (i : ℕ) → c.notes ≤ i → i ≤ 2048 → 5 * c.notes ≡ length (take (5 * c.notes) r)
+    accepted_part i g h = sym (length-take-le (5 * c.notes) r (omega (arith, p.room c e (omega arith), written_length p.before r _ 0 (5 * c.notes) finished.noted)))
 
-    pub accepted_room : m ≤ 2048 → length (take (5 * m) r) ≤ 10240
-    accepted_room h = omega (arith, accepted_part m (omega arith) h)
+    pub accepted_room : c.notes ≤ 2048 → length (take (5 * c.notes) r) ≤ 10240
+    accepted_room h = omega (arith, accepted_part c.notes (omega arith) h)
 
-    pub accepted_many : (o : List ℕ) (i : ℕ) → i < m → 2048 ≤ i → determinized_of (Refused Transitions) o ≡ sheet_output o (determinize lower upper (read s))
+    pub accepted_many : (o : List ℕ) (i : ℕ) → i < c.notes → 2048 ≤ i → determinized_of (Err Transitions) o ≡ sheet_output o (determinize lower upper (read s))
     unfolding sheet_output
     accepted_many o i g h =
-        let k : 2048 < m = omega arith in
+        let k : 2048 < c.notes = omega arith in
         sym
         (ap (sheet_output o)
-        (answer_many lower upper (read s) (entries t n) finished.whole (subst (λ k. 2048 < k) (finished_count lower upper (read s) ok p.before t r n m finished) k)))
+        (answer_many lower upper (read s) (entries t c.sets) finished.whole (subst (λ k. 2048 < k) (finished_count lower upper (read s) ok p.before t r c.sets c.notes finished) k)))
 
-    pub accepted_given : m ≤ 2048 → (o o' : List ℕ) (w : ℕ) → Written o 0 (write (noted_automaton (read s) (entries t n) (read_records (take (5 * m) r)))) o' w
-        → determinized_of (Sheet w (n + 1)) o' ≡ sheet_output o (determinize lower upper (read s))
+    pub accepted_given : c.notes ≤ 2048 → (o o' : List ℕ) (w : ℕ) → Written o 0 (write (noted_automaton (read s) (entries t c.sets) (read_records (take (5 * c.notes) r)))) o' w
+        → determinized_of (Ok (record { words = w; states = c.sets + 1 })) o' ≡ sheet_output o (determinize lower upper (read s))
     unfolding sheet_output subset_automaton
     accepted_given h o o' w v =
-        let D = subset_automaton lower upper (read s) (entries t n) in
-        let u : Written o 0 (write D) o' w = subst (λ E. Written o 0 (write E) o' w) (finished_sheet lower upper (read s) ok p.before t r n m finished (p.room n m e h)) v in
-        let c : w ≡ length (write D) = u.behind ∙ omega arith in
-        let k : n + 1 ≡ suc (length (entries t n)) = add-one n ∙ ap suc (sym (length_entries t n)) in
-        rw (u.stored, c, k)
-        (sym (ap (sheet_output o) (answer_given lower upper (read s) (entries t n) finished.whole (subst (λ k. k ≤ 2048) (finished_count lower upper (read s) ok p.before t r n m finished) h))))
+        let D = subset_automaton lower upper (read s) (entries t c.sets) in
+        let u : Written o 0 (write D) o' w = subst (λ E. Written o 0 (write E) o' w) (finished_sheet lower upper (read s) ok p.before t r c.sets c.notes finished (p.room c e h)) v in
+        let z : w ≡ length (write D) = u.behind ∙ omega arith in
+        let k : c.sets + 1 ≡ suc (length (entries t c.sets)) = add-one c.sets ∙ ap suc (sym (length_entries t c.sets)) in
+        rw (u.stored, z, k)
+        (sym (ap (sheet_output o) (answer_given lower upper (read s) (entries t c.sets) finished.whole (subst (λ k. k ≤ 2048) (finished_count lower upper (read s) ok p.before t r c.sets c.notes finished) h))))

@@ -13,7 +13,7 @@
 -- determinize_left, determinize_left_words, determinize_left_one: the result that it leaves in the outputs.
 -- determinize_20, determinize_fault, determinize_21, determinize_22, determinize_0: the exact conditions of its refusals, and of none.
 -- determinize_unchanged: a refusal leaves the outputs as they were.
-use Rattle.std.proofs.Common.{◌≡◌, ℕ, suc, ◌+◌, ◌<◌, ◌≤◌, ◌⊎◌, ◌↔◌, List, [], ◌∷◌, length, take, sym, refl, ap, ◌∙◌, subst, arith}
+use Rattle.std.proofs.Common.{◌≡◌, ℕ, suc, ◌+◌, ◌<◌, ◌≤◌, ◌⊎◌, ◌↔◌, List, [], ◌∷◌, length, take, sym, refl, ap, ◌∙◌, subst, arith, Result, Ok}
 use Rattle.lists.specs.Lists.{◌∈◌, any, filter}
 use Rattle.lists.proofs.Lists.{filter_out, length_tabulate}
 use Rattle.automata.specs.Automaton.{Transition, Automaton, Run, Accepts, Word, InBounds, carries}
@@ -21,7 +21,7 @@ use Rattle.automata.specs.WellFormed.{last_symbol, WellFormed, Fits}
 use Rattle.labels.specs.Forms.{numbered_label, numbered_labels}
 use Rattle.labels.proofs.Listing.{labels_tabulate, label_numbered}
 use Rattle.output.specs.declared.Made.{Made}
-use Rattle.output.specs.declared.Made.TheVariants.{Lengths}
+use Rattle.refusal.specs.declared.Refusal.{Refusal}
 use Rattle.output.specs.Left.{made_number, Room, Leaves, Unchanged}
 use Rattle.output.specs.Made.{output_of}
 use Rattle.output.specs.Output.{Pattern, outputs, room_first}
@@ -233,7 +233,7 @@ unfolding subset_pattern
 given_pattern a D e = ap subset_pattern e
 
 -- what the call leaves: r is its answer, o and l are the outputs before it, o' and l' after it
-module _ (s o l o' l' : List ℕ) (r : Made) (call : output_of r o' l' ≡ outputs o l (determinize_answer s o l)) where
+module _ (s o l o' l' : List ℕ) (r : Result Made Refusal) (call : output_of r o' l' ≡ outputs o l (determinize_answer s o l)) where
   -- the answer behind 20 and the sheet's faults
   abbrev answer : Answer Pattern
   answer = subset_pattern (determinize 0 last_symbol (read s))
@@ -248,7 +248,7 @@ module _ (s o l o' l' : List ℕ) (r : Made) (call : output_of r o' l' ≡ outpu
   over_20 : (n : ℕ) → answer ≡ refused n → 20 < n
   over_20 n e = refused_above 0 last_symbol (read s) n ((pattern_refused (determinize 0 last_symbol (read s)) n).0 e)
 
-  module _ (w b : ℕ) (lengths : r ≡ Lengths w b) where
+  module _ (w b : ℕ) (lengths : r ≡ Ok (record { words = w; bytes = b })) where
     made : (fault s ≡ 0) × ((D : Automaton) × (determinize 0 last_symbol (read s) ≡ given D))
     made =
         let (room, f, (P, e)) = (sheet_call_given s o l o' l' r answer contract).0 (ap made_number lengths) in

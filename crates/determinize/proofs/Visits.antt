@@ -1,5 +1,5 @@
 -- The spans of a state, one after the other: the table and the notes after each.
-use Rattle.std.proofs.Common.{◌≡◌, ℕ, ◌+◌, ◌-◌, ◌*◌, ◌<◌, ◌≤◌, List, [], ◌∷◌, ◌++◌, length, get_or, sym, refl, ap, ◌∙◌, subst, ⊎_elim, append_assoc, arith, length-append, rules}
+use Rattle.std.proofs.Common.{◌≡◌, ℕ, ◌+◌, ◌-◌, ◌*◌, ◌<◌, ◌≤◌, Some, None, List, [], ◌∷◌, ◌++◌, length, get_or, sym, refl, ap, ◌∙◌, subst, ⊎_elim, append_assoc, arith, length-append, rules}
 use mathlib.Core.List.Memᴰ
 use lib.ListN.{get_or-append}
 use Rattle.stores.specs.Written.{Written}
@@ -16,7 +16,6 @@ use Rattle.sheets.proofs.Meaning.{read_well}
 use Rattle.words.specs.Simulation.{outgoing, step}
 use Rattle.words.proofs.Stepping.{step_canon}
 use Rattle.ranges.specs.Cuts.{next_cut}
-use Rattle.determinize.specs.declared.Progress.TheVariants.{Sets, Over}
 use Rattle.determinize.specs.Determinize.{set_targets}
 use Rattle.determinize.specs.inner.Notes.{set_number, notes_of, Canonical, SetPlaced, SpanVisited, SpansResult, add_set, meet_sets}
 use Rattle.determinize.proofs.Tables.{add_extends, add_in, meet_out}
@@ -84,11 +83,11 @@ module _ (lower upper : ℕ) (A : Automaton) (S : Set) (j : ℕ) (before : List 
       visit_next = record { met = met_next; noted = noted_next }
 
       -- a table with 256 sets is too many
-      pub visit_over : n' ≡ 256 → SpansResult lower upper A S T j before count t' r' Over
+      pub visit_over : n' ≡ 256 → SpansResult lower upper A S T j before count t' r' None
       unfolding SpansResult
       visit_over g = meet_full lower upper A S T c (entries t' n') met_next (omega (arith, length_entries t' n'))
 
-    pub visit_ended : upper + 1 ≤ a → n < 256 → Canonical A.size (entries t n) → k + lower ≤ count + a → a ≤ 4294967296 → SpansResult lower upper A S T j before count t r (Sets n k)
+    pub visit_ended : upper + 1 ≤ a → n < 256 → Canonical A.size (entries t n) → k + lower ≤ count + a → a ≤ 4294967296 → SpansResult lower upper A S T j before count t r (Some (record { sets = n; notes = k }))
     unfolding SpansResult write_records
     visit_ended h f c b d =
         record {

@@ -16,7 +16,7 @@ ghost use Rattle.determinize.specs.inner.Notes.{sink_notes, SetPlaced, SpansResu
 ghost use Rattle.determinize.specs.inner.Memory.{StateSet, TableAndNotes, StartTable, ProgressPlaced, ExplorationPlaced};
 ghost use Rattle.determinize.specs.inner.Attempts.{run_length, run_lengths, SpansExploration, TableExploration};
 
-use crate::{Exploration, Progress};
+use crate::{MOST_STATES, Unfinished};
 use ranges::Ends;
 
 // Where a set stands in the table, and how many sets the table has.
@@ -114,7 +114,8 @@ fn visit(
     }
 }
 
-// Visits the spans between the cuts of the ranges that leave a set, ascending: those that a range holds are the parts, the others the holes.
+// Visits the spans between the cuts of the ranges that leave a set, ascending: those that a range holds are the parts, the others the holes. `None` where the
+// table would have over 255 sets, in every function of the pass.
 // Each of 256 sets has at most 2^32 of them, so that the number of notes stays far below what a usize holds.
 pub fn visit_spans(
     s: &[u32],
@@ -128,7 +129,7 @@ pub fn visit_spans(
     notes: &mut [u32],
     counts: SetCounts,
     compared: &mut u64,
-) -> Progress
+) -> Option<SetCounts>
     requires tables { Tables s.now starts.now closures.now × StateSet s.now set.now }
     requires table_and_notes { TableAndNotes s.now table.old notes.old counts.sets counts.notes × Placed places.old (entries table.old counts.sets) }
     ensures visited { SpansResult symbols.lower symbols.upper (read s.now) (set_at set.now 0) (entries table.old counts.sets)
@@ -148,13 +149,16 @@ pub fn visit_spans(
         let last = (visited.cut - 1) as u32;
         note(notes, count, from, first, last, visited.number);
         n = visited.sets;
-        if n == 256 {
-            return Progress::Over;
+        if n == MOST_STATES {
+            return None;
         }
         count += 1;
         a = visited.cut;
     }
-    Progress::Sets(n, count)
+    Some(SetCounts {
+        sets: n,
+        notes: count,
+    })
 }
 
 // The note of the sink's loop, which holds all symbols, behind `count` others; answers how many notes there are then.
@@ -227,7 +231,7 @@ fn try_spans(
     notes: &mut [u32],
     counts: SetCounts,
     compared: &mut u64,
-) -> Exploration
+) -> Result<Option<SetCounts>, Unfinished>
     requires tables { Tables s.now starts.now closures.now × StateSet s.now set.now }
     requires table_and_notes { TableAndNotes s.now table.old notes.old counts.sets counts.notes × (0 < counts.sets) × Placed places.old (entries table.old counts.sets) }
     ensures visited { SpansExploration symbols.lower symbols.upper (read s.now) (set_at set.now 0) (entries table.old counts.sets)
@@ -248,16 +252,19 @@ fn try_spans(
         let last = (visited.cut - 1) as u32;
         note(notes, count, from, first, last, visited.number);
         n = visited.sets;
-        if n == 256 {
-            return Exploration::Finished(Progress::Over);
+        if n == MOST_STATES {
+            return Ok(None);
         }
         count += 1;
         a = visited.cut;
         if is_found_long(starts, set, count - noted) {
-            return Exploration::Unfinished;
+            return Err(Unfinished);
         }
     }
-    Exploration::Finished(Progress::Sets(n, count))
+    Ok(Some(SetCounts {
+        sets: n,
+        notes: count,
+    }))
 }
 
 // Visits the spans of entry i of the table, or gives up.
@@ -272,7 +279,7 @@ fn visit_set(
     notes: &mut [u32],
     counts: SetCounts,
     compared: &mut u64,
-) -> Exploration
+) -> Result<Option<SetCounts>, Unfinished>
     requires tables { Tables s.now starts.now closures.now × TableAndNotes s.now table.old notes.old counts.sets counts.notes × (i < counts.sets) }
     requires placed { Placed places.old (entries table.old counts.sets) }
     ensures visited { SpansExploration symbols.lower symbols.upper (read s.now) (slice_index_or (entries table.old counts.sets) i [])
@@ -307,7 +314,7 @@ pub fn explore(
     table: &mut [u64],
     notes: &mut [u32],
     compared: &mut u64,
-) -> Exploration
+) -> Result<Option<SetCounts>, Unfinished>
     requires { StartTable s.now starts.now closures.now table.old × (length notes.old % 5 ≡ 0) }
     ensures { TableExploration symbols.lower symbols.upper (read s.now) table.new notes.new result }
 {
@@ -318,13 +325,13 @@ pub fn explore(
     let mut i: usize = 0;
     while i < n {
         if is_full(notes, count) {
-            return Exploration::Unfinished;
+            return Err(Unfinished);
         }
         let counts = SetCounts {
             sets: n,
             notes: count,
         };
-        match visit_set(
+        let progress = visit_set(
             s,
             starts,
             closures,
@@ -335,21 +342,20 @@ pub fn explore(
             notes,
             counts,
             compared,
-        ) {
-            Exploration::Finished(progress) => match progress {
-                Progress::Sets(sets, noted) => {
-                    n = sets;
-                    count = noted;
-                    i += 1;
-                }
-                Progress::Over => return Exploration::Finished(Progress::Over),
-            },
-            Exploration::Unfinished => return Exploration::Unfinished,
-        }
+        )?;
+        let Some(reached) = progress else {
+            return Ok(None);
+        };
+        n = reached.sets;
+        count = reached.notes;
+        i += 1;
     }
     let all = note_sink(notes, count, n as u32, symbols);
     if is_full(notes, all) {
-        return Exploration::Unfinished;
+        return Err(Unfinished);
     }
-    Exploration::Finished(Progress::Sets(n, all))
+    Ok(Some(SetCounts {
+        sets: n,
+        notes: all,
+    }))
 }

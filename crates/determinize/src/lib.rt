@@ -13,35 +13,30 @@ ghost use Rattle.determinize.specs.inner.Memory.{StartTable};
 ghost use Rattle.determinize.specs.inner.Attempts.{TableResultWithRoom};
 ghost use Rattle.determinize.specs.inner.Sheets.{determinized_of, sheet_output};
 
+use crate::exploring::SetCounts;
 use output::Made;
 use ranges::Ends;
 use refusal::{Refusal, StateRefusal};
-use sheets::Checked;
 
 mod exploring;
 mod sweeping;
 mod writing;
 
-// How far the first pass has come: how many sets the table has and how many transitions are noted, or that the sets are too many.
-#[derive(Drop)]
-pub enum Progress {
-    Sets(usize, usize),
-    Over,
+// A result has at most 256 states, one of which is the sink, and at most 2,048 transitions.
+const MOST_STATES: usize = 256;
+
+const MOST_TRANSITIONS: usize = 2048;
+
+// The sheet that determinizing an accepted sheet has put into the output: how many words it takes and how many states it has.
+#[derive(Clone, Copy)]
+pub struct Determinized {
+    pub words: usize,
+    pub states: usize,
 }
 
-// The answer of determinizing an accepted sheet: how many words the sheet of the result takes and how many states it has, or a refusal.
+// The first pass gave up, because a set is long or the memory for notes is too short.
 #[derive(Drop)]
-pub enum Determinized {
-    Sheet(usize, usize),
-    Refused(StateRefusal),
-}
-
-// What the first pass came to: its answer, or nothing, because a set is long or the memory for notes is too short.
-#[derive(Drop)]
-pub enum Exploration {
-    Finished(Progress),
-    Unfinished,
-}
+pub struct Unfinished;
 
 // The answer of determinizing, from what the first pass came to.
 fn finish(
@@ -49,22 +44,25 @@ fn finish(
     symbols: Ends,
     table: &[u64],
     notes: &[u32],
-    progress: Progress,
+    progress: Option<SetCounts>,
     out: &mut [u32],
-) -> Determinized
+) -> Result<Determinized, StateRefusal>
     requires { Accepted s.now × TableResultWithRoom symbols.lower symbols.upper (read s.now) table.now notes.now progress × (length table.now ≡ 1024) × (sheet_size ≤ length out.old) }
     ensures { determinized_of result out.new ≡ sheet_output out.old (determinize symbols.lower symbols.upper (read s.now)) }
 {
-    match progress {
-        Progress::Sets(n, count) => {
-            if 2048 < count {
-                return Determinized::Refused(StateRefusal::Transitions);
-            }
-            let words = writing::write_sheet(s, table, n, &notes[..5 * count], out);
-            Determinized::Sheet(words, n + 1)
-        }
-        Progress::Over => Determinized::Refused(StateRefusal::States),
+    let Some(counts) = progress else {
+        return Err(StateRefusal::States);
+    };
+    let n = counts.sets;
+    let count = counts.notes;
+    if MOST_TRANSITIONS < count {
+        return Err(StateRefusal::Transitions);
     }
+    let words = writing::write_sheet(s, table, n, &notes[..5 * count], out);
+    Ok(Determinized {
+        words,
+        states: n + 1,
+    })
 }
 
 // Determinizes with room for 2,048 notes.
@@ -76,14 +74,14 @@ fn determinize_large(
     table: &mut [u64],
     out: &mut [u32],
     compared: &mut u64,
-) -> Determinized
+) -> Result<Determinized, StateRefusal>
     requires { StartTable s.now starts.now closures.now table.old × (sheet_size ≤ length out.old) }
     ensures { determinized_of result out.new ≡ sheet_output out.old (determinize symbols.lower symbols.upper (read s.now)) }
 {
     let mut notes = [0u32; 10240];
     match exploring::explore(s, starts, closures, symbols, table, &mut notes, compared) {
-        Exploration::Finished(progress) => finish(s, symbols, table, &notes, progress, out),
-        Exploration::Unfinished => {
+        Ok(progress) => finish(s, symbols, table, &notes, progress, out),
+        Err(Unfinished) => {
             let progress = sweeping::explore_by_events(
                 s, starts, closures, symbols, table, &mut notes, compared,
             );
@@ -101,16 +99,14 @@ fn determinize_small(
     table: &mut [u64],
     out: &mut [u32],
     compared: &mut u64,
-) -> Determinized
+) -> Result<Determinized, StateRefusal>
     requires { StartTable s.now starts.now closures.now table.old × (sheet_size ≤ length out.old) }
     ensures { determinized_of result out.new ≡ sheet_output out.old (determinize symbols.lower symbols.upper (read s.now)) }
 {
     let mut notes = [0u32; 640];
     match exploring::explore(s, starts, closures, symbols, table, &mut notes, compared) {
-        Exploration::Finished(progress) => finish(s, symbols, table, &notes, progress, out),
-        Exploration::Unfinished => determinize_large(
-            s, starts, closures, symbols, table, out, compared,
-        ),
+        Ok(progress) => finish(s, symbols, table, &notes, progress, out),
+        Err(Unfinished) => determinize_large(s, starts, closures, symbols, table, out, compared),
     }
 }
 
@@ -121,7 +117,7 @@ pub fn determinize_counted(
     upper: u32,
     out: &mut [u32],
     compared: &mut u64,
-) -> Determinized
+) -> Result<Determinized, StateRefusal>
     requires { Accepted s.now × (sheet_size ≤ length out.old) }
     ensures { determinized_of result out.new ≡ sheet_output out.old (determinize lower upper (read s.now)) }
 {
@@ -137,7 +133,12 @@ pub fn determinize_counted(
 }
 
 // Determinizes an accepted sheet like `determinize_counted`, and lets the count go.
-pub fn determinize_accepted(s: &[u32], lower: u32, upper: u32, out: &mut [u32]) -> Determinized
+pub fn determinize_accepted(
+    s: &[u32],
+    lower: u32,
+    upper: u32,
+    out: &mut [u32],
+) -> Result<Determinized, StateRefusal>
     requires { Accepted s.now × (sheet_size ≤ length out.old) }
     ensures { determinized_of result out.new ≡ sheet_output out.old (determinize lower upper (read s.now)) }
 {
@@ -146,21 +147,18 @@ pub fn determinize_accepted(s: &[u32], lower: u32, upper: u32, out: &mut [u32]) 
 }
 
 // Determinizes a sheet: the result at the front of out, its labels D0, D1 and so on at the front of names.
-pub fn determinize(s: &[u32], out: &mut [u32], names: &mut [u8]) -> Made
+#[tactic(auto, using(crate::proofs::Made::made_laws))]
+pub fn determinize(s: &[u32], out: &mut [u32], names: &mut [u8]) -> Result<Made, Refusal>
     ensures { output_of result out.new names.new ≡ outputs out.old names.old (determinize_answer s.now out.old names.old) }
 {
     if output::lacks_room(out, names) {
-        return Made::Refused(Refusal::State(StateRefusal::OutputLength));
+        return Err(Refusal::State(StateRefusal::OutputLength));
     }
-    match sheets::check(s) {
-        Checked::Accepted => {}
-        Checked::Refused(r) => return Made::Refused(Refusal::Input(r)),
-    }
-    match determinize_accepted(s, 0, 4294967295, out) {
-        Determinized::Sheet(words, states) => Made::Lengths(
-            words,
-            labels::write_numbered(names, states),
-        ),
-        Determinized::Refused(r) => Made::Refused(Refusal::State(r)),
-    }
+    sheets::check(s)?;
+    let sheet = determinize_accepted(s, 0, 4294967295, out)?;
+    let bytes = labels::write_numbered(names, sheet.states);
+    Ok(Made {
+        words: sheet.words,
+        bytes,
+    })
 }

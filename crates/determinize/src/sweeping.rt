@@ -11,10 +11,10 @@ ghost use Rattle.determinize.specs.inner.Notes.{SetPlaced, SpanVisited, SpansRes
 ghost use Rattle.determinize.specs.inner.Memory.{TableAndNotes, StartTable, ProgressPlaced};
 ghost use Rattle.determinize.specs.inner.Attempts.{TableResultWithRoom, SetNumbered};
 
-use crate::Progress;
+use crate::MOST_STATES;
 use crate::exploring::{SetCounts, SetEntry};
 use ranges::Ends;
-use sweep::Turn;
+use sweep::{EventKind, Turn};
 
 // Whether row j is one of the first n of the table and is the set.
 fn is_row(table: &[u64], n: usize, set: &[u64], j: usize, compared: &mut u64) -> bool
@@ -106,7 +106,7 @@ fn sweep_spans(
     notes: &mut [u32],
     counts: SetCounts,
     compared: &mut u64,
-) -> Progress
+) -> Option<SetCounts>
     requires closed { Closed s.now closures.now × Lined 0 s.now opens.now × Lined 1 s.now ends.now × (4 ≤ length set.now) }
     requires table_and_notes { TableAndNotes s.now table.old notes.old counts.sets counts.notes × Placed places.old (entries table.old counts.sets) }
     ensures visited { SpansResult symbols.lower symbols.upper (read s.now) (set_at set.now 0) (entries table.old counts.sets)
@@ -146,13 +146,16 @@ fn sweep_spans(
             compared,
         );
         n = placed.sets;
-        if n == 256 {
-            return Progress::Over;
+        if n == MOST_STATES {
+            return None;
         }
         near = placed.number;
         count += 1;
     }
-    Progress::Sets(n, count)
+    Some(SetCounts {
+        sets: n,
+        notes: count,
+    })
 }
 
 // Visits the spans of entry i of the table.
@@ -169,7 +172,7 @@ fn visit_entry(
     notes: &mut [u32],
     counts: SetCounts,
     compared: &mut u64,
-) -> Progress
+) -> Option<SetCounts>
     requires tables { Tables s.now starts.now closures.now × Lined 0 s.now opens.now × Lined 1 s.now ends.now }
     requires table_and_notes { TableAndNotes s.now table.old notes.old counts.sets counts.notes × (i < counts.sets) × Placed places.old (entries table.old counts.sets) }
     ensures visited { SpansResult symbols.lower symbols.upper (read s.now) (slice_index_or (entries table.old counts.sets) i [])
@@ -200,7 +203,7 @@ fn explore_swept(
     table: &mut [u64],
     notes: &mut [u32],
     compared: &mut u64,
-) -> Progress
+) -> Option<SetCounts>
     requires { StartTable s.now starts.now closures.now table.old × Lined 0 s.now opens.now × Lined 1 s.now ends.now × (length notes.old % 5 ≡ 0) }
     ensures { TableResult symbols.lower symbols.upper (read s.now) notes.old table.new notes.new result }
 {
@@ -214,7 +217,7 @@ fn explore_swept(
             sets: n,
             notes: count,
         };
-        match visit_entry(
+        let progress = visit_entry(
             s,
             starts,
             closures,
@@ -227,19 +230,18 @@ fn explore_swept(
             notes,
             counts,
             compared,
-        ) {
-            Progress::Sets(sets, noted) => {
-                n = sets;
-                count = noted;
-                i += 1;
-            }
-            Progress::Over => return Progress::Over,
-        }
+        );
+        let Some(reached) = progress else {
+            return None;
+        };
+        n = reached.sets;
+        count = reached.notes;
+        i += 1;
     }
-    Progress::Sets(
-        n,
-        crate::exploring::note_sink(notes, count, n as u32, symbols),
-    )
+    Some(SetCounts {
+        sets: n,
+        notes: crate::exploring::note_sink(notes, count, n as u32, symbols),
+    })
 }
 
 // The whole table like `explore`: the events of the sheet are put in order, with the memory of the notes lent for it.
@@ -251,14 +253,14 @@ pub fn explore_by_events(
     table: &mut [u64],
     notes: &mut [u32],
     compared: &mut u64,
-) -> Progress
+) -> Option<SetCounts>
     requires { StartTable s.now starts.now closures.now table.old × (length notes.old ≡ 10240) }
     ensures { TableResultWithRoom symbols.lower symbols.upper (read s.now) table.new notes.new result }
 {
     let mut opens = [0u32; 2048];
     let mut ends = [0u32; 2048];
-    let opened = sweep::order_events(0, s, &mut opens, notes);
-    let ended = sweep::order_events(1, s, &mut ends, notes);
+    let opened = sweep::order_events(EventKind::Opening, s, &mut opens, notes);
+    let ended = sweep::order_events(EventKind::Ending, s, &mut ends, notes);
     explore_swept(
         s,
         starts,

@@ -27,17 +27,15 @@ fn put_accept_words(s: &[u32], table: &[u64], n: usize, out: &mut [u32], at: usi
     ensures { Written out.old at (map (kind_of (read s.now)) (entries table.now n) ++ 0 ∷ []) out.new result }
 {
     let mut end = at;
-    let mut j: usize = 0;
-    while j < n {
-        end = stores::put_word(out, end, accept_word(s, table, n, j));
-        j += 1;
+    for j in 0..n {
+        end = stores::put(out, end, accept_word(s, table, n, j));
     }
-    stores::put_word(out, end, 0)
+    stores::put(out, end, 0)
 }
 
 // The record that a note stands for.
-fn put_note(note: &[u32], sink: u32, out: &mut [u32], at: usize) -> usize
-    requires { (length note.now ≡ 5) × (at + 5 ≤ length out.old) }
+fn put_note(note: &[u32; 5], sink: u32, out: &mut [u32], at: usize) -> usize
+    requires { at + 5 ≤ length out.old }
     ensures { Written out.old at (write_records (noted_transition sink (record_at note.now 0) ∷ [])) out.new result }
 {
     let to = note[4];
@@ -52,11 +50,10 @@ fn put_notes(notes: &[u32], sink: u32, out: &mut [u32], at: usize) -> usize
     requires { at + length notes.now ≤ length out.old }
     ensures { Written out.old at (write_records (map (noted_transition sink) (read_records notes.now))) out.new result }
 {
+    let (records, _) = notes.as_chunks::<5>();
     let mut end = at;
-    let mut i: usize = 0;
-    while 5 <= notes.len() - i {
-        end = put_note(&notes[i..i + 5], sink, out, end);
-        i += 5;
+    for note in records {
+        end = put_note(note, sink, out, end);
     }
     end
 }
@@ -68,6 +65,6 @@ pub fn write_sheet(s: &[u32], table: &[u64], n: usize, notes: &[u32], out: &mut 
 {
     let start = output::put_start(out, 0, n as u32 + 1);
     let accepts = put_accept_words(s, table, n, out, start);
-    let records = stores::put_word(out, accepts, (notes.len() / 5) as u32);
+    let records = stores::put(out, accepts, (notes.len() / 5) as u32);
     put_notes(notes, n as u32, out, records)
 }

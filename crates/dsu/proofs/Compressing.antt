@@ -1,14 +1,9 @@
 -- What `find` leaves in the parents, on every value of the struct. Assumes nothing.
-use Prim.Native.Nat.{ℕ, ◌≤◌, ◌<◌}
-use mathlib.Core.Path.{◌≡◌, refl, sym, ap, subst, ◌∙◌}
+use Rattle.std.proofs.Common.{Ok, Err, ℕ, ◌≤◌, ◌<◌, ◌≡◌, length, get_or, sym, ap, subst, ◌∙◌, arith, get_or-set_same, get_or-set_other, le-leb, refl}
 use native.Mathlib.Decide.{dec_lt}
-use native.Mathlib.Omega.{arith}
-use lib.ListN.{length, get_or}
-use lib.Seq.{get_or-set_same, get_or-set_other}
-use borrow.Author.Tests.{le-leb, lt-leb}
+use borrow.Author.Tests.{lt-leb}
 use Rattle.refusal.specs.declared.StateRefusal.{StateRefusal}
 use Rattle.dsu.specs.declared.DSU.{DSU}
-use Rattle.dsu.specs.declared.Found.TheVariants.{Root, Refused}
 use Rattle.dsu.specs.declared.FindAnswer.{FindAnswer}
 use Rattle.dsu.specs.Sets.{Way, broken, reached, way, found_by, find_of}
 use Rattle.dsu.specs.Refusals.{OnWay, here, next, Compressed}
@@ -36,14 +31,14 @@ module _ (d : DSU) where
 
   -- where `find` answers, the way leads to the answer
   module _ (x a : ℕ) where
-    refused_root : (r : StateRefusal) → Refused r ≡ Root a → ⊥
+    refused_root : (r : StateRefusal) → Err r ≡ Ok a → ⊥
     refused_root r e = let z : ◌≡◌ {A = ℕ} 0 1 = cc in omega arith
 
-    found_leads : (find_of d x).found ≡ Root a → LeadsIn x a
+    found_leads : (find_of d x).found ≡ Ok a → LeadsIn x a
     unfolding find_of
     found_leads f = by_place (dec_lt x d.n)
       where
-        by_way : x < d.n → (w : Way) → way d.repr d.size d.n x ≡ w → (found_by d w).found ≡ Root a → LeadsIn x a
+        by_way : x < d.n → (w : Way) → way d.repr d.size d.n x ≡ w → (found_by d w).found ≡ Ok a → LeadsIn x a
         by_way i broken e q = absurd (refused_root _ q)
         by_way i (reached b m) e q = let s : b ≡ a = cc in way_leads d.repr d.size d.n x a m i (rw s at e)
 
@@ -52,7 +47,7 @@ module _ (d : DSU) where
         by_place (no h) = absurd (refused_root _ (rw (le-leb d.n x (omega arith)) at f))
 
 -- the length is that of the struct's array
-pub find_compressed : (d : DSU) (x a : ℕ) (r : FindAnswer) → r ≡ find_of d x → r.found ≡ Root a → length d.repr ≡ 512 → Compressed d x a r.sets
+pub find_compressed : (d : DSU) (x a : ℕ) (r : FindAnswer) → r ≡ find_of d x → r.found ≡ Ok a → length d.repr ≡ 512 → Compressed d x a r.sets
 find_compressed d x a r e f long =
     let t = found_leads d x a (sym (ap (λ (q : FindAnswer). q.found) e) ∙ f) in
     subst (λ (q : FindAnswer). Compressed d x a q.sets) (sym (e ∙ leads_find t)) (record {

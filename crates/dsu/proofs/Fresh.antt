@@ -1,15 +1,6 @@
 -- What the loop of `new` makes: each index at its place. Assumes nothing.
-use Prim.Native.Nat.{ℕ, ◌+◌, ◌≤◌, ◌<◌}
-use mathlib.Core.Path.{◌≡◌, refl, sym, ap, ◌∙◌}
-use mathlib.Core.List.{List, [], ◌∷◌, ◌++◌}
-use native.Mathlib.Omega.{arith}
-use native.Mathlib.Numerals.{add-one}
-use lib.ListN.{length, take, set, replicate, length-set}
-use lib.Seq.{take_all, take-suc-set}
-use borrow.Author.Rules.{rules}
-use borrow.Author.Tests.{lt-ltb, le-ltb}
+use Rattle.std.proofs.Common.{Ok, Err, ℕ, ◌+◌, ◌≤◌, ◌<◌, ◌≡◌, List, [], ◌∷◌, ◌++◌, length, take, set, replicate, sym, ap, ◌∙◌, arith, add-one, length-set, take_all, take-suc-set, rules, lt-ltb, le-ltb, refl}
 use Rattle.refusal.specs.declared.StateRefusal.TheVariants.{Element}
-use Rattle.dsu.specs.declared.SetsOutcome.TheVariants.{Done, Refused}
 use Rattle.dsu.specs.declared.SetsAnswer.{SetsAnswer}
 use Rattle.dsu.specs.Sets.{up_to, fresh, new_of}
 
@@ -34,11 +25,11 @@ module _ (l : List ℕ) (i : ℕ) (f : Filled l i) where
     all_filled : l ≡ up_to 512
     all_filled = let q : i ≡ 512 = omega arith in sym (take_all i l (omega (arith, f.long))) ∙ f.so_far ∙ ap up_to q
 
-    pub new_refused : 512 < n → ◌≡◌ {A = SetsAnswer} (record { outcome = Refused Element; sets = record { repr = l; size = replicate 512 1; n = 0 } }) (new_of n)
+    pub new_refused : 512 < n → ◌≡◌ {A = SetsAnswer} (record { outcome = Err Element; sets = record { repr = l; size = replicate 512 1; n = 0 } }) (new_of n)
     unfolding new_of fresh
     new_refused h = rw (lt-ltb 512 n h, all_filled)
 
-    pub new_made : n ≤ 512 → ◌≡◌ {A = SetsAnswer} (record { outcome = Done; sets = record { repr = l; size = replicate 512 1; n = n } }) (new_of n)
+    pub new_made : n ≤ 512 → ◌≡◌ {A = SetsAnswer} (record { outcome = Ok tt; sets = record { repr = l; size = replicate 512 1; n = n } }) (new_of n)
     unfolding new_of fresh
     new_made h = rw (le-ltb 512 n h, all_filled)
 

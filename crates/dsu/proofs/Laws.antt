@@ -1,19 +1,13 @@
 -- The laws of join sets: those who build on them cite these, with a function's contract as the premise. Assumes nothing.
-use Prim.Native.Nat.{ℕ, zero, suc, ◌+◌, ◌≤◌, ◌<◌}
-use mathlib.Core.Path.{◌≡◌, refl, sym, subst, ◌∙◌}
-use mathlib.Core.Bool.{Bool, true, false, cond}
-use mathlib.Core.List.{List, [], ◌∷◌, ◌++◌}
+use Rattle.std.proofs.Common.{Result, Ok, Err, ℕ, zero, suc, ◌+◌, ◌≤◌, ◌<◌, ◌≡◌, Bool, true, false, cond, List, [], ◌∷◌, ◌++◌, ltb, length, get_or, replicate, sym, subst, ◌∙◌, arith, length-append, le-ltb, eq-eqb, ne_eqb, refl}
+use Rattle.refusal.specs.declared.StateRefusal.{StateRefusal}
 use native.Mathlib.Decide.{ℕ_discrete}
-use native.Mathlib.Omega.{arith}
-use lib.Dec.{ltb}
-use lib.ListN.{length, get_or, replicate, length-append, length-replicate, get_or-replicate, get_or-append}
+use lib.ListN.{length-replicate, get_or-replicate, get_or-append}
 use lib.Seq.{get_or_at}
-use borrow.Author.Tests.{lt-leb, le-ltb, eq-eqb, ne_eqb}
+use borrow.Author.Tests.{lt-leb}
 use Rattle.dsu.specs.declared.DSU.{DSU}
 use Rattle.dsu.specs.declared.FindAnswer.{FindAnswer}
 use Rattle.dsu.specs.declared.SetsAnswer.{SetsAnswer}
-use Rattle.dsu.specs.declared.United.{United}
-use Rattle.dsu.specs.declared.United.TheVariants as united
 use Rattle.dsu.specs.Sets.{find_of, After, under, join, union_in, made_of, union_of, up_to, fresh, new_of}
 use Rattle.dsu.specs.inner.Lent.{sets_of}
 use Rattle.dsu.specs.inner.Steps.{SizedElement}
@@ -106,11 +100,11 @@ find_law d x r e v h =
 -- union
 
 module _ (d : DSU) (x y : ℕ) where
-  -- e is d after a union of x and y, by what the two were
-  abbrev pub Unites : United → DSU → Type 0
-  Unites united.Apart e = Valid e × Joins d.n (class_of d) (class_of e) x y
-  Unites united.Together e = Valid e × Same d x y × ((w : ℕ) → w < d.n → class_of e w ≡ class_of d w)
-  Unites (united.Refused r) e = ⊥
+  -- e is d after a union of x and y, by whether the two were apart
+  abbrev pub Unites : Result Bool StateRefusal → DSU → Type 0
+  Unites (Ok true) e = Valid e × Joins d.n (class_of d) (class_of e) x y
+  Unites (Ok false) e = Valid e × Same d x y × ((w : ℕ) → w < d.n → class_of e w ≡ class_of d w)
+  Unites (Err r) e = ⊥
 
   -- the same of what is left in lent arrays
   abbrev pub UnitesIn : After → Type 0
@@ -174,8 +168,8 @@ union_law d x y r e v x_in y_in =
     let u = union_in d.repr d.size d.n x y in
     subst (UnionLaw d x y) (sym e) (by_case u.0 u.1 u.2 (union_unites d x y v x_in y_in))
   where
-    by_case : (u : United) (l z : List ℕ) → Unites d x y u (sets_of l z d.n) → UnionLaw d x y (made_of d u l z)
-    by_case united.Apart l z w = let j = w.1 in record {
+    by_case : (u : Result Bool StateRefusal) (l z : List ℕ) → Unites d x y u (sets_of l z d.n) → UnionLaw d x y (made_of d u l z)
+    by_case (Ok true) l z w = let j = w.1 in record {
       done = refl;
       is_n = refl;
       valid = w.0;
@@ -185,7 +179,7 @@ union_law d x y r e v x_in y_in =
       fewer = λ h k c. classes_fewer x_in y_in j c;
       as_many = λ h k c. absurd (j.apart h);
     }
-    by_case united.Together l z w = let s = sets_of l z d.n in record {
+    by_case (Ok false) l z w = let s = sets_of l z d.n in record {
       done = refl;
       is_n = refl;
       valid = w.0;
@@ -195,7 +189,7 @@ union_law d x y r e v x_in y_in =
       fewer = λ h k c. absurd (h w.1);
       as_many = λ h k c. same_classes d s w.2 c;
     }
-    by_case (united.Refused r) l z w = absurd w
+    by_case (Err r) l z w = absurd w
 
 -- sets have exactly one number of classes
 pub classes_number : (d : DSU) → (k : ℕ) × Classes (Same d) d.n k × ((j : ℕ) → Classes (Same d) d.n j → j ≡ k)

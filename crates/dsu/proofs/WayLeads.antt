@@ -1,14 +1,8 @@
 -- The way from an element to its representative as a relation, what `find` gives by it, and that pointing an element at its
 -- representative changes no way's end. Assumes nothing.
-use Prim.Native.Nat.{ℕ, zero, suc, ◌≤◌, ◌<◌}
-use mathlib.Core.Path.{◌≡◌, refl, sym, ap, subst, ◌∙◌}
-use mathlib.Core.List.{List}
+use Rattle.std.proofs.Common.{Ok, ℕ, zero, suc, ◌≤◌, ◌<◌, ◌≡◌, List, length, get_or, set, sym, ap, subst, ◌∙◌, arith, length-set, get_or-set_same, get_or-set_other, refl}
 use native.Mathlib.Decide.{ℕ_discrete}
-use native.Mathlib.Omega.{arith}
-use lib.ListN.{length, get_or, set, length-set}
-use lib.Seq.{get_or-set_same, get_or-set_other}
 use borrow.Author.Tests.{lt-leb}
-use Rattle.dsu.specs.declared.Found.TheVariants.{Root}
 use Rattle.dsu.specs.declared.FindAnswer.{FindAnswer}
 use Rattle.dsu.specs.Sets.{Seen, top, up, fault, seen, Way, broken, reached, point, onward, walk, way, find_of}
 use Rattle.dsu.specs.inner.Lent.{sets_of}
@@ -73,7 +67,7 @@ module _ (l z : List ℕ) (n : ℕ) where
   way_leads x a m i e = subst (Ends l z n x) e (walk_ends (suc n) x i)
 
 -- `find` by the way
-pub leads_find : {l z : List ℕ} {n x a : ℕ} (t : WayLeads l z n x a) → find_of (sets_of l z n) x ≡ record { found = Root a; sets = sets_of (after t) z n }
+pub leads_find : {l z : List ℕ} {n x a : ℕ} (t : WayLeads l z n x a) → find_of (sets_of l z n) x ≡ record { found = Ok a; sets = sets_of (after t) z n }
 unfolding find_of
 leads_find {l} {z} {n} {x} t = rw (lt-leb n x (leads_start t).inside, leads_way t)
 

@@ -1,19 +1,17 @@
 -- What those who build on join sets may rely on: valid sets, the class of an element, and what `new`, `find`, `union` and `join_in` do to them.
 -- The arrays are named in `Valid` only, and no proof above this crate opens it.
-use Rattle.std.specs.Prelude.{ℕ, zero, suc, ◌+◌, ◌≤◌, ◌<◌, ◌≡◌, cond, eqb, length, get_or}
+use Rattle.std.specs.Prelude.{ℕ, zero, suc, ◌+◌, ◌≤◌, ◌<◌, ◌≡◌, cond, Result, Ok, Err, eqb, length, get_or}
+use Rattle.refusal.specs.declared.StateRefusal.{StateRefusal}
 use Rattle.dsu.specs.declared.DSU.{DSU}
-use Rattle.dsu.specs.declared.Found.{Found}
-use Rattle.dsu.specs.declared.Found.TheVariants.{Root, Refused}
 use Rattle.dsu.specs.declared.FindAnswer.{FindAnswer}
-use Rattle.dsu.specs.declared.SetsOutcome.TheVariants.{Done}
 use Rattle.dsu.specs.declared.SetsAnswer.{SetsAnswer}
 use Rattle.dsu.specs.Sets.{find_of}
 use Rattle.dsu.specs.Classes.{Classes, Joined}
 
 -- the representative in an answer; 512, which is no element, in a refusal
-abbrev pub root_of : Found → ℕ
-root_of (Root a) = a
-root_of (Refused r) = 512
+abbrev pub root_of : Result ℕ StateRefusal → ℕ
+root_of (Ok a) = a
+root_of (Err r) = 512
 
 -- the class of x, named by the representative that `find` answers
 unfoldable pub class_of : DSU → ℕ → ℕ
@@ -41,7 +39,7 @@ pub record Valid (d : DSU) : Type 0 where
 
 -- r is a `new` of n elements: each is alone
 pub record NewLaw (n : ℕ) (r : SetsAnswer) : Type 0 where
-  pub done : r.outcome ≡ Done
+  pub done : r.outcome ≡ Ok tt
   pub is_n : r.sets.n ≡ n
   pub valid : Valid r.sets
   pub alone : (x y : ℕ) → x < n → y < n → Same r.sets x y → x ≡ y
@@ -49,7 +47,7 @@ pub record NewLaw (n : ℕ) (r : SetsAnswer) : Type 0 where
 
 -- r is a `find` of x in d: a member of x's class, the same for all its members, and no class changed
 pub record FindLaw (d : DSU) (x : ℕ) (r : FindAnswer) : Type 0 where
-  pub found : r.found ≡ Root (class_of d x)
+  pub found : r.found ≡ Ok (class_of d x)
   pub inside : class_of d x < d.n
   pub member : Same d x (class_of d x)
   pub is_n : r.sets.n ≡ d.n
@@ -59,7 +57,7 @@ pub record FindLaw (d : DSU) (x : ℕ) (r : FindAnswer) : Type 0 where
 
 -- r is a `union` of x and y in d: their classes are one, and no other changed; there is one class fewer where they were apart
 pub record UnionLaw (d : DSU) (x y : ℕ) (r : SetsAnswer) : Type 0 where
-  pub done : r.outcome ≡ Done
+  pub done : r.outcome ≡ Ok tt
   pub is_n : r.sets.n ≡ d.n
   pub valid : Valid r.sets
   pub joined : Same r.sets x y

@@ -1,25 +1,20 @@
 -- When 23 and 24 are given, and what a find leaves, told with no walk: the elements on the way from x, and what may be broken at each.
-use Rattle.std.specs.Prelude.{ℕ, ◌+◌, ◌≤◌, ◌<◌, ◌≡◌, ◌⊎◌, ◌↔◌, get_or}
+use Rattle.std.specs.Prelude.{ℕ, ◌+◌, ◌≤◌, ◌<◌, ◌≡◌, ◌⊎◌, ◌↔◌, Result, Ok, Err, get_or}
+use Rattle.refusal.specs.declared.StateRefusal.{StateRefusal}
 use Rattle.refusal.specs.Number.{state_number}
 use Rattle.dsu.specs.declared.DSU.{DSU}
-use Rattle.dsu.specs.declared.Found.{Found}
-use Rattle.dsu.specs.declared.Found.TheVariants.{Root}
-use Rattle.dsu.specs.declared.Found.TheVariants as found
 use Rattle.dsu.specs.declared.FindAnswer.{FindAnswer}
-use Rattle.dsu.specs.declared.SetsOutcome.{SetsOutcome}
-use Rattle.dsu.specs.declared.SetsOutcome.TheVariants.{Done}
-use Rattle.dsu.specs.declared.SetsOutcome.TheVariants as outcome
 use Rattle.dsu.specs.declared.SetsAnswer.{SetsAnswer}
 use Rattle.dsu.specs.Laws.{class_of}
 
 -- document 01's number of a refusal, 0 where nothing is refused
-abbrev pub found_number : Found → ℕ
-found_number (Root a) = 0
-found_number (found.Refused r) = state_number r
+abbrev pub found_number : Result ℕ StateRefusal → ℕ
+found_number (Ok a) = 0
+found_number (Err r) = state_number r
 
-abbrev pub outcome_number : SetsOutcome → ℕ
-outcome_number Done = 0
-outcome_number (outcome.Refused r) = state_number r
+abbrev pub outcome_number : Result (Unit {0}) StateRefusal → ℕ
+outcome_number (Ok u) = 0
+outcome_number (Err r) = state_number r
 
 -- y is on the way from x, which goes from parent to parent and ends at an element that is its own
 pub data OnWay (d : DSU) : ℕ → ℕ → Type 0 where

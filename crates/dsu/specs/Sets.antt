@@ -1,19 +1,12 @@
 -- What `new`, `find` and `union` answer, and the sets afterwards, on every value of the struct: `repr` has each element's parent,
 -- `size` the size of its class, and n is the number of elements. The refusal `Element` is document 01's 23, `JoinSets` its 24.
 -- After a refusal the sets are as they were. `union` is that on lent arrays, `union_in`, on copies of the struct's.
-use Rattle.std.specs.Prelude.{ℕ, zero, suc, ◌+◌, cond, List, [], ◌∷◌, ◌++◌, leb, ltb, eqb, get_or, set, replicate}
+use Rattle.std.specs.Prelude.{ℕ, zero, suc, ◌+◌, Bool, true, false, cond, Result, Ok, Err, List, [], ◌∷◌, ◌++◌, leb, ltb, eqb, get_or, set, replicate}
 use Rattle.refusal.specs.declared.StateRefusal.{StateRefusal}
 use Rattle.refusal.specs.declared.StateRefusal.TheVariants.{Element, JoinSets}
 use Rattle.dsu.specs.declared.DSU.{DSU}
-use Rattle.dsu.specs.declared.Found.TheVariants.{Root}
-use Rattle.dsu.specs.declared.Found.TheVariants as found
 use Rattle.dsu.specs.declared.FindAnswer.{FindAnswer}
-use Rattle.dsu.specs.declared.SetsOutcome.TheVariants.{Done}
-use Rattle.dsu.specs.declared.SetsOutcome.TheVariants as outcome
 use Rattle.dsu.specs.declared.SetsAnswer.{SetsAnswer}
-use Rattle.dsu.specs.declared.United.{United}
-use Rattle.dsu.specs.declared.United.TheVariants.{Apart, Together}
-use Rattle.dsu.specs.declared.United.TheVariants as united
 
 -- what is seen at an element on the way to its representative: it is its own parent, it has another one, or something is broken
 pub data Seen : Type 0 where
@@ -58,53 +51,52 @@ changed d repr size = record { repr = repr; size = size; n = d.n }
 
 -- `find`: 23 for an element outside, 24 where the way is broken, else the representative
 abbrev pub found_by : DSU → Way → FindAnswer
-found_by d broken = record { found = found.Refused JoinSets; sets = d }
-found_by d (reached a repr) = record { found = Root a; sets = changed d repr d.size }
+found_by d broken = record { found = Err JoinSets; sets = d }
+found_by d (reached a repr) = record { found = Ok a; sets = changed d repr d.size }
 
 unfoldable pub find_of : DSU → ℕ → FindAnswer
 find_of d x =
-    cond (leb d.n x) (record { found = found.Refused Element; sets = d })
+    cond (leb d.n x) (record { found = Err Element; sets = d })
     (found_by d (way d.repr d.size d.n x))
 
 abbrev pub refuse : DSU → StateRefusal → SetsAnswer
-refuse d r = record { outcome = outcome.Refused r; sets = d }
+refuse d r = record { outcome = Err r; sets = d }
 
--- what two elements were before a union on lent arrays, and the parents and sizes after it
+-- whether two elements were apart before a union on lent arrays, or its refusal, and the parents and sizes after it
 abbrev pub After : Type 0
-After = United × List ℕ × List ℕ
+After = Result Bool StateRefusal × List ℕ × List ℕ
 
 -- the root b put under the root a, whose size is then that of both
 abbrev pub under : List ℕ → List ℕ → ℕ → ℕ → After
-under repr size a b = (Apart, set repr b a, set size a (get_or size a 0 + get_or size b 0))
+under repr size a b = (Ok true, set repr b a, set size a (get_or size a 0 + get_or size b 0))
 
 -- two roots joined by size; on equal sizes the second joins the first. 24 where the joined size would be over n
 unfoldable pub join : List ℕ → List ℕ → ℕ → ℕ → ℕ → After
 join repr size n a b =
-    cond (eqb a b) (Together, repr, size)
-    (cond (ltb n (get_or size a 0 + get_or size b 0)) (united.Refused JoinSets, repr, size)
+    cond (eqb a b) (Ok false, repr, size)
+    (cond (ltb n (get_or size a 0 + get_or size b 0)) (Err JoinSets, repr, size)
     (cond (ltb (get_or size a 0) (get_or size b 0)) (under repr size b a) (under repr size a b)))
 
 abbrev pub join_second : List ℕ → List ℕ → ℕ → ℕ → Way → After
-join_second repr size n a broken = (united.Refused JoinSets, repr, size)
+join_second repr size n a broken = (Err JoinSets, repr, size)
 join_second repr size n a (reached b after) = join after size n a b
 
 abbrev pub join_first : List ℕ → List ℕ → ℕ → ℕ → Way → After
-join_first repr size n y broken = (united.Refused JoinSets, repr, size)
+join_first repr size n y broken = (Err JoinSets, repr, size)
 join_first repr size n y (reached a after) = join_second after size n a (way after size n y)
 
 -- a union on lent arrays: 23 for either element before 24; then the way of x, that of y with the parents afterwards, and the join.
 -- A fault leaves the parents that the ways before it left
 unfoldable pub union_in : List ℕ → List ℕ → ℕ → ℕ → ℕ → After
 union_in repr size n x y =
-    cond (leb n x) (united.Refused Element, repr, size)
-    (cond (leb n y) (united.Refused Element, repr, size)
+    cond (leb n x) (Err Element, repr, size)
+    (cond (leb n y) (Err Element, repr, size)
     (join_first repr size n y (way repr size n x)))
 
 -- the answer to a union in d: the sets with what it left in the arrays, or d itself after a refusal
-abbrev pub made_of : DSU → United → List ℕ → List ℕ → SetsAnswer
-made_of d Apart repr size = record { outcome = Done; sets = changed d repr size }
-made_of d Together repr size = record { outcome = Done; sets = changed d repr size }
-made_of d (united.Refused r) repr size = refuse d r
+abbrev pub made_of : DSU → Result Bool StateRefusal → List ℕ → List ℕ → SetsAnswer
+made_of d (Ok apart) repr size = record { outcome = Ok tt; sets = changed d repr size }
+made_of d (Err r) repr size = refuse d r
 
 -- `union`: on copies of d's arrays
 unfoldable pub union_of : DSU → ℕ → ℕ → SetsAnswer
@@ -121,4 +113,4 @@ fresh n = record { repr = up_to 512; size = replicate 512 1; n = n }
 
 -- `new`: 23, with sets of no elements, for over 512
 unfoldable pub new_of : ℕ → SetsAnswer
-new_of n = cond (ltb 512 n) (refuse (fresh 0) Element) (record { outcome = Done; sets = fresh n })
+new_of n = cond (ltb 512 n) (refuse (fresh 0) Element) (record { outcome = Ok tt; sets = fresh n })

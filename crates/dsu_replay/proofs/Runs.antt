@@ -1,20 +1,14 @@
 -- Laws of the lines and of the run, as the functions that read and count ask them. Assumes nothing.
-use Rattle.std.proofs.Common.{◌≡◌, ℕ, ◌+◌, ◌*◌, ◌%◌, ◌^◌, ◌<◌, ◌≤◌, Bool, true, false, not, eqb, List, get_or, sym, ap, ◌∙◌, arith, rules, le-ltb, lt-ltb, eq-eqb, ne_eqb}
+use Rattle.std.proofs.Common.{◌≡◌, ℕ, ◌+◌, ◌*◌, ◌%◌, ◌^◌, ◌<◌, ◌≤◌, Bool, true, false, not, eqb, Some, List, length, get_or, sym, ap, ◌∙◌, arith, rules, le-ltb, lt-ltb, eq-eqb, ne_eqb}
 use borrow.Author.Tests.{not-true, not-false}
 use Rattle.decimal.specs.Decimal.{is_digit, with_digit}
 use Rattle.decimal.proofs.Decimal.{digit_most}
-use Rattle.refusal.specs.declared.StateRefusal.{StateRefusal}
-use Rattle.dsu.specs.declared.Found.TheVariants.{Root}
-use Rattle.dsu.specs.declared.Found.TheVariants as found
 use Rattle.dsu.specs.declared.FindAnswer.{FindAnswer}
-use Rattle.dsu.specs.declared.SetsOutcome.TheVariants.{Done}
-use Rattle.dsu.specs.declared.SetsOutcome.TheVariants as outcome
 use Rattle.dsu.specs.declared.SetsAnswer.{SetsAnswer}
 use Rattle.dsu.specs.Sets.{new_of, find_of, union_of}
 use Rattle.dsu_replay.specs.declared.ReplayRun.{ReplayRun}
 use Rattle.dsu_replay.specs.declared.Line.{Line}
-use Rattle.dsu_replay.specs.declared.Line.TheVariants.{Read}
-use Rattle.dsu_replay.specs.Replay.{digit_of, three_digits, line_read, tallied_run, with_sets, is_root, is_done, after_find, after_change, has_at, after_line}
+use Rattle.dsu_replay.specs.Replay.{digit_of, three_digits, line_read, Readable, ten, tallied_run, after_find, after_change, has_at, after_line}
 
 module _ (b : ℕ) (x : Bool) (e : x ≡ is_digit b) where
   pub digit_none : not x ≡ true → ◌≡◌ {A = ℕ} 0 (digit_of b)
@@ -36,9 +30,12 @@ pub number_read : (s : List ℕ) (at x y z : ℕ) → x ≡ digit_of (get_or s a
 unfolding three_digits
 number_read s at x y z e f g = rw (e, f, g)
 
-pub line_read_lem : (s : List ℕ) (a b : ℕ) → a ≡ three_digits s 2 → b ≡ three_digits s 6 → ◌≡◌ {A = Line} (Read (get_or s 0 0) a b) (line_read s)
+pub line_read_lem : (s : List ℕ) (a b : ℕ) → a ≡ three_digits s 2 → b ≡ three_digits s 6 → ◌≡◌ {A = Line} (record { kind = get_or s 0 0; a = a; b = b }) (line_read s)
 unfolding line_read
 line_read_lem s a b e f = rw (e, f)
+
+pub line_ten : (s : List ℕ) (x : Line) → length s ≡ 10 → x ≡ line_read s → Readable (Some x)
+line_ten s x long e = ten s long (ap (λ (l : Line). Some l) e)
 
 pub ruleset line_laws = (digit_none, digit_some, digit_small, digit_read, number_read, line_read_lem, rules)
 
@@ -53,28 +50,6 @@ module _ (s : ReplayRun) (same : Bool) (v : ℕ) where
   one_differed e t = rw (t, e)
 
 pub ruleset count_laws = (one_agreed, one_differed, rules)
-
--- the answers of `find`
-module _ (s : ReplayRun) (f : FindAnswer) (b : ℕ) (v : ReplayRun) where
-  pub find_root : (r w : ℕ) → f.found ≡ Root r → w ≡ r → v ≡ tallied_run (with_sets s f.sets) (eqb w b) → v ≡ after_find s f b
-  unfolding after_find
-  find_root r w e g h = h ∙ ap (λ (t : ℕ). tallied_run (with_sets s f.sets) (eqb t b)) g ∙ sym (ap (λ t. tallied_run (with_sets s f.sets) (is_root b t)) e)
-
-  pub find_refused : (r : StateRefusal) → f.found ≡ found.Refused r → v ≡ tallied_run (with_sets s f.sets) false → v ≡ after_find s f b
-  unfolding after_find
-  find_refused r e h = h ∙ sym (ap (λ t. tallied_run (with_sets s f.sets) (is_root b t)) e)
-
--- those of `new` and `union`
-module _ (s : ReplayRun) (a : SetsAnswer) (v : ReplayRun) where
-  pub change_done : a.outcome ≡ Done → v ≡ tallied_run (with_sets s a.sets) true → v ≡ after_change s a
-  unfolding after_change
-  change_done e h = h ∙ sym (ap (λ t. tallied_run (with_sets s a.sets) (is_done t)) e)
-
-  pub change_refused : (r : StateRefusal) → a.outcome ≡ outcome.Refused r → v ≡ tallied_run (with_sets s a.sets) false → v ≡ after_change s a
-  unfolding after_change
-  change_refused r e h = h ∙ sym (ap (λ t. tallied_run (with_sets s a.sets) (is_done t)) e)
-
-pub ruleset answer_laws = (find_root, find_refused, change_done, change_refused, rules)
 
 -- a word compared
 module _ (s : ReplayRun) (x : List ℕ) (a b : ℕ) (v : ReplayRun) where

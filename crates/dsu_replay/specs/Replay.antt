@@ -1,19 +1,13 @@
 -- The lines of the list, and what the run does at each.
-use Rattle.std.specs.Prelude.{◌≡◌, ℕ, ◌+◌, ◌*◌, ◌%◌, ◌^◌, Bool, true, false, cond, List, length, ◌==◌, nat_lt, slice_index}
+use Rattle.std.specs.Prelude.{◌≡◌, ℕ, ◌+◌, ◌*◌, ◌%◌, ◌^◌, Bool, true, false, cond, Option, Some, None, Result, Ok, Err, List, length, ◌==◌, nat_lt, slice_index}
 use Rattle.decimal.specs.Decimal.{is_digit, with_digit}
+use Rattle.refusal.specs.declared.StateRefusal.{StateRefusal}
 use Rattle.dsu.specs.declared.DSU.{DSU}
-use Rattle.dsu.specs.declared.Found.{Found}
-use Rattle.dsu.specs.declared.Found.TheVariants.{Root}
-use Rattle.dsu.specs.declared.Found.TheVariants as found
 use Rattle.dsu.specs.declared.FindAnswer.{FindAnswer}
-use Rattle.dsu.specs.declared.SetsOutcome.{SetsOutcome}
-use Rattle.dsu.specs.declared.SetsOutcome.TheVariants.{Done}
-use Rattle.dsu.specs.declared.SetsOutcome.TheVariants as outcome
 use Rattle.dsu.specs.declared.SetsAnswer.{SetsAnswer}
 use Rattle.dsu.specs.Sets.{new_of, find_of, union_of}
 use Rattle.dsu_replay.specs.declared.ReplayRun.{ReplayRun}
 use Rattle.dsu_replay.specs.declared.Line.{Line}
-use Rattle.dsu_replay.specs.declared.Line.TheVariants.{Read, End}
 
 -- the value of a digit's byte, 0 of any other
 unfoldable pub digit_of : ℕ → ℕ
@@ -25,12 +19,12 @@ three_digits s at = 100 * digit_of (slice_index s at) + 10 * digit_of (slice_ind
 
 -- a line of ten bytes: a letter and two numbers
 unfoldable pub line_read : List ℕ → Line
-line_read s = Read (slice_index s 0) (three_digits s 2) (three_digits s 6)
+line_read s = record { kind = slice_index s 0; a = three_digits s 2; b = three_digits s 6 }
 
 -- what reading a line may answer: the end, or the line that some ten bytes are
-pub data Readable (l : Line) : Type 0 where
-  ended : l ≡ End → Readable l
-  ten : (s : List ℕ) → length s ≡ 10 → l ≡ line_read s → Readable l
+pub data Readable (l : Option Line) : Type 0 where
+  ended : l ≡ None → Readable l
+  ten : (s : List ℕ) → length s ≡ 10 → l ≡ Some (line_read s) → Readable l
 
 -- one answer more, which was as in the list or not; each count is modulo 2^64
 unfoldable pub tallied_run : ReplayRun → Bool → ReplayRun
@@ -46,14 +40,14 @@ abbrev pub with_sets : ReplayRun → DSU → ReplayRun
 with_sets s d = record { sets = d; agreed = s.agreed; differed = s.differed }
 
 -- whether an answer of `find` is the representative b
-abbrev pub is_root : ℕ → Found → Bool
-is_root b (Root r) = r == b
-is_root b (found.Refused r) = false
+abbrev pub is_root : ℕ → Result ℕ StateRefusal → Bool
+is_root b (Ok r) = r == b
+is_root b (Err r) = false
 
 -- whether an answer of `new` or `union` is no refusal
-abbrev pub is_done : SetsOutcome → Bool
-is_done Done = true
-is_done (outcome.Refused r) = false
+abbrev pub is_done : Result (Unit {0}) StateRefusal → Bool
+is_done (Ok u) = true
+is_done (Err r) = false
 
 -- the run after a `find`, whose answer in the list is b
 unfoldable pub after_find : ReplayRun → FindAnswer → ℕ → ReplayRun

@@ -9,13 +9,7 @@ ghost use Rattle.std.specs.Prelude.{◌≡◌, ◌≤◌};
 ghost use Rattle.dsu_replay.specs.Values.{chain_to, with_one};
 ghost use Rattle.dsu_replay.specs.Replay.{digit_of, three_digits, line_read, Readable, tallied_run, after_find, after_change, has_at, after_line};
 
-use dsu::{DSU, FindAnswer, Found, SetsAnswer, SetsOutcome};
-
-fn wide(x: u32) -> usize
-    ensures { result ≡ x }
-{
-    x as usize
-}
+use dsu::{DSU, FindAnswer, SetsAnswer};
 
 // Each element's parent is the next and its size one larger, as deep as sizes that grow allow; the last has the parent given.
 fn chain(last: u32) -> DSU
@@ -23,11 +17,9 @@ fn chain(last: u32) -> DSU
 {
     let mut repr = [0u32; 512];
     let mut size = [0u32; 512];
-    let mut i: u32 = 0;
-    while i < 512 {
-        repr[wide(i)] = i + 1;
-        size[wide(i)] = i + 1;
-        i += 1;
+    for i in 0..512 {
+        repr[i as usize] = i + 1;
+        size[i as usize] = i + 1;
     }
     repr[511] = last;
     DSU { repr, size, n: 512 }
@@ -49,11 +41,11 @@ fn say_found(f: FindAnswer) {
     let found = f.found;
     let d = f.sets;
     match found {
-        Found::Root(r) => {
+        Ok(r) => {
             io::write_all(1, b"root ");
             io::print_decimal(1, r as u64);
         }
-        Found::Refused(r) => {
+        Err(r) => {
             io::write_all(1, b"refused ");
             io::print_decimal(1, refusal::state_number(r) as u64);
         }
@@ -69,10 +61,10 @@ fn say_outcome(a: SetsAnswer) {
     let outcome = a.outcome;
     let d = a.sets;
     match outcome {
-        SetsOutcome::Done => {
+        Ok(_) => {
             io::write_all(1, b"done");
         }
-        SetsOutcome::Refused(r) => {
+        Err(r) => {
             io::write_all(1, b"refused ");
             io::print_decimal(1, refusal::state_number(r) as u64);
         }
@@ -115,9 +107,10 @@ fn broken() {
 
 // A line of the list.
 #[derive(Drop)]
-enum Line {
-    Read { kind: u8, a: usize, b: usize },
-    End,
+struct Line {
+    kind: u8,
+    a: usize,
+    b: usize,
 }
 
 // The value of a digit's byte, 0 of any other.
@@ -140,28 +133,29 @@ fn number(line: &[u8; 10], at: usize) -> usize
 }
 
 // The line that ten bytes are.
+#[tactic(auto, using(crate::proofs::Runs::line_laws))]
 fn line_of(line: &[u8; 10]) -> Line
     ensures { result ≡ line_read line.now }
 {
     let a = number(line, 2);
     let b = number(line, 6);
-    Line::Read {
+    Line {
         kind: line[0],
         a,
         b,
     }
 }
 
-// The next line of standard input. Nothing can be said of which bytes are read.
-fn read_line() -> Line
+// The next line of standard input, or None at its end. Nothing can be said of which bytes are read.
+fn read_line() -> Option<Line>
     ensures { Readable result }
 {
     let mut line = [0u8; 10];
     let got = io::read_full(0, &mut line);
     if got < 10 {
-        return Line::End;
+        return None;
     }
-    line_of(&line)
+    Some(line_of(&line))
 }
 
 // The sets so far, and how many answers were as in the list, or not.
@@ -183,36 +177,31 @@ fn counted(mut s: ReplayRun, same: bool) -> ReplayRun
     s
 }
 
+#[tactic(auto, unfolding(crate::specs::Replay::after_find))]
 fn after_find(mut s: ReplayRun, f: FindAnswer, b: usize) -> ReplayRun
     ensures { result ≡ after_find s f b }
 {
     let sets = f.sets;
     s.sets = sets;
-    let found = f.found;
-    match found {
-        Found::Root(r) => counted(s, wide(r) == b),
-        Found::Refused(_) => counted(s, false),
-    }
+    counted(s, f.found.is_ok_and(|r| r as usize == b))
 }
 
+#[tactic(auto, unfolding(crate::specs::Replay::after_change))]
 fn after_change(mut s: ReplayRun, a: SetsAnswer) -> ReplayRun
     ensures { result ≡ after_change s a }
 {
     let sets = a.sets;
     s.sets = sets;
-    let outcome = a.outcome;
-    match outcome {
-        SetsOutcome::Done => counted(s, true),
-        SetsOutcome::Refused(_) => counted(s, false),
-    }
+    counted(s, a.outcome.is_ok())
 }
 
+#[tactic(auto, using(crate::proofs::Runs::word_laws))]
 fn has(s: ReplayRun, x: [u32; 512], a: usize, b: usize) -> ReplayRun
     ensures { result ≡ tallied_run s (has_at x a b) }
 {
     if a < 512 {
         let v = x[a];
-        return counted(s, wide(v) == b);
+        return counted(s, v as usize == b);
     }
     counted(s, false)
 }
@@ -250,14 +239,11 @@ fn replay_list() {
         agreed: 0,
         differed: 0,
     };
-    let mut turns: u64 = 0;
-    while turns < 100000 {
-        let line = read_line();
-        let Line::Read { kind, a, b } = line else {
+    for _ in 0..100000 {
+        let Some(line) = read_line() else {
             break;
         };
-        s = turn(s, kind, a, b);
-        turns += 1;
+        s = turn(s, line.kind, line.a, line.b);
     }
     io::write_all(1, b"replayed: agreed ");
     io::print_decimal(1, s.agreed);

@@ -7,6 +7,7 @@ use native.Mathlib.Omega.{arith}
 use borrow.Author.Rules.{rules}
 use lib.ListN.{length, replicate, length-replicate}
 use lib.Seq.{sets}
+use Rattle.std.specs.Prelude.{Result, Ok, Err}
 use Rattle.lists.proofs.Lists.{blank_at}
 use Rattle.refusal.specs.Answer.{given, refused}
 use Rattle.refusal.specs.Number.{input_number}
@@ -16,9 +17,6 @@ use Rattle.sheets.specs.Checked.{checked_number}
 use Rattle.sheets.specs.Fault.{fault}
 use Rattle.sheets.specs.inner.Runs.{starts_of, Indexed}
 use Rattle.sheets.specs.Sheet.{state_count, read}
-use Rattle.sheets.specs.declared.Checked.{Checked}
-use Rattle.sheets.specs.declared.Checked.TheVariants.{Accepted, Refused}
-use Rattle.sheets.proofs.Accepted.{check_accepted}
 use Rattle.sheets.proofs.Checking.{sheet_passed, sheet_refused}
 use Rattle.sheets.proofs.Runs.{starts_indexed}
 use Rattle.emptiness.specs.inner.Marks.{Unmarked, targets_below, UnmarkedSearch}
@@ -44,13 +42,13 @@ all_ready s old starts targets a e l f =
 
 pub ruleset reached_laws = (all_indexed, all_ready, length-replicate, rules)
 
-module _ (s : List ℕ) (r : Checked) (e : checked_number r ≡ fault s) where
-  pub answer_given : r ≡ Accepted → (b : Bool) → b ≡ has_reachable_accepting (read s) → given b ≡ reachable_answer s
+module _ (s : List ℕ) (r : Result (Unit {0}) InputRefusal) (e : checked_number r ≡ fault s) where
+  pub answer_given : r ≡ Ok tt → (b : Bool) → b ≡ has_reachable_accepting (read s) → given b ≡ reachable_answer s
   unfolding reachable_answer
   answer_given h b q = ap given q ∙ sym (sheet_passed s _ r e h)
 
-  pub answer_refused : (i : InputRefusal) → r ≡ Refused i → refused (input_number i) ≡ reachable_answer s
+  pub answer_refused : (i : InputRefusal) → r ≡ Err i → refused (input_number i) ≡ reachable_answer s
   unfolding reachable_answer
   answer_refused i h = sym (sheet_refused s _ r e i h)
 
-pub ruleset answer_laws = (check_accepted, answer_given, answer_refused, rules)
+pub ruleset answer_laws = (answer_given, answer_refused, rules)

@@ -1,5 +1,5 @@
 -- The passes over the records: the laws by which they are proved. Whatever state a pass meets, all transitions that leave it are left.
-use Prim.Native.Nat.{ℕ, zero, suc, ◌+◌, ◌-◌, ◌*◌, ◌≤◌, ◌<◌}
+use Prim.Native.Nat.{ℕ, zero, suc, ◌+◌, ◌-◌, ◌*◌, ◌/◌, ◌≤◌, ◌<◌}
 use mathlib.Core.Bool.{true, false}
 use mathlib.Core.List.Memᴰ
 use mathlib.Core.List.{List, [], ◌∷◌}
@@ -8,12 +8,16 @@ use mathlib.Core.Path.{◌≡◌, refl, sym, ap, ◌∙◌, subst}
 use native.Mathlib.Nat.{eq-or-lt_of_le}
 use native.Mathlib.Omega.{arith}
 use borrow.Author.Rules.{rules}
-use lib.ListN.{length, get_or, drop, set, length-set, length-replicate}
+use lib.ListN.{length, get_or, take, drop, set, length-set, length-replicate}
+use Rattle.std.specs.Simd.{first_chunks}
+use Rattle.std.proofs.lemmas.List.{take_rest}
 use Rattle.lists.specs.Lists.{◌∈◌, Ascending, none, more}
 use Rattle.automata.specs.Automaton.{Transition, Automaton, InBounds, accept_of}
 use Rattle.automata.specs.Records.{read_records}
 use Rattle.automata.specs.inner.Records.{record_at}
-use Rattle.automata.proofs.Records.{records_at_lem, records_end, record_in, record_out}
+use Rattle.automata.specs.inner.Chunks.{records_of}
+use Rattle.automata.proofs.Chunks.{records_chunks, records_next, records_done}
+use Rattle.automata.proofs.Records.{records_at_lem, record_in, record_out}
 use Rattle.sheets.specs.inner.Accepted.{Accepted, record_count}
 use Rattle.sheets.specs.inner.Runs.{Rising}
 use Rattle.sheets.specs.Sheet.{state_count, records_at, read}
@@ -144,6 +148,9 @@ pass_begins : (R : ℕ → ℕ → Type 0) (A : Automaton) (marks : List ℕ) (e
     → ((e : Transition) → e ∈ es → e ∈ A.transitions) → ((e : Transition) → e ∈ A.transitions → e ∈ es) → PassInvariant R A marks es
 pass_begins R A marks es m o f g = record { met = m; ordered = o; among = f; passed = λ e n. inl (g e n); followed = λ e n l. inr (g e n) }
 
+pub met_undecided : (A : Automaton) (marks : List ℕ) → MetStates A marks → PassTells A marks Undecided
+met_undecided A marks m = undecided m
+
 -- the orders of the two passes
 abbrev pub Up : ℕ → ℕ → Type 0
 Up x y = x ≤ y
@@ -213,44 +220,60 @@ module _ (s : List ℕ) (a : Accepted s) where
       }
 
   -- a record of the sheet
-  module _ (marks : List ℕ) (m : MetStates (read s) marks) (at : ℕ) (k : record_at s at ∈ (read s).transitions) where
-    pub from_inside : get_or s at 0 < length marks
+  module _ (marks : List ℕ) (m : MetStates (read s) marks) (t : List ℕ) (at : ℕ) (k : record_at t at ∈ (read s).transitions) where
+    from_inside : get_or t at 0 < length marks
     from_inside = omega (arith, ok.froms _ k, a.few_states, m.wide)
 
-    pub to_state_lem : get_or s (at + 4) 0 < state_count s
+    to_state_lem : get_or t (at + 4) 0 < state_count s
     to_state_lem = ok.tos _ k
 
-    pub to_inside : get_or s (at + 4) 0 < length marks
+    to_inside : get_or t (at + 4) 0 < length marks
     to_inside = omega (arith, to_state_lem, a.few_states, m.wide)
 
   -- upward
-  pub up_begins : (marks : List ℕ) → MetStates (read s) marks → PassInvariant Up (read s) marks (read_records (drop (records_at s) s))
-  up_begins marks m = pass_begins Up (read s) marks (read s).transitions m (rising (read_well s a).ascends) (λ e n. n) (λ e n. n)
+  pub up_begins : (marks : List ℕ) (t : List ℕ) (rs : List (List ℕ)) → t ≡ take (length s - records_at s) (drop (records_at s) s) → rs ≡ first_chunks 5 (length t / 5) t
+      → MetStates (read s) marks → PassInvariant Up (read s) marks (records_of rs)
+  up_begins marks t rs e f m =
+      let all : (read s).transitions ≡ records_of rs = sym (ap records_of f ∙ records_chunks t ∙ ap read_records (e ∙ take_rest s (records_at s))) in
+      subst (PassInvariant Up (read s) marks) all (pass_begins Up (read s) marks (read s).transitions m (rising (read_well s a).ascends) (λ e n. n) (λ e n. n))
 
-  pub up_ends : (marks : List ℕ) (at : ℕ) → PassInvariant Up (read s) marks (read_records (drop at s)) → length s - at < 5 → PassTells (read s) marks Rejects
-  up_ends marks at i h = rejects (pass_ends (read s) ok Up marks (rw (records_end s at h) at i))
+  module _ (marks : List ℕ) (rs : List (List ℕ)) (i : ℕ) (v : PassInvariant Up (read s) marks (records_of (drop i rs))) where
+    pub up_ends : length rs ≤ i → PassTells (read s) marks Rejects
+    up_ends h = rejects (pass_ends (read s) ok Up marks (rw (records_done rs i h) at v))
 
-  module _ (marks : List ℕ) (at : ℕ) (i : PassInvariant Up (read s) marks (read_records (drop at s))) (h : 5 ≤ length s - at) where
-    up : PassInvariant Up (read s) marks (record_at s at ∷ read_records (drop (at + 5) s))
-    up = rw (records_at_lem s at h) at i
+    module _ (h : i < length rs) where
+      abbrev r : List ℕ
+      r = get_or rs i []
 
-    pub up_record : record_at s at ∈ (read s).transitions
-    up_record = up.among _ (Memᴰ.head refl)
+      up : PassInvariant Up (read s) marks (record_at (get_or rs i []) 0 ∷ records_of (drop (i + 1) rs))
+      up = rw (records_next rs i h) at v
 
-    pub up_unmet : get_or marks (get_or s at 0) 0 ≡ 0 → PassInvariant Up (read s) marks (read_records (drop (at + 5) s))
-    up_unmet = pass_unmet (read s) ok Up marks (record_at s at) _ up
+      up_record : record_at (get_or rs i []) 0 ∈ (read s).transitions
+      up_record = up.among _ (Memᴰ.head refl)
 
-    pub up_met : (get_or marks (get_or s (at + 4) 0) 0 ≡ 0 → ⊥) → PassInvariant Up (read s) marks (read_records (drop (at + 5) s))
-    up_met = pass_met (read s) ok Up marks (record_at s at) _ up
+      pub up_from : get_or r 0 0 < length marks
+      up_from = from_inside marks v.met r 0 up_record
 
-    module _ (met : get_or marks (get_or s at 0) 0 ≡ 0 → ⊥) (w : ℕ) (e : w ≡ get_or (read s).accept (get_or s (at + 4) 0) 0) where
-      pub up_accepts : 0 < w → PassTells (read s) marks Accepts
-      up_accepts l = accepts (pass_accepts (read s) ok Up marks (record_at s at) _ up met w e l)
+      pub up_state : get_or r 4 0 < state_count s
+      up_state = to_state_lem marks v.met r 0 up_record
 
-      pub up_marks : w ≤ 0 → get_or s at 0 < get_or s (at + 4) 0 → PassInvariant Up (read s) (set marks (get_or s (at + 4) 0) 1) (read_records (drop (at + 5) s))
-      up_marks l o =
-          pass_marks (read s) ok Up marks (record_at s at) _ up met w e l (to_inside marks up.met at up_record) (λ (u : get_or s (at + 4) 0 ≤ get_or s at 0). omega arith)
-          (λ (q : get_or s at 0 ≡ get_or s (at + 4) 0). omega arith)
+      pub up_to : get_or r 4 0 < length marks
+      up_to = to_inside marks v.met r 0 up_record
+
+      pub up_unmet : get_or marks (get_or r 0 0) 0 ≡ 0 → PassInvariant Up (read s) marks (records_of (drop (i + 1) rs))
+      up_unmet = pass_unmet (read s) ok Up marks (record_at r 0) _ up
+
+      pub up_met : (get_or marks (get_or r 4 0) 0 ≡ 0 → ⊥) → PassInvariant Up (read s) marks (records_of (drop (i + 1) rs))
+      up_met = pass_met (read s) ok Up marks (record_at r 0) _ up
+
+      module _ (met : get_or marks (get_or r 0 0) 0 ≡ 0 → ⊥) where
+        pub up_accepts : (w : ℕ) → w ≡ get_or (read s).accept (get_or r 4 0) 0 → 0 < w → PassTells (read s) marks Accepts
+        up_accepts w e l = accepts (pass_accepts (read s) ok Up marks (record_at r 0) _ up met w e l)
+
+        pub up_marks : get_or (read s).accept (get_or r 4 0) 0 ≤ 0 → get_or r 0 0 < get_or r 4 0 → PassInvariant Up (read s) (set marks (get_or r 4 0) 1) (records_of (drop (i + 1) rs))
+        up_marks l o =
+            pass_marks (read s) ok Up marks (record_at r 0) _ up met _ refl l up_to (λ (u : get_or r 4 0 ≤ get_or r 0 0). omega arith)
+            (λ (q : get_or r 0 0 ≡ get_or r 4 0). omega arith)
 
   -- downward
   pub down_begins : (marks : List ℕ) → MetStates (read s) marks → PassInvariant Down (read s) marks (backward s (records_at s) (record_count s))
@@ -273,8 +296,17 @@ module _ (s : List ℕ) (a : Accepted s) where
     unfolding backward
     down = let z : left ≡ suc (left - 1) = omega arith in subst (λ (k : ℕ). PassInvariant Down (read s) marks (backward s (records_at s) k)) z i
 
-    pub down_record : record_at s at ∈ (read s).transitions
+    down_record : record_at s at ∈ (read s).transitions
     down_record = down.among _ (Memᴰ.head refl)
+
+    pub down_from : get_or s at 0 < length marks
+    down_from = from_inside marks i.met s at down_record
+
+    pub down_state : get_or s (at + 4) 0 < state_count s
+    down_state = to_state_lem marks i.met s at down_record
+
+    pub down_to : get_or s (at + 4) 0 < length marks
+    down_to = to_inside marks i.met s at down_record
 
     pub down_unmet : get_or marks (get_or s at 0) 0 ≡ 0 → PassInvariant Down (read s) marks (backward s (records_at s) (left - 1))
     down_unmet = pass_unmet (read s) ok Down marks (record_at s at) _ down
@@ -288,11 +320,7 @@ module _ (s : List ℕ) (a : Accepted s) where
 
       pub down_marks : w ≤ 0 → get_or s (at + 4) 0 < get_or s at 0 → PassInvariant Down (read s) (set marks (get_or s (at + 4) 0) 1) (backward s (records_at s) (left - 1))
       down_marks l o =
-          pass_marks (read s) ok Down marks (record_at s at) _ down met w e l (to_inside marks down.met at down_record) (λ (u : get_or s at 0 ≤ get_or s (at + 4) 0). omega arith)
+          pass_marks (read s) ok Down marks (record_at s at) _ down met w e l down_to (λ (u : get_or s at 0 ≤ get_or s (at + 4) 0). omega arith)
           (λ (q : get_or s at 0 ≡ get_or s (at + 4) 0). omega arith)
-
-pub ruleset up_laws = (from_inside, to_state_lem, to_inside, up_begins, up_ends, up_record, up_unmet, up_met, up_accepts, up_marks, rules)
-
-pub ruleset down_laws = (from_inside, to_state_lem, to_inside, down_begins, down_ends, down_record, down_unmet, down_met, down_accepts, down_marks, rules)
 
 pub ruleset start_laws = (start_inside, start_accepts, start_met, tells_met, rules)

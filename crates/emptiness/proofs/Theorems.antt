@@ -17,6 +17,7 @@ use borrow.Author.Tests.{ltb-true, lt-ltb, eqb-false, ne_eqb}
 use lib.Dec.{eqb}
 use lib.ListN.{get_or, drop}
 use lib.Seq.{get_or-drop}
+use Rattle.std.specs.Prelude.{Result, Ok, Err}
 use Rattle.lists.specs.Lists.{◌∈◌}
 use Rattle.lists.proofs.Lists.{any_in, any_out}
 use Rattle.lists.proofs.Tests.{test}
@@ -27,8 +28,6 @@ use Rattle.automata.proofs.Records.{records_most}
 use Rattle.refusal.specs.Answer.{refused, given}
 use Rattle.refusal.specs.Decision.{decision_of}
 use Rattle.refusal.specs.Number.{input_number}
-use Rattle.refusal.specs.declared.Decision.{Decision}
-use Rattle.refusal.specs.declared.Decision.TheVariants.{Is, Refused}
 use Rattle.refusal.specs.declared.InputRefusal.{InputRefusal}
 use Rattle.sets.proofs.Sets.{mem_has, has_mem}
 use Rattle.sheets.specs.Checked.{sheet_first}
@@ -122,8 +121,8 @@ reachable_refused s n = (λ e. there (eqb (fault s) 0) refl e, λ h. rw (ne_eqb 
     there false t e = (cc, eqb-false _ _ t)
 
 -- the contract of the call: r is its answer for the sheet s
-module _ (s : List ℕ) (r : Decision) (call : decision_of r ≡ reachable_answer s) where
-  answered : (x : Bool) → (r ≡ Is x) ↔ ((fault s ≡ 0) × (has_reachable_accepting (read s) ≡ x))
+module _ (s : List ℕ) (r : Result Bool InputRefusal) (call : decision_of r ≡ reachable_answer s) where
+  answered : (x : Bool) → (r ≡ Ok x) ↔ ((fault s ≡ 0) × (has_reachable_accepting (read s) ≡ x))
   unfolding reachable_answer
   answered x =
       let k = call_is r (reachable_answer s) call x in
@@ -131,7 +130,7 @@ module _ (s : List ℕ) (r : Decision) (call : decision_of r ≡ reachable_answe
       (λ e. let (f, h) = g.0 (k.0 e) in (f, cc), λ (f, e). k.1 (g.1 (f, ap given e)))
 
   -- true exactly when the sheet has no fault and a path from the start leads to a state that accepts
-  pub reachable_call : (r ≡ Is true) ↔ ((fault s ≡ 0) × ((q : ℕ) × Path (read s) (read s).start q × (0 < get_or (read s).accept q 0)))
+  pub reachable_call : (r ≡ Ok true) ↔ ((fault s ≡ 0) × ((q : ℕ) × Path (read s) (read s).start q × (0 < get_or (read s).accept q 0)))
   reachable_call =
       let a = answered true in
       (λ e. let (f, h) = a.0 e in (f, (paths f).0 h), λ (f, h). a.1 (f, (paths f).1 h))
@@ -140,7 +139,7 @@ module _ (s : List ℕ) (r : Decision) (call : decision_of r ≡ reachable_answe
       paths f = accepting_paths (read s) (read_well s (accepted s f)).states
 
   -- false exactly when the sheet has no fault and no word is accepted
-  pub empty_call : (r ≡ Is false) ↔ ((fault s ≡ 0) × ((v : List ℕ) → Accepts (read s) v → ⊥))
+  pub empty_call : (r ≡ Ok false) ↔ ((fault s ≡ 0) × ((v : List ℕ) → Accepts (read s) v → ⊥))
   empty_call =
       let a = answered false in
       (λ e. let (f, h) = a.0 e in (f, (empty f).0 h), λ (f, h). a.1 (f, (empty f).1 h))
@@ -149,13 +148,13 @@ module _ (s : List ℕ) (r : Decision) (call : decision_of r ≡ reachable_answe
       empty f = empty_exact (read s) (read_well s (accepted s f))
 
   -- the same of words of u32 symbols, for a sheet of u32 words
-  pub empty_call_symbols : ((i : ℕ) → get_or s i 0 ≤ last_symbol) → (r ≡ Is false) ↔ ((fault s ≡ 0) × ((v : List ℕ) → Word 0 last_symbol v → Accepts (read s) v → ⊥))
+  pub empty_call_symbols : ((i : ℕ) → get_or s i 0 ≤ last_symbol) → (r ≡ Ok false) ↔ ((fault s ≡ 0) × ((v : List ℕ) → Word 0 last_symbol v → Accepts (read s) v → ⊥))
   empty_call_symbols b =
       let k = call_is r (reachable_answer s) call false in
       (λ e. let f = ((answered false).0 e).0 in (f, (empty_sheet s f b).0 (k.0 e)), λ (f, h). k.1 ((empty_sheet s f b).1 h))
 
   -- a refusal exactly when it is the sheet's fault
-  pub refused_call : (i : InputRefusal) → (r ≡ Refused i) ↔ (fault s ≡ input_number i)
+  pub refused_call : (i : InputRefusal) → (r ≡ Err i) ↔ (fault s ≡ input_number i)
   unfolding reachable_answer
   refused_call i =
       let k = call_refused r (reachable_answer s) call i in

@@ -13,8 +13,7 @@ ghost use Rattle.emptiness.specs.inner.Passes.{MetStates, PassTells};
 ghost use Rattle.emptiness.specs.inner.Marks.{Unmarked, StackRoom, PushedState, Pushed, first_target, targets_below, UnmarkedSearch};
 ghost use Rattle.emptiness.specs.Reachable.{has_reachable_accepting, reachable_answer};
 
-use refusal::Decision;
-use sheets::Checked;
+use refusal::InputRefusal;
 
 // What a pass over the records tells: that a reachable state accepts, that none does, or nothing.
 #[derive(Drop)]
@@ -29,18 +28,18 @@ const MOST_IDLE: usize = 8;
 
 // Follows the transitions that lead upward from the states that were met, in one pass over the records of an accepted sheet. It ends undecided at a
 // transition that leads down to a state that was not met, and where it has read too many records in vain.
+#[tactic(auto, using(crate::proofs::Passes::met_undecided))]
 fn pass_up(s: &[u32], marks: &mut [u8]) -> Pass
     requires { Accepted s.now × MetStates (read s.now) marks.old }
     ensures { PassTells (read s.now) marks.new result }
 {
+    let base = s[2] as usize + 4;
+    let (records, _) = s[base..].as_chunks::<5>();
     let mut idle: usize = 0;
-    let mut at = s[2] as usize + 4;
-    while 5 <= s.len() - at {
-        let record = at;
-        let to = s[record + 4];
-        at += 5;
+    for r in records {
+        let to = r[4];
         if marks[to as usize] == 0 {
-            let from = s[record];
+            let from = r[0];
             if marks[from as usize] == 0 {
                 if idle == MOST_IDLE {
                     return Pass::Undecided;
@@ -61,15 +60,14 @@ fn pass_up(s: &[u32], marks: &mut [u8]) -> Pass
 }
 
 // The same downward, from the last record back to the first.
+#[tactic(auto, using(crate::proofs::Passes::met_undecided))]
 fn pass_down(s: &[u32], marks: &mut [u8]) -> Pass
     requires { Accepted s.now × MetStates (read s.now) marks.old }
     ensures { PassTells (read s.now) marks.new result }
 {
     let n = s[2] as usize;
     let mut idle: usize = 0;
-    let mut left = s[n + 3] as usize;
-    while 0 < left {
-        left -= 1;
+    for left in (0..s[n + 3] as usize).rev() {
         let record = n + 4 + 5 * left;
         let to = s[record + 4];
         if marks[to as usize] == 0 {
@@ -166,11 +164,8 @@ fn first_targets(s: &[u32], starts: &[u32], targets: &mut [u32])
     requires { Accepted s.now × Indexed s.now starts.now × (length targets.old ≡ 256) }
     ensures { targets.new ≡ targets_below (read s.now) targets.old (state_count s.now) }
 {
-    let n = s[2];
-    let mut q: u32 = 0;
-    while q < n {
+    for q in 0..s[2] {
         targets[q as usize] = first_target(s, starts, q);
-        q += 1;
     }
 }
 
@@ -235,11 +230,10 @@ fn reaches_accepting(s: &[u32]) -> bool
 }
 
 // Whether a state that accepts is reached from the start, by any number of transitions. A sheet is empty when none is.
-pub fn has_reachable_accepting_state(s: &[u32]) -> Decision
+#[tactic(auto, using(crate::proofs::Answers::answer_laws))]
+pub fn has_reachable_accepting_state(s: &[u32]) -> Result<bool, InputRefusal>
     ensures { decision_of result ≡ reachable_answer s.now }
 {
-    match sheets::check(s) {
-        Checked::Accepted => Decision::Is(reaches_accepting(s)),
-        Checked::Refused(r) => Decision::Refused(r),
-    }
+    sheets::check(s)?;
+    Ok(reaches_accepting(s))
 }

@@ -1,5 +1,5 @@
 -- Gathering transitions: the laws by which the loops are proved.
-use Prim.Native.Nat.{ℕ, ◌+◌, ◌-◌, ◌*◌, ◌≤◌, ◌<◌}
+use Prim.Native.Nat.{ℕ, ◌+◌, ◌*◌, ◌/◌, ◌≤◌, ◌<◌}
 use mathlib.Core.Bool.{Bool, true, false, cond}
 use mathlib.Core.List.{List, [], ◌∷◌, ◌++◌, map, flat_map}
 use mathlib.Core.Path.{◌≡◌, refl, sym, ◌∙◌, ap, subst}
@@ -7,12 +7,15 @@ use native.Mathlib.Omega.{arith}
 use borrow.Author.Rules.{rules}
 use borrow.Author.Tests.{eq-eqb, ne_eqb}
 use lib.Dec.{eqb}
-use lib.ListN.{length, get_or, take, drop}
+use lib.ListN.{length, get_or, drop}
+use Rattle.std.specs.Simd.{first_chunks}
 use Rattle.lists.specs.Lists.{filter}
 use Rattle.automata.specs.Automaton.{Transition, leaving, ranges_of}
 use Rattle.automata.specs.Records.{read_records, write_records}
 use Rattle.automata.specs.inner.Records.{record_at}
-use Rattle.automata.proofs.Records.{records_at_lem, records_end, part_record, read_write}
+use Rattle.automata.specs.inner.Chunks.{records_of}
+use Rattle.automata.proofs.Chunks.{records_are, records_next, records_done}
+use Rattle.automata.proofs.Records.{read_write}
 use Rattle.output.specs.inner.Gathering.{Memory, Open, Gathered, Rest}
 use Rattle.output.specs.inner.Ordered.{records_in}
 use Rattle.output.proofs.Collecting.{gathered_same, rest_none, rest_begin, rest_end, rest_next, rest_over}
@@ -64,38 +67,27 @@ moved_cons p e es = go (eqb e.kind 1)
     go true = refl
     go false = refl
 
-pub run_begins : (buf run : List ℕ) (sorted end p : ℕ) → Open buf sorted end → Rest buf sorted end (moved_to p (read_records (drop 0 run))) (records_in buf 0 end ++ moved_to p (read_records run))
-run_begins buf run sorted end p r = rest_begin buf sorted end _ r
+pub run_begins : (buf run : List ℕ) (rs : List (List ℕ)) (sorted end p : ℕ) → rs ≡ first_chunks 5 (length run / 5) run → Open buf sorted end
+    → Rest buf sorted end (moved_to p (records_of rs)) (records_in buf 0 end ++ moved_to p (read_records run))
+run_begins buf run rs sorted end p e r = rw (records_are run rs e) (rest_begin buf sorted end _ r)
 
-module _ (buf run : List ℕ) (sorted end p at : ℕ) (es : List Transition) (l : Rest buf sorted end (moved_to p (read_records (drop at run))) es) where
-  pub run_ended : length run - at < 5 → Gathered buf sorted end es
+module _ (buf : List ℕ) (rs : List (List ℕ)) (sorted end p i : ℕ) (es : List Transition) (l : Rest buf sorted end (moved_to p (records_of (drop i rs))) es) where
+  pub run_ended : length rs ≤ i → Gathered buf sorted end es
   unfolding moved_to ranges_of filter
-  run_ended h = rest_end buf sorted end es (subst (λ (x : List Transition). Rest buf sorted end x es) (ap (moved_to p) (records_end run at h)) l)
+  run_ended h = rest_end buf sorted end es (subst (λ (x : List Transition). Rest buf sorted end x es) (ap (moved_to p) (records_done rs i h)) l)
 
   pub run_room : Open buf sorted end
   run_room = l.room
 
-  module _ (h : 5 ≤ length run - at) (m : List ℕ) (ahead next : ℕ) (s : Gathered m ahead next (records_in buf 0 end ++ moved_to p (record_at (take (at + 5 - at) (drop at run)) 0 ∷ []))) where
-    first : List Transition
-    first = moved_to p (record_at run at ∷ [])
+  module _ (h : i < length rs) (m : List ℕ) (ahead next : ℕ) (s : Gathered m ahead next (records_in buf 0 end ++ moved_to p (record_at (get_or rs i []) 0 ∷ []))) where
+    split : Rest buf sorted end (moved_to p (record_at (get_or rs i []) 0 ∷ []) ++ moved_to p (records_of (drop (i + 1) rs))) es
+    split = subst (λ (x : List Transition). Rest buf sorted end x es) (ap (moved_to p) (records_next rs i h) ∙ moved_cons p (record_at (get_or rs i []) 0) _) l
 
-    rest : List Transition
-    rest = moved_to p (read_records (drop (at + 5) run))
-
-    split : Rest buf sorted end (first ++ rest) es
-    unfolding first rest
-    split = subst (λ (x : List Transition). Rest buf sorted end x es) (ap (moved_to p) (records_at_lem run at h) ∙ moved_cons p (record_at run at) _) l
-
-    added : Gathered m ahead next (records_in buf 0 end ++ first)
-    unfolding first
-    added = subst (λ (x : Transition). Gathered m ahead next (records_in buf 0 end ++ moved_to p (x ∷ []))) (part_record run at) s
-
-    pub run_next : next < length m → Rest m ahead next (moved_to p (read_records (drop (at + 5) run))) es
-    unfolding rest
-    run_next = rest_next buf sorted end es first rest split m ahead next added
+    pub run_next : next < length m → Rest m ahead next (moved_to p (records_of (drop (i + 1) rs))) es
+    run_next = rest_next buf sorted end es _ _ split m ahead next s
 
     pub run_over : length m ≤ next → Gathered m ahead next es
-    run_over = rest_over buf sorted end es first rest split m ahead next added
+    run_over = rest_over buf sorted end es _ _ split m ahead next s
 
 pub ruleset run_laws = (run_begins, run_room, run_ended, run_next, run_over, rules)
 

@@ -15,6 +15,7 @@
 --   eliminate_20, eliminate_fault, eliminate_10, eliminate_22, eliminate_never_21
 --                          where each number is answered, exactly
 --   eliminate_unchanged    a refusal leaves both outputs as they were
+use Rattle.std.proofs.Common.{Result, Ok}
 use Prim.Native.Nat.{ℕ, ◌≤◌, ◌<◌}
 use mathlib.Core.List.{List, []}
 use mathlib.Core.Logic.{◌↔◌}
@@ -26,7 +27,7 @@ use Rattle.automata.specs.Automaton.{Transition, Automaton, Run, Accepts, InBoun
 use Rattle.automata.specs.WellFormed.{most_transitions}
 use Rattle.labels.specs.Labels.{labels_fault, read_labels}
 use Rattle.output.specs.declared.Made.{Made}
-use Rattle.output.specs.declared.Made.TheVariants.{Lengths}
+use Rattle.refusal.specs.declared.Refusal.{Refusal}
 use Rattle.output.specs.Left.{made_number, Room, Leaves, Unchanged}
 use Rattle.output.specs.Made.{output_of}
 use Rattle.output.specs.Output.{outputs}
@@ -77,7 +78,7 @@ module _ (A : Automaton) (ok : InBounds A) where
   )
 
 -- the call on the sheet s with the labels b: r is its answer, o and l are the outputs before it, o' and l' after it
-module _ (s b o l o' l' : List ℕ) (r : Made) (call : output_of r o' l' ≡ outputs o l (eliminate_answer s b o l)) where
+module _ (s b o l o' l' : List ℕ) (r : Result Made Refusal) (call : output_of r o' l' ≡ outputs o l (eliminate_answer s b o l)) where
   -- nothing is refused exactly where there is room, nothing has a fault and the transitions are few enough
   pub eliminate_lengths : (made_number r ≡ 0) ↔ (Room o l × (fault s ≡ 0) × (labels_fault (state_count s) b ≡ 0) × (length (eliminated (read s)).transitions ≤ most_transitions))
   unfolding eliminate_answer
@@ -85,7 +86,7 @@ module _ (s b o l o' l' : List ℕ) (r : Made) (call : output_of r o' l' ≡ out
       let c = checked_given s b (eliminated_with (read s) (read_labels b)) o l o' l' r call in
       (λ h. let (k, f, g, x) = c.0 h in (k, f, g, behind_given s b x.0 x.1), λ (k, f, g, few). c.1 (k, f, g, (result s b, given_behind s b few)))
 
-  module _ (w n : ℕ) (lengths : r ≡ Lengths w n) where
+  module _ (w n : ℕ) (lengths : r ≡ Ok (record { words = w; bytes = n })) where
     answered : (fault s ≡ 0) × (labels_fault (state_count s) b ≡ 0) × (length (eliminated (read s)).transitions ≤ most_transitions)
     answered = let (k, f, g, few) = eliminate_lengths.0 (ap made_number lengths) in (f, g, few)
 

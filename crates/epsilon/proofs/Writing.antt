@@ -2,7 +2,6 @@
 use Prim.Native.Nat.{ℕ, ◌+◌, ◌*◌, ◌/◌, ◌≤◌, ◌<◌}
 use mathlib.Core.List.{List, [], ◌∷◌, ◌++◌}
 use mathlib.Core.Path.{◌≡◌, ◌∙◌, ap, ap₂, subst}
-use native.Mathlib.Nat.{le_antisymm}
 use native.Mathlib.Numerals.{add-one}
 use native.Mathlib.Omega.{arith}
 use borrow.Author.Rules.{rules}
@@ -43,7 +42,7 @@ unfolding closure_kinds tabulate
 kinds_none s c t l at = written_none l at
 
 module _ (s c : List ℕ) (t : ClosuresOf s c) (l m : List ℕ) (at p end : ℕ) (w : Written l at (closure_kinds (read s) p) m end) where
-  pub kinds_room : p < state_count s → at + state_count s ≤ length l → end + 1 ≤ length m
+  pub kinds_room : p < state_count s → at + state_count s ≤ length l → end < length m
   kinds_room h r = omega (arith, length_kinds s p, w.behind, written_length l m _ at end w)
 
   pub kinds_next : (k : ℕ) → k ≡ kind_of (read s) (closure (read s) p) → (n : List ℕ) (r : ℕ) → Written m end (k ∷ []) n r → Written l at (closure_kinds (read s) (p + 1)) n r
@@ -51,10 +50,7 @@ module _ (s c : List ℕ) (t : ClosuresOf s c) (l m : List ℕ) (at p end : ℕ)
   kinds_next k e n r v =
       rw (add-one, tabulate_end p (λ q. kind_of (read s) (closure (read s) q)), ← e) (written_append l m n (closure_kinds (read s) p) (k ∷ []) at end r w v)
 
-  pub kinds_done : p ≤ state_count s → state_count s ≤ p → Written l at (closure_kinds (read s) (state_count s)) m end
-  kinds_done g h = subst (λ (n : ℕ). Written l at (closure_kinds (read s) n) m end) (le_antisymm g h) w
-
-pub ruleset accepts_laws = (kinds_none, kinds_room, kinds_next, kinds_done, written_length, rules)
+pub ruleset accepts_laws = (kinds_none, kinds_room, kinds_next, written_length, rules)
 
 -- the whole sheet: l is the memory before, m after its front, n after the accept words, o after the count of transitions
 module _ (s c recs : List ℕ) (t : ClosuresOf s c) (u : TransitionsOf s recs) where
@@ -69,7 +65,7 @@ module _ (s c recs : List ℕ) (t : ClosuresOf s c) (u : TransitionsOf s recs) w
     sheet_accepts = omega (arith, a.behind, written_length l m _ 0 first a, t.accepted.few_states)
 
     module _ (n : List ℕ) (count : ℕ) (b : Written m first (closure_kinds (read s) (state_count s)) n count) where
-      pub sheet_counted : count + 1 ≤ length n
+      pub sheet_counted : count < length n
       sheet_counted = omega (arith, a.behind, b.behind, length_kinds s (state_count s), written_length l m _ 0 first a, written_length m n _ first count b, t.accepted.few_states)
 
       module _ (o : List ℕ) (behind : ℕ) (d : Written n count (length recs / 5 ∷ []) o behind) where

@@ -4,7 +4,7 @@
 #![tactic(auto)]
 
 ghost use mathlib.Core.List.{[], ◌∷◌, ◌++◌, flat_map};
-ghost use Rattle.std.specs.Prelude.{◌≡◌, ◌+◌, ◌≤◌, ◌<◌, length};
+ghost use Rattle.std.specs.Prelude.{◌≡◌, ◌+◌, ◌*◌, ◌≤◌, ◌<◌, length};
 ghost use Rattle.stores.specs.Written.{Written};
 ghost use Rattle.automata.specs.Automaton.{states};
 ghost use Rattle.automata.specs.Records.{read_records};
@@ -19,7 +19,6 @@ ghost use Rattle.sets.specs.inner.Members.{Canon};
 ghost use Rattle.sheets.specs.inner.Accepted.{Accepted};
 ghost use Rattle.sheets.specs.inner.Runs.{Indexed};
 ghost use Rattle.sheets.specs.Sheet.{state_count, read, write};
-ghost use Rattle.words.specs.inner.Epsilons.{Fresh};
 ghost use Rattle.words.specs.inner.Gather.{Tables};
 ghost use Rattle.words.specs.Simulation.{closure, kind_of};
 ghost use Rattle.epsilon.specs.Eliminate.{moved_to, ranges_from, closure_ranges, closure_kinds, eliminated, eliminated_with, eliminate_answer};
@@ -29,8 +28,9 @@ use output::{Filled, Made};
 use refusal::{Refusal, StateRefusal};
 
 // The record r as one of state p behind the others, if it is a range.
-fn add_range(r: &[u32], p: u32, buf: &mut [u32], f: Filled) -> Filled
-    requires { (length r.now ≡ 5) × Open buf.old f.sorted f.end }
+#[tactic(auto, using(crate::proofs::Gathering::range_other))]
+fn add_range(r: &[u32; 5], p: u32, buf: &mut [u32], f: Filled) -> Filled
+    requires { Open buf.old f.sorted f.end }
     ensures { Gathered buf.new result.sorted result.end (records_in buf.old 0 f.end ++ moved_to p (record_at r.now 0 ∷ [])) }
 {
     if r[1] != 1 {
@@ -44,14 +44,13 @@ fn add_run(run: &[u32], p: u32, buf: &mut [u32], start: Filled) -> Filled
     requires { Open buf.old start.sorted start.end }
     ensures { Gathered buf.new result.sorted result.end (records_in buf.old 0 start.end ++ moved_to p (read_records run.now)) }
 {
+    let (records, _) = run.as_chunks::<5>();
     let mut f = start;
-    let mut at: usize = 0;
-    while 5 <= run.len() - at {
-        f = add_range(&run[at..at + 5], p, buf, f);
+    for r in records {
+        f = add_range(r, p, buf, f);
         if buf.len() <= f.end {
             return f;
         }
-        at += 5;
     }
     f
 }
@@ -106,12 +105,10 @@ fn add_closures(
     requires { Tables s.now starts.now closures.now × Memory buf.old × (length part.old ≡ length buf.old) }
     ensures { Gathered buf.new result.sorted result.end (flat_map (closure_ranges (read s.now)) (states (state_count s.now))) }
 {
-    let n = s[2];
     let mut set = [0u64; 4];
     let mut end: usize = 0;
     let mut f = Filled { sorted: 0, end: 0 };
-    let mut p: u32 = 0;
-    while p < n {
+    for p in 0..s[2] {
         end = closure_part(s, starts, closures, p, &mut set, part, end);
         if part.len() / 9 * 8 < end {
             return Filled {
@@ -123,7 +120,6 @@ fn add_closures(
         if buf.len() <= f.end {
             return f;
         }
-        p += 1;
     }
     f
 }
@@ -152,13 +148,10 @@ fn put_accepts(s: &[u32], closures: &[u64], out: &mut [u32], at: usize) -> usize
     requires { ClosuresOf s.now closures.now × (at + state_count s.now ≤ length out.old) }
     ensures { Written out.old at (closure_kinds (read s.now) (state_count s.now)) out.new result }
 {
-    let n = s[2];
     let mut end = at;
-    let mut p: u32 = 0;
-    while p < n {
+    for p in 0..s[2] {
         let kind = closure_kind(s, closures, p);
-        end = stores::put_word(out, end, kind);
-        p += 1;
+        end = stores::put(out, end, kind);
     }
     end
 }
@@ -170,8 +163,8 @@ fn put_sheet(s: &[u32], closures: &[u64], records: &[u32], out: &mut [u32]) -> u
 {
     let first = output::put_start(out, s[1], s[2]);
     let count = put_accepts(s, closures, out, first);
-    let behind = stores::put_word(out, count, (records.len() / 5) as u32);
-    stores::put_words(out, behind, records)
+    let behind = stores::put(out, count, (records.len() / 5) as u32);
+    stores::put_all(out, behind, records)
 }
 
 // The sheet whose records are these words, with its labels.
@@ -182,13 +175,13 @@ fn put_result(
     labels: &[u8],
     out: &mut [u32],
     names: &mut [u8],
-) -> Made
+) -> Result<Made, Refusal>
     requires { ClosuresOf s.now closures.now × TransitionsOf s.now records.now × EliminationInputs s.now out.old names.old × (labels_fault (state_count s.now) labels.now ≡ 0) }
     ensures { output_of result out.new names.new ≡ outputs out.old names.old (eliminated_with (read s.now) (read_labels labels.now)) }
 {
-    let length = put_sheet(s, closures, records, out);
+    let words = put_sheet(s, closures, records, out);
     let bytes = labels::copy_all(names, labels);
-    Made::Lengths(length, bytes)
+    Ok(Made { words, bytes })
 }
 
 // Eliminates the epsilons of an accepted sheet with an accepted list of labels, in memory for as many transitions as a sheet may have.
@@ -199,7 +192,7 @@ fn eliminate_large(
     labels: &[u8],
     out: &mut [u32],
     names: &mut [u8],
-) -> Made
+) -> Result<Made, Refusal>
     requires { Tables s.now starts.now closures.now × EliminationInputs s.now out.old names.old × (labels_fault (state_count s.now) labels.now ≡ 0) }
     ensures { output_of result out.new names.new ≡ outputs out.old names.old (eliminated_with (read s.now) (read_labels labels.now)) }
 {
@@ -207,7 +200,7 @@ fn eliminate_large(
     let mut buf = [0u32; 11520];
     let end = gather(s, starts, closures, &mut part, &mut buf);
     if 10240 < end {
-        return Made::Refused(Refusal::State(StateRefusal::Transitions));
+        return Err(Refusal::State(StateRefusal::Transitions));
     }
     put_result(s, closures, &buf[0..end], labels, out, names)
 }
@@ -222,7 +215,7 @@ fn eliminate_tables(
     out: &mut [u32],
     names: &mut [u8],
     met: usize,
-) -> Made
+) -> Result<Made, Refusal>
     requires { Tables s.now starts.now closures.now × EliminationInputs s.now out.old names.old × (labels_fault (state_count s.now) labels.now ≡ 0) }
     ensures { output_of result out.new names.new ≡ outputs out.old names.old (eliminated_with (read s.now) (read_labels labels.now)) }
 {
@@ -238,68 +231,70 @@ fn eliminate_tables(
     put_result(s, closures, &buf[0..end], labels, out, names)
 }
 
-// Eliminates the epsilons of an accepted sheet with an accepted list of labels. Where the runs begin and the closures are
-// put into tables that have an entry and a zeroed row for each state.
-fn eliminate_in(
+// Eliminates the epsilons of an accepted sheet with an accepted list of labels. Where the runs begin and the closures are put into tables of S and of
+// C words, with an entry and a row for each state. It stays a function of its own, so that small tables do not pay for large ones.
+#[inline(never)]
+fn eliminate_within<const S: usize, const C: usize>(
     s: &[u32],
-    starts: &mut [u32],
-    closures: &mut [u64],
     labels: &[u8],
     out: &mut [u32],
     names: &mut [u8],
-) -> Made
-    requires { (state_count s.now < length starts.old) × Fresh (state_count s.now) closures.old × EliminationInputs s.now out.old names.old × (labels_fault (state_count s.now) labels.now ≡ 0) }
+) -> Result<Made, Refusal>
+    requires { (state_count s.now < S) × (S ≤ 257) × (4 * state_count s.now ≤ C) × (C ≤ 1024) × EliminationInputs s.now out.old names.old × (labels_fault (state_count s.now) labels.now ≡ 0) }
     ensures { output_of result out.new names.new ≡ outputs out.old names.old (eliminated_with (read s.now) (read_labels labels.now)) }
 {
-    sheets::run_starts(s, starts);
-    words::state_closures(s, closures);
+    let mut starts = [0u32; S];
+    let mut closures = [0u64; C];
+    sheets::run_starts(s, &mut starts);
+    words::state_closures(s, &mut closures);
     let given = s.len() - s[2] as usize;
-    eliminate_tables(s, starts, closures, labels, out, names, given)
+    eliminate_tables(s, &starts, &closures, labels, out, names, given)
 }
 
-// The same with tables for as many states as a sheet may have.
-fn eliminate_many_states(s: &[u32], labels: &[u8], out: &mut [u32], names: &mut [u8]) -> Made
-    requires { EliminationInputs s.now out.old names.old × (labels_fault (state_count s.now) labels.now ≡ 0) }
-    ensures { output_of result out.new names.new ≡ outputs out.old names.old (eliminated_with (read s.now) (read_labels labels.now)) }
-{
-    let mut starts = [0u32; 257];
-    let mut closures = [0u64; 1024];
-    eliminate_in(s, &mut starts, &mut closures, labels, out, names)
-}
-
-// The same with tables for 32 states where they are enough.
-fn eliminate_accepted(s: &[u32], labels: &[u8], out: &mut [u32], names: &mut [u8]) -> Made
+// The same with tables for 32 states where they are enough, and else for as many as a sheet may have.
+fn eliminate_accepted(
+    s: &[u32],
+    labels: &[u8],
+    out: &mut [u32],
+    names: &mut [u8],
+) -> Result<Made, Refusal>
     requires { EliminationInputs s.now out.old names.old × (labels_fault (state_count s.now) labels.now ≡ 0) }
     ensures { output_of result out.new names.new ≡ outputs out.old names.old (eliminated_with (read s.now) (read_labels labels.now)) }
 {
     if 32 < s[2] {
-        return eliminate_many_states(s, labels, out, names);
+        return eliminate_within::<257, 1024>(s, labels, out, names);
     }
-    let mut starts = [0u32; 33];
-    let mut closures = [0u64; 128];
-    eliminate_in(s, &mut starts, &mut closures, labels, out, names)
+    eliminate_within::<33, 128>(s, labels, out, names)
 }
 
 // Eliminates the epsilons of an accepted sheet.
-fn eliminate_checked(s: &[u32], labels: &[u8], out: &mut [u32], names: &mut [u8]) -> Made
+#[tactic(auto, using(crate::proofs::Answers::checked_laws))]
+fn eliminate_checked(
+    s: &[u32],
+    labels: &[u8],
+    out: &mut [u32],
+    names: &mut [u8],
+) -> Result<Made, Refusal>
     requires { EliminationInputs s.now out.old names.old }
     ensures { output_of result out.new names.new ≡ outputs out.old names.old (labels_first (state_count s.now) labels.now (eliminated_with (read s.now) (read_labels labels.now))) }
 {
-    match labels::check(s[2] as usize, labels) {
-        labels::Checked::Accepted => eliminate_accepted(s, labels, out, names),
-        labels::Checked::Refused(r) => Made::Refused(Refusal::Input(r)),
-    }
+    labels::check(s[2] as usize, labels)?;
+    eliminate_accepted(s, labels, out, names)
 }
 
 // The same states and start, each with the ranges and the acceptance of its closure; the labels are kept.
-pub fn epsilon_eliminate(s: &[u32], labels: &[u8], out: &mut [u32], names: &mut [u8]) -> Made
+#[tactic(auto, using(crate::proofs::Answers::eliminate_laws))]
+pub fn epsilon_eliminate(
+    s: &[u32],
+    labels: &[u8],
+    out: &mut [u32],
+    names: &mut [u8],
+) -> Result<Made, Refusal>
     ensures { output_of result out.new names.new ≡ outputs out.old names.old (eliminate_answer s.now labels.now out.old names.old) }
 {
     if output::lacks_room(out, names) {
-        return Made::Refused(Refusal::State(StateRefusal::OutputLength));
+        return Err(Refusal::State(StateRefusal::OutputLength));
     }
-    match sheets::check(s) {
-        sheets::Checked::Accepted => eliminate_checked(s, labels, out, names),
-        sheets::Checked::Refused(r) => Made::Refused(Refusal::Input(r)),
-    }
+    sheets::check(s)?;
+    eliminate_checked(s, labels, out, names)
 }

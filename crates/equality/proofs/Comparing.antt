@@ -6,6 +6,7 @@ use borrow.Author.Rules.{rules}
 use borrow.Author.Tests.{lt-ltb, le-ltb}
 use lib.ListN.{length, take}
 use lib.Seq.{length-take-le}
+use Rattle.std.specs.Prelude.{Result, Ok, Err}
 use Rattle.refusal.specs.declared.InputRefusal.{InputRefusal}
 use Rattle.refusal.specs.declared.StateRefusal.{StateRefusal}
 use Rattle.refusal.specs.declared.StateRefusal.TheVariants.{OutputLength}
@@ -13,16 +14,12 @@ use Rattle.refusal.specs.declared.Refusal.{Refusal}
 use Rattle.refusal.specs.declared.Refusal.TheVariants.{Input, State}
 use Rattle.refusal.specs.Answer.{Answer, refused}
 use Rattle.refusal.specs.Number.{state_number, number_of}
-use Rattle.sheets.specs.declared.Checked.{Checked}
-use Rattle.sheets.specs.declared.Checked.TheVariants as checked
 use Rattle.sheets.specs.Checked.{checked_number}
 use Rattle.sheets.specs.Fault.{fault}
 use Rattle.sheets.specs.Sheet.{read}
 use Rattle.sheets.proofs.Accepted.{check_accepted}
 use Rattle.sheets.proofs.Checking.{sheet_passed, sheet_refused}
 use Rattle.determinizations.specs.Two.{Two}
-use Rattle.determinizations.specs.declared.Both.{Both}
-use Rattle.determinizations.specs.declared.Both.TheVariants as both
 use Rattle.determinizations.specs.Determinizations.{determinized}
 use Rattle.determinizations.specs.inner.Sheets.{two_of, FrontsDeterminized, BothDeterminized}
 use Rattle.equality.specs.declared.Verdict.{Verdict}
@@ -36,13 +33,13 @@ unfolding Judged
 judged_refused o r = (refl, refl)
 
 -- the answer of `determinize_both`, with the outputs p and q afterwards
-module _ (lower upper : ℕ) (a b p q : List ℕ) (r : Both) (is-r : BothDeterminized lower upper (read a) (read b) p q r) where
-  pub both_refused : (k : StateRefusal) → r ≡ both.Refused k → (o : List ℕ) → Judged (determinized lower upper (read a) (read b)) o o (Refused (State k))
+module _ (lower upper : ℕ) (a b p q : List ℕ) (r : Result (ℕ × ℕ) StateRefusal) (is-r : BothDeterminized lower upper (read a) (read b) p q r) where
+  pub both_refused : (k : StateRefusal) → r ≡ Err k → (o : List ℕ) → Judged (determinized lower upper (read a) (read b)) o o (Refused (State k))
   both_refused k e o =
       let d : determinized lower upper (read a) (read b) ≡ refused (state_number k) = subst (BothDeterminized lower upper (read a) (read b) p q) e is-r in
       subst (λ (x : Answer Two). Judged x o o (Refused (State k))) (sym d) (judged_refused o (State k))
 
-  module _ (m n : ℕ) (e : r ≡ both.Lengths m n) where
+  module _ (m n : ℕ) (e : r ≡ Ok (m, n)) where
     fronts : FrontsDeterminized lower upper (read a) (read b) p q m n
     fronts = subst (BothDeterminized lower upper (read a) (read b) p q) e is-r
 
@@ -72,17 +69,17 @@ module _ (lower upper : ℕ) (a b o : List ℕ) where
   unfolding equality_answer
   word_short h = subst (λ (x : Answer Two). Judged x o o (Refused (State OutputLength))) (sym (rw (lt-ltb (length o) 510 h) refl)) (judged_refused o _)
 
-  module _ (room : 510 ≤ length o) (r : Checked) (is-r : checked_number r ≡ fault a) where
-    pub first_faulty : (i : InputRefusal) → r ≡ checked.Refused i → Judged (equality_answer lower upper a b o) o o (Refused (Input i))
+  module _ (room : 510 ≤ length o) (r : Result (Unit {0}) InputRefusal) (is-r : checked_number r ≡ fault a) where
+    pub first_faulty : (i : InputRefusal) → r ≡ Err i → Judged (equality_answer lower upper a b o) o o (Refused (Input i))
     unfolding equality_answer
     first_faulty i e = subst (λ (x : Answer Two). Judged x o o (Refused (Input i))) (sym (rw (le-ltb (length o) 510 room) (sheet_refused a _ r is-r i e))) (judged_refused o _)
 
-    module _ (p : r ≡ checked.Accepted) (q : Checked) (is-q : checked_number q ≡ fault b) where
-      pub second_faulty : (i : InputRefusal) → q ≡ checked.Refused i → Judged (equality_answer lower upper a b o) o o (Refused (Input i))
+    module _ (p : r ≡ Ok tt) (q : Result (Unit {0}) InputRefusal) (is-q : checked_number q ≡ fault b) where
+      pub second_faulty : (i : InputRefusal) → q ≡ Err i → Judged (equality_answer lower upper a b o) o o (Refused (Input i))
       unfolding equality_answer
       second_faulty i e = subst (λ (x : Answer Two). Judged x o o (Refused (Input i))) (sym (rw (le-ltb (length o) 510 room) (sheet_passed a _ r is-r p ∙ sheet_refused b _ q is-q i e))) (judged_refused o _)
 
-      pub both_passed : q ≡ checked.Accepted → (o' : List ℕ) (v : Verdict) → Judged (determinized lower upper (read a) (read b)) o o' v → Judged (equality_answer lower upper a b o) o o' v
+      pub both_passed : q ≡ Ok tt → (o' : List ℕ) (v : Verdict) → Judged (determinized lower upper (read a) (read b)) o o' v → Judged (equality_answer lower upper a b o) o o' v
       unfolding equality_answer
       both_passed e o' v h = subst (λ (x : Answer Two). Judged x o o' v) (sym (rw (le-ltb (length o) 510 room) (sheet_passed a _ r is-r p ∙ sheet_passed b _ q is-q e))) h
 

@@ -1,21 +1,11 @@
 -- The two runs of a pair compared side by side: what holds when the symbols of some records of each are done. Assumes nothing.
-use Prim.Native.Nat.{ℕ, ◌+◌, ◌*◌, ◌-◌, ◌/◌, ◌≤◌, ◌<◌}
-use mathlib.Core.Path.{◌≡◌, sym, subst, ◌∙◌}
-use mathlib.Core.Logic.{⊎_elim}
-use mathlib.Core.List.{List}
-use native.Mathlib.Omega.{arith}
-use borrow.Author.Count.{below_more}
-use borrow.Author.Rules.{rules}
-use lib.ListN.{length, get_or, take, drop}
+use Rattle.std.proofs.Common.{Option, Some, None, ℕ, ◌+◌, ◌*◌, ◌-◌, ◌/◌, ◌≤◌, ◌<◌, ◌≡◌, sym, subst, ◌∙◌, ⊎_elim, List, arith, below_more, length, get_or, take, drop}
 use Rattle.automata.specs.Automaton.{Transition, accept_of}
 use Rattle.automata.specs.inner.Records.{record_at}
 use Rattle.automata.proofs.Records.{part_record}
 use Rattle.sheets.specs.inner.Accepted.{Accepted}
 use Rattle.sheets.specs.Sheet.{state_count, read}
 use Rattle.sheets.proofs.Meaning.{read_well}
-use Rattle.equality.specs.declared.walk.FirstCommon.{FirstCommon}
-use Rattle.equality.specs.declared.walk.FirstCommon.TheVariants.{Symbol, Nothing}
-use Rattle.equality.specs.declared.walk.Comparison.TheVariants.{Alike, Differ}
 use Rattle.automata.specs.Successors.{successor}
 use Rattle.pairs.specs.inner.Pairs.{Pairs, classes, one_at, two_at, PairFits, PairJoined}
 use Rattle.pairs.proofs.Laws.{pair_fits}
@@ -48,10 +38,6 @@ pub record RecordsCompared (a b : List ℕ) (lower upper : ℕ) (ra rb : List �
   pub before : RunsInvariant a b lower upper ra rb n1 i j k w l
   pub shared : (x : ℕ) → lower ≤ x → x ≤ upper → In ra j x → In rb k x → Joined a b w i x
 
-pub runs_begin : (a b : List ℕ) (lower upper : ℕ) (ra rb : List ℕ) (n1 i : ℕ) (w : Pairs) (l : List ℕ)
-    → ComparableRecords a b lower upper ra rb n1 i w l → RunsInvariant a b lower upper ra rb n1 i 0 0 w l
-runs_begin a b lower upper ra rb n1 i w l r = record { runs = r; done_a = λ g h. absurd (omega arith); done_b = λ g h. absurd (omega arith) }
-
 module _ (a b : List ℕ) (lower upper : ℕ) (ra rb : List ℕ) (n1 i : ℕ) (w : Pairs) (l : List ℕ) (runs : ComparableRecords a b lower upper ra rb n1 i w l) where
   run_a : RunOf (read a) lower upper (one_at w i) ra
   run_a = run_of lower upper (read a) runs.sheets.one (read_well a runs.sheets.first) (one_at w i) (runs.walked.in_one i runs.i_in) ra runs.run_a
@@ -60,7 +46,7 @@ module _ (a b : List ℕ) (lower upper : ℕ) (ra rb : List ℕ) (n1 i : ℕ) (w
   run_b = run_of lower upper (read b) runs.sheets.two (read_well b runs.sheets.second) (two_at w i) (runs.walked.in_two i runs.i_in) rb runs.run_b
 
   -- all symbols are done
-  all_done : ((x : ℕ) → lower ≤ x → x ≤ upper → Joined a b w i x) → SuccessorsCompared (two_of a b lower upper) i w l Alike
+  all_done : ((x : ℕ) → lower ≤ x → x ≤ upper → Joined a b w i x) → SuccessorsCompared (two_of a b lower upper) i w l None
   all_done h = (runs.walked, runs.i_in, below_more (λ (g : ℕ). (x : ℕ) → (lower ≤ x) × (x ≤ upper) → Joined a b w g x) i runs.closed (λ x s. h x s.0 s.1))
 
 -- records j and k are compared: the one that ends first is done, since a record of the other run that holds one of its symbols was compared
@@ -110,10 +96,10 @@ module _ (a b : List ℕ) (lower upper : ℕ) (ra rb : List ℕ) (n1 i j k : ℕ
   to_b g h = of_b.inside g (b_in g h)
 
   -- one of the runs is through
-  pub runs_end_a : length ra / 5 ≤ j → SuccessorsCompared (two_of a b lower upper) i w l Alike
+  pub runs_end_a : length ra / 5 ≤ j → SuccessorsCompared (two_of a b lower upper) i w l None
   runs_end_a h = all_done a b lower upper ra rb n1 i w l runs (λ x above below. let f = of_a.full x above below in u.done_a f.0 (omega (arith, of_a.whole, f.1)) x above below f.2)
 
-  pub runs_end_b : length rb / 5 ≤ k → SuccessorsCompared (two_of a b lower upper) i w l Alike
+  pub runs_end_b : length rb / 5 ≤ k → SuccessorsCompared (two_of a b lower upper) i w l None
   runs_end_b h = all_done a b lower upper ra rb n1 i w l runs (λ x above below. let f = of_b.full x above below in u.done_b f.0 (omega (arith, of_b.whole, f.1)) x above below f.2)
 
   pub runs_accept_a : j < length ra / 5 → Accepted a × (get_or ra (5 * j + 4) 0 < state_count a)
@@ -123,94 +109,92 @@ module _ (a b : List ℕ) (lower upper : ℕ) (ra rb : List ℕ) (n1 i j k : ℕ
   runs_accept_b h = (runs.sheets.second, to_b k (omega arith))
 
   -- the answer of `first_common` on records j and k
-  module _ (r : FirstCommon) (is-r : FirstOf (record_at (take (5 * j + 5 - 5 * j) (drop (5 * j) ra)) 0) (record_at (take (5 * k + 5 - 5 * k) (drop (5 * k) rb)) 0) lower upper r) where
-    here : FirstOf (record_at ra (5 * j)) (record_at rb (5 * k)) lower upper r
-    here = subst (λ (d : Transition). FirstOf d (record_at rb (5 * k)) lower upper r) (part_record ra (5 * j)) (subst (λ (e : Transition). FirstOf (record_at (take (5 * j + 5 - 5 * j) (drop (5 * j) ra)) 0) e lower upper r) (part_record rb (5 * k)) is-r)
+  abbrev Answered : Option ℕ → Type 0
+  Answered r = FirstOf (record_at (take (5 * j + 5 - 5 * j) (drop (5 * j) ra)) 0) (record_at (take (5 * k + 5 - 5 * k) (drop (5 * k) rb)) 0) lower upper r
 
-    -- no symbol in common
-    pub runs_skip : r ≡ Nothing → RecordsCompared a b lower upper ra rb n1 i j k w l
-    runs_skip e =
-        let no : FirstOf (record_at ra (5 * j)) (record_at rb (5 * k)) lower upper Nothing = subst (FirstOf (record_at ra (5 * j)) (record_at rb (5 * k)) lower upper) e here in
-        record {
-          before = u;
-          shared = λ x lower upper p q. absurd (no x (record { above = lower; below = upper; first_one = p.0; last_one = p.1; first_two = q.0; last_two = q.1 }));
-        }
+  here : (r : Option ℕ) → Answered r → FirstOf (record_at ra (5 * j)) (record_at rb (5 * k)) lower upper r
+  here r is-r = subst (λ (d : Transition). FirstOf d (record_at rb (5 * k)) lower upper r) (part_record ra (5 * j)) (subst (λ (e : Transition). FirstOf (record_at (take (5 * j + 5 - 5 * j) (drop (5 * j) ra)) 0) e lower upper r) (part_record rb (5 * k)) is-r)
 
-    -- a common symbol x
-    module _ (x : ℕ) (e : r ≡ Symbol x) (j-below : j < length ra / 5) (k-below : k < length rb / 5) where
-      common : CommonSymbol (record_at ra (5 * j)) (record_at rb (5 * k)) lower upper x
-      common = subst (FirstOf (record_at ra (5 * j)) (record_at rb (5 * k)) lower upper) e here
+  -- no symbol in common
+  pub runs_skip : Answered None → RecordsCompared a b lower upper ra rb n1 i j k w l
+  runs_skip none = record {
+    before = u;
+    shared = λ x lower upper p q. absurd (here None none x (record { above = lower; below = upper; first_one = p.0; last_one = p.1; first_two = q.0; last_two = q.1 }));
+  }
 
-      abbrev to_p : ℕ
-      to_p = get_or ra (5 * j + 4) 0
+  -- a common symbol x
+  module _ (x : ℕ) (is-x : Answered (Some x)) (j-below : j < length ra / 5) (k-below : k < length rb / 5) where
+    common : CommonSymbol (record_at ra (5 * j)) (record_at rb (5 * k)) lower upper x
+    common = here (Some x) is-x
 
-      abbrev to_q : ℕ
-      to_q = get_or rb (5 * k + 4) 0
+    abbrev to_p : ℕ
+    to_p = get_or ra (5 * j + 4) 0
 
-      j_in : 5 * j + 5 ≤ length ra
-      j_in = omega (arith, j-below)
+    abbrev to_q : ℕ
+    to_q = get_or rb (5 * k + 4) 0
 
-      k_in : 5 * k + 5 ≤ length rb
-      k_in = omega (arith, k-below)
+    j_in : 5 * j + 5 ≤ length ra
+    j_in = omega (arith, j-below)
 
-      next_p : (y : ℕ) → lower ≤ y → y ≤ upper → In ra j y → successor (read a) (one_at w i) y ≡ to_p
-      next_p y lower upper h = of_a.leads j y (a_in j j_in) lower upper h.0 h.1
+    k_in : 5 * k + 5 ≤ length rb
+    k_in = omega (arith, k-below)
 
-      next_q : (y : ℕ) → lower ≤ y → y ≤ upper → In rb k y → successor (read b) (two_at w i) y ≡ to_q
-      next_q y lower upper h = of_b.leads k y (b_in k k_in) lower upper h.0 h.1
+    next_p : (y : ℕ) → lower ≤ y → y ≤ upper → In ra j y → successor (read a) (one_at w i) y ≡ to_p
+    next_p y lower upper h = of_a.leads j y (a_in j j_in) lower upper h.0 h.1
 
-      x_p : successor (read a) (one_at w i) x ≡ to_p
-      x_p = next_p x common.above common.below (common.first_one, common.last_one)
+    next_q : (y : ℕ) → lower ≤ y → y ≤ upper → In rb k y → successor (read b) (two_at w i) y ≡ to_q
+    next_q y lower upper h = of_b.leads k y (b_in k k_in) lower upper h.0 h.1
 
-      x_q : successor (read b) (two_at w i) x ≡ to_q
-      x_q = next_q x common.above common.below (common.first_two, common.last_two)
+    x_p : successor (read a) (one_at w i) x ≡ to_p
+    x_p = next_p x common.above common.below (common.first_one, common.last_one)
 
-      to_in_a : to_p < w.sets.n
-      to_in_a = omega (arith, to_a j j_in, runs.walked.is_n)
+    x_q : successor (read b) (two_at w i) x ≡ to_q
+    x_q = next_q x common.above common.below (common.first_two, common.last_two)
 
-      to_in_b : state_count a + to_q < w.sets.n
-      to_in_b = omega (arith, to_b k k_in, runs.walked.is_n)
+    to_in_a : to_p < w.sets.n
+    to_in_a = omega (arith, to_a j j_in, runs.walked.is_n)
 
-      pub runs_fit : PairFits n1 to_p to_q w
-      runs_fit = rw runs.is_n1 (pair_fits (state_count a) to_p to_q w runs.walked.valid to_in_a to_in_b)
+    to_in_b : state_count a + to_q < w.sets.n
+    to_in_b = omega (arith, to_b k k_in, runs.walked.is_n)
 
-      pub runs_step_fits : StepFits l w.made i
-      runs_step_fits = record {
-        long = runs.walked.long;
-        room = omega (arith, room (two_of a b lower upper) (total a b lower upper runs.sheets) w l runs.walked, runs.walked.is_n, runs.walked.valid.few);
-        i_in = runs.i_in;
-        shallow = runs.walked.shallow i runs.i_in;
-      }
+    pub runs_fit : PairFits n1 to_p to_q w
+    runs_fit = rw runs.is_n1 (pair_fits (state_count a) to_p to_q w runs.walked.valid to_in_a to_in_b)
 
-      module _ (m n : ℕ) (is_m : m ≡ accept_of (read a) to_p) (is_n : n ≡ accept_of (read b) to_q) where
-        pub runs_differ : (m ≡ n → ⊥) → SuccessorsCompared (two_of a b lower upper) i w l (Differ x)
-        runs_differ d = (runs.walked, runs.i_in, common.above, common.below, rw (x_p, x_q) (λ s. d (is_m ∙ s ∙ sym is_n)))
+    pub runs_step_fits : StepFits l w.made i
+    runs_step_fits = record {
+      long = runs.walked.long;
+      room = omega (arith, room (two_of a b lower upper) (total a b lower upper runs.sheets) w l runs.walked, runs.walked.is_n, runs.walked.valid.few);
+      i_in = runs.i_in;
+      shallow = runs.walked.shallow i runs.i_in;
+    }
 
-        pub runs_joined : m ≡ n → (v : Pairs) → PairJoined n1 to_p to_q w v → (l' : List ℕ) → StepPut l l' w.made v.made i x → RecordsCompared a b lower upper ra rb n1 i j k v l'
-        runs_joined e v o l' s =
-            let t = total a b lower upper runs.sheets in
-            let o' : PairJoined (state_count a) (successor (read a) (one_at w i) x) (successor (read b) (two_at w i) x) w v = rw (runs.is_n1, ← x_p, ← x_q) at o in
-            let z = one_more (two_of a b lower upper) t w v l l' i x runs.walked runs.i_in (common.above, common.below) o' s (rw (x_p, x_q) (sym is_m ∙ e ∙ is_n)) in
-            let kept : (g : ℕ) → g < w.made → (y : ℕ) → lower ≤ y → y ≤ upper → Joined a b w g y → Joined a b v g y =
-            λ g h y lower upper c. rw (o.kept.one g h, o.kept.two g h)
-            (o.kept.joins (successor (read a) (one_at w g) y) (state_count a + successor (read b) (two_at w g) y)
-            (omega (arith, runs.walked.is_n, t.first.next_in (one_at w g) y (runs.walked.in_one g h) (lower, upper)))
-            (omega (arith, runs.walked.is_n, t.second.next_in (two_at w g) y (runs.walked.in_two g h) (lower, upper))) c) in
-            record {
-              before = record {
-                runs = record {
-                  sheets = runs.sheets;
-                  is_n1 = runs.is_n1;
-                  run_a = rw (o.kept.one i runs.i_in) runs.run_a;
-                  run_b = rw (o.kept.two i runs.i_in) runs.run_b;
-                  walked = z;
-                  i_in = omega (arith, o.kept.more, runs.i_in);
-                  closed = λ g h y c. kept g (omega (arith, runs.i_in)) y c.0 c.1 (runs.closed g h y c);
-                };
-                done_a = λ g h y lower upper p. kept i runs.i_in y lower upper (u.done_a g h y lower upper p);
-                done_b = λ g h y lower upper q. kept i runs.i_in y lower upper (u.done_b g h y lower upper q);
+    module _ (m n : ℕ) (is_m : m ≡ accept_of (read a) to_p) (is_n : n ≡ accept_of (read b) to_q) where
+      pub runs_differ : (m ≡ n → ⊥) → SuccessorsCompared (two_of a b lower upper) i w l (Some x)
+      runs_differ d = (runs.walked, runs.i_in, common.above, common.below, rw (x_p, x_q) (λ s. d (is_m ∙ s ∙ sym is_n)))
+
+      pub runs_joined : m ≡ n → (v : Pairs) → PairJoined n1 to_p to_q w v → (l' : List ℕ) → StepPut l l' w.made v.made i x → RecordsCompared a b lower upper ra rb n1 i j k v l'
+      runs_joined e v o l' s =
+          let t = total a b lower upper runs.sheets in
+          let o' : PairJoined (state_count a) (successor (read a) (one_at w i) x) (successor (read b) (two_at w i) x) w v = rw (runs.is_n1, ← x_p, ← x_q) at o in
+          let z = one_more (two_of a b lower upper) t w v l l' i x runs.walked runs.i_in (common.above, common.below) o' s (rw (x_p, x_q) (sym is_m ∙ e ∙ is_n)) in
+          let kept : (g : ℕ) → g < w.made → (y : ℕ) → lower ≤ y → y ≤ upper → Joined a b w g y → Joined a b v g y =
+          λ g h y lower upper c. rw (o.kept.one g h, o.kept.two g h)
+          (o.kept.joins (successor (read a) (one_at w g) y) (state_count a + successor (read b) (two_at w g) y)
+          (omega (arith, runs.walked.is_n, t.first.next_in (one_at w g) y (runs.walked.in_one g h) (lower, upper)))
+          (omega (arith, runs.walked.is_n, t.second.next_in (two_at w g) y (runs.walked.in_two g h) (lower, upper))) c) in
+          record {
+            before = record {
+              runs = record {
+                sheets = runs.sheets;
+                is_n1 = runs.is_n1;
+                run_a = rw (o.kept.one i runs.i_in) runs.run_a;
+                run_b = rw (o.kept.two i runs.i_in) runs.run_b;
+                walked = z;
+                i_in = omega (arith, o.kept.more, runs.i_in);
+                closed = λ g h y c. kept g (omega (arith, runs.i_in)) y c.0 c.1 (runs.closed g h y c);
               };
-              shared = λ y lower upper p q. rw (o.kept.one i runs.i_in, o.kept.two i runs.i_in, next_p y lower upper p, next_q y lower upper q) (rw (x_p, x_q) at o'.joined);
-            }
-
-pub ruleset run_laws = (runs_begin, runs_end_a, runs_end_b, rules)
+              done_a = λ g h y lower upper p. kept i runs.i_in y lower upper (u.done_a g h y lower upper p);
+              done_b = λ g h y lower upper q. kept i runs.i_in y lower upper (u.done_b g h y lower upper q);
+            };
+            shared = λ y lower upper p q. rw (o.kept.one i runs.i_in, o.kept.two i runs.i_in, next_p y lower upper p, next_q y lower upper q) (rw (x_p, x_q) at o'.joined);
+          }

@@ -1,13 +1,7 @@
 -- The walk over the queue of pairs, from the starts to the verdict: its laws, in the words of the code. Assumes nothing.
-use Prim.Native.Nat.{ℕ, ◌+◌, ◌≤◌, ◌<◌}
-use mathlib.Core.Path.{◌≡◌, refl, sym, ap, subst, ◌∙◌}
-use mathlib.Core.List.{List}
-use native.Mathlib.Omega.{arith}
-use borrow.Author.Rules.{rules}
-use lib.ListN.{length, get_or, drop}
+use Rattle.std.proofs.Common.{Option, Some, ℕ, ◌+◌, ◌≤◌, ◌<◌, ◌≡◌, refl, sym, ap, subst, ◌∙◌, List, arith, length, get_or, drop}
 use lib.Seq.{sets}
-use Rattle.automata.specs.Automaton.{leaving, none, accept_of}
-use Rattle.automata.specs.Records.{write_records}
+use Rattle.automata.specs.Automaton.{none, accept_of}
 use Rattle.automata.specs.Successors.{state_after}
 use Rattle.sheets.specs.inner.Runs.{starts_of, RunAt}
 use Rattle.sheets.specs.Sheet.{state_count, read}
@@ -16,14 +10,12 @@ use Rattle.dsu.specs.declared.SetsAnswer.{SetsAnswer}
 use Rattle.dsu.specs.Sets.{new_of}
 use Rattle.pairs.specs.inner.Pairs.{Pairs, one_at, two_at, NoPairs, PairFits, PairJoined}
 use Rattle.pairs.proofs.Laws.{no_pairs, pairs_few, pair_fits}
-use Rattle.equality.specs.declared.walk.Comparison.{Comparison}
-use Rattle.equality.specs.declared.walk.Comparison.TheVariants.{Alike, Differ}
 use Rattle.equality.specs.declared.Verdict.TheVariants.{Same, Different}
 use Rattle.determinizations.specs.Two.{total_size}
 use Rattle.equality.specs.inner.Walking.{trail_of, WalkedPairs, SuccessorsJoined, Chained, Spelled}
 use Rattle.equality.specs.Verdict.{Decided}
 use Rattle.determinizations.specs.inner.Sheets.{two_of}
-use Rattle.equality.specs.inner.Code.{ComparableRecords, SuccessorsCompared, WalkInput, StartsAgree}
+use Rattle.equality.specs.inner.Code.{SuccessorsCompared, WalkInput, StartsAgree}
 use Rattle.equality.proofs.WalkedPairs.{begun, ended, short}
 use Rattle.equality.proofs.Spelling.{chained, differs}
 use Rattle.equality.proofs.RunLaws.{total}
@@ -78,47 +70,32 @@ module _ (a b starts-a starts-b : List ℕ) (lower upper : ℕ) (o : List ℕ) (
   }
 
 module _ (a b starts-a starts-b : List ℕ) (lower upper n1 head : ℕ) (w : Pairs) (l o : List ℕ) (g : WalkInvariant a b starts-a starts-b lower upper n1 head w l o) where
-  pub walk_few : w.made ≤ 512
-  walk_few = pairs_few (state_count a) w g.walked.valid
-
   pub walk_run_a : head < w.made → RunAt a starts-a (one_at w head)
   walk_run_a h = run_at a g.start.input.sheets.first starts-a (one_at w head) g.start.index_a (g.walked.in_one head h)
 
   pub walk_run_b : head < w.made → RunAt b starts-b (two_at w head)
   walk_run_b h = run_at b g.start.input.sheets.second starts-b (two_at w head) g.start.index_b (g.walked.in_two head h)
 
-  pub walk_runs : head < w.made → (ra rb : List ℕ) → ra ≡ write_records (leaving (read a) (one_at w head))
-      → rb ≡ write_records (leaving (read b) (two_at w head)) → ComparableRecords a b lower upper ra rb n1 head w l
-  walk_runs h ra rb ea eb = record { sheets = g.start.input.sheets; is_n1 = g.is_n1; run_a = ea; run_b = eb; walked = g.walked; i_in = h; closed = g.closed }
-
   -- all pairs are compared
   pub walk_same : w.made ≤ head → (o₀ : List ℕ) → o ≡ o₀ → Decided (two_of a b lower upper) o₀ o (Same w.made)
   unfolding Decided
   walk_same h o₀ kept = (ended (two_of a b lower upper) (total a b lower upper g.start.input.sheets) w l g.walked (subst (SuccessorsJoined (two_of a b lower upper) w) (omega (arith, g.so_far)) g.closed), kept)
 
-  -- a pair compared
-  module _ (r : Pairs) (l' : List ℕ) (c : Comparison) (compared : SuccessorsCompared (two_of a b lower upper) head r l' c) where
-    pub walk_next : c ≡ Alike → WalkInvariant a b starts-a starts-b lower upper n1 (head + 1) r l' o
-    walk_next e =
-        let v : SuccessorsCompared (two_of a b lower upper) head r l' Alike = subst (SuccessorsCompared (two_of a b lower upper) head r l') e compared in
-        record { start = g.start; is_n1 = g.is_n1; walked = v.0; so_far = omega (arith, v.1); closed = v.2 }
+  -- a pair compared, with a difference under x
+  module _ (r : Pairs) (l' : List ℕ) (c : Option ℕ) (compared : SuccessorsCompared (two_of a b lower upper) head r l' c) (x : ℕ) (e : c ≡ Some x) where
+    v : SuccessorsCompared (two_of a b lower upper) head r l' (Some x)
+    v = subst (SuccessorsCompared (two_of a b lower upper) head r l') e compared
 
-    module _ (x : ℕ) (e : c ≡ Differ x) where
-      v : SuccessorsCompared (two_of a b lower upper) head r l' (Differ x)
-      v = subst (SuccessorsCompared (two_of a b lower upper) head r l') e compared
+    near : (trail_of l').depth head + 1 + 2 ≤ total_size (two_of a b lower upper)
+    near = short (two_of a b lower upper) (total a b lower upper g.start.input.sheets) r l' v.0 head x v.1 (v.2, v.3) v.4
 
-      near : (trail_of l').depth head + 1 + 2 ≤ total_size (two_of a b lower upper)
-      near = short (two_of a b lower upper) (total a b lower upper g.start.input.sheets) r l' v.0 head x v.1 (v.2, v.3) v.4
+    pub walk_spell : Chained (trail_of l') head × (head < 512) × ((trail_of l').depth head < length o)
+    walk_spell = (
+      chained v.0 v.1,
+      omega (arith, pairs_few (state_count a) r v.0.valid, v.1),
+      omega (arith, near, v.0.is_n, v.0.valid.few, g.start.input.room),
+    )
 
-      pub walk_spell : Chained (trail_of l') head × (head < 512) × ((trail_of l').depth head < length o)
-      walk_spell = (
-        chained v.0 v.1,
-        omega (arith, pairs_few (state_count a) r v.0.valid, v.1),
-        omega (arith, near, v.0.is_n, v.0.valid.few, g.start.input.room),
-      )
-
-      pub walk_differs : (n : ℕ) (o' : List ℕ) → Spelled (trail_of l') head x n o o' → (o₀ : List ℕ) → o ≡ o₀ → Decided (two_of a b lower upper) o₀ o' (Different n)
-      unfolding Decided
-      walk_differs n o' p o₀ kept = (differs (two_of a b lower upper) (total a b lower upper g.start.input.sheets) r l' v.0 head x v.1 (v.2, v.3) v.4 n o o' p, p.within, p.behind ∙ ap (drop n) kept)
-
-pub ruleset walk_laws = (walk_few, walk_run_a, walk_run_b, walk_runs, walk_same, walk_next, walk_spell, walk_differs, rules)
+    pub walk_differs : (n : ℕ) (o' : List ℕ) → Spelled (trail_of l') head x n o o' → (o₀ : List ℕ) → o ≡ o₀ → Decided (two_of a b lower upper) o₀ o' (Different n)
+    unfolding Decided
+    walk_differs n o' p o₀ kept = (differs (two_of a b lower upper) (total a b lower upper g.start.input.sheets) r l' v.0 head x v.1 (v.2, v.3) v.4 n o o' p, p.within, p.behind ∙ ap (drop n) kept)

@@ -8,9 +8,7 @@ ghost use Rattle.automata.specs.WellFormed.{last_symbol};
 ghost use Rattle.determinizations.specs.Determinizations.{determinized};
 ghost use Rattle.equality.specs.Equality.{equality_answer, Judged, word_size};
 
-use determinizations::Both;
 use refusal::{Refusal, StateRefusal};
-use sheets::Checked;
 
 mod walk;
 
@@ -23,6 +21,7 @@ pub enum Verdict {
 }
 
 // The walk over the determinizations of two accepted sheets over the symbols from lower to upper.
+#[tactic(auto, using(crate::proofs::Comparing::determinized_laws))]
 fn compare(a: &[u32], b: &[u32], lower: u32, upper: u32, word: &mut [u32]) -> Verdict
     requires { Accepted a.now × Accepted b.now × (word_size ≤ length word.old) }
     ensures { Judged (determinized lower upper (read a.now) (read b.now)) word.old word.new result }
@@ -30,8 +29,8 @@ fn compare(a: &[u32], b: &[u32], lower: u32, upper: u32, word: &mut [u32]) -> Ve
     let mut out_a = [0u32; 10500];
     let mut out_b = [0u32; 10500];
     match determinizations::determinize_both(a, b, lower, upper, &mut out_a, &mut out_b) {
-        Both::Lengths(m, n) => walk::walk(&out_a[..m], &out_b[..n], lower, upper, word),
-        Both::Refused(r) => Verdict::Refused(Refusal::State(r)),
+        Ok((m, n)) => walk::walk(&out_a[..m], &out_b[..n], lower, upper, word),
+        Err(r) => Verdict::Refused(Refusal::State(r)),
     }
 }
 
@@ -44,12 +43,12 @@ pub fn equality(a: &[u32], b: &[u32], word: &mut [u32]) -> Verdict
         return Verdict::Refused(Refusal::State(StateRefusal::OutputLength));
     }
     match sheets::check(a) {
-        Checked::Accepted => {}
-        Checked::Refused(r) => return Verdict::Refused(Refusal::Input(r)),
+        Ok(()) => {}
+        Err(r) => return Verdict::Refused(Refusal::Input(r)),
     }
     match sheets::check(b) {
-        Checked::Accepted => {}
-        Checked::Refused(r) => return Verdict::Refused(Refusal::Input(r)),
+        Ok(()) => {}
+        Err(r) => return Verdict::Refused(Refusal::Input(r)),
     }
     compare(a, b, 0, 4294967295, word)
 }

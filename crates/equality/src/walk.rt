@@ -15,25 +15,11 @@ use crate::Verdict;
 use dsu::DSU;
 use ranges::Ends;
 
-// The first symbol that two records share, if there is one.
-#[derive(Drop)]
-pub enum FirstCommon {
-    Symbol(u32),
-    Nothing,
-}
-
-// What comparing the two runs of a pair gives: no difference, or a symbol that leads to one.
-#[derive(Drop)]
-pub enum Comparison {
-    Alike,
-    Differ(u32),
-}
-
-// How many pairs there are after two runs were compared, and what this gave.
+// How many pairs there are after two runs were compared, and the symbol that leads to a difference, if there is one.
 #[derive(Drop)]
 pub struct Compared {
     pub made: usize,
-    pub comparison: Comparison,
+    pub difference: Option<u32>,
 }
 
 // How many states both automata have, and the first; how many pairs stand in the queue, and how many of them are compared.
@@ -45,20 +31,14 @@ pub struct WalkCounts {
     pub compared: usize,
 }
 
-// The first symbol from lower to upper that the records d and e share.
-fn first_common(d: &[u32], e: &[u32], lower: u32, upper: u32) -> FirstCommon
+// The first symbol from lower to upper that the records d and e share, or None.
+fn first_common(d: &[u32], e: &[u32], lower: u32, upper: u32) -> Option<u32>
     requires { (length d.now ≡ 5) × (length e.now ≡ 5) }
     ensures { FirstOf (record_at d.now 0) (record_at e.now 0) lower upper result }
 {
-    match ranges::intersect_ranges(d[2], d[3], e[2], e[3]) {
-        ranges::Common::Nothing => FirstCommon::Nothing,
-        ranges::Common::Range(first, last) => {
-            match ranges::intersect_ranges(first, last, lower, upper) {
-                ranges::Common::Nothing => FirstCommon::Nothing,
-                ranges::Common::Range(x, _) => FirstCommon::Symbol(x),
-            }
-        }
-    }
+    let (first, last) = ranges::intersect_ranges(d[2], d[3], e[2], e[3])?;
+    let (x, _) = ranges::intersect_ranges(first, last, lower, upper)?;
+    Some(x)
 }
 
 // The pair behind `made` others, where there are `more` than these: it was met from pair i by x.
@@ -108,41 +88,38 @@ fn compare_runs(
     counts: WalkCounts,
 ) -> Compared
     requires { ComparableRecords a.now b.now ends.lower ends.upper ra.now rb.now counts.n1 counts.compared (pairs_of repr.old size.old queue.old counts.n counts.made) trail.old }
-    ensures { SuccessorsCompared (two_of a.now b.now ends.lower ends.upper) counts.compared (pairs_of repr.new size.new queue.new counts.n result.made) trail.new result.comparison }
+    ensures { SuccessorsCompared (two_of a.now b.now ends.lower ends.upper) counts.compared (pairs_of repr.new size.new queue.new counts.n result.made) trail.new result.difference }
 {
     let ca = ra.len() / 5;
     let cb = rb.len() / 5;
     let mut made = counts.made;
     let mut j: usize = 0;
     let mut k: usize = 0;
-    let comparison = 'runs: loop {
+    let difference = 'runs: loop {
         if ca <= j {
-            break 'runs Comparison::Alike;
+            break 'runs None;
         }
         let at_a = 5 * j;
         let last = ra[at_a + 3];
         loop {
             if cb <= k {
-                break 'runs Comparison::Alike;
+                break 'runs None;
             }
             let at_b = 5 * k;
-            match first_common(
+            if let Some(x) = first_common(
                 &ra[at_a..at_a + 5],
                 &rb[at_b..at_b + 5],
                 ends.lower,
                 ends.upper,
             ) {
-                FirstCommon::Nothing => {}
-                FirstCommon::Symbol(x) => {
-                    let p = ra[at_a + 4];
-                    let q = rb[at_b + 4];
-                    if sheets::accept_word(a, p) != sheets::accept_word(b, q) {
-                        break 'runs Comparison::Differ(x);
-                    }
-                    let more = pairs::join_pair(repr, size, queue, counts.n, made, counts.n1, p, q);
-                    put_step(trail, made, more, counts.compared, x);
-                    made = more;
+                let p = ra[at_a + 4];
+                let q = rb[at_b + 4];
+                if sheets::accept_word(a, p) != sheets::accept_word(b, q) {
+                    break 'runs Some(x);
                 }
+                let more = pairs::join_pair(repr, size, queue, counts.n, made, counts.n1, p, q);
+                put_step(trail, made, more, counts.compared, x);
+                made = more;
             }
             if last < rb[at_b + 3] {
                 break;
@@ -151,7 +128,7 @@ fn compare_runs(
         }
         j += 1;
     };
-    Compared { made, comparison }
+    Compared { made, difference }
 }
 
 // The starts, which agree in acceptance, are joined, and the runs of each pair in the queue are compared. starts_a and starts_b say where
@@ -193,15 +170,10 @@ fn walk_pairs(
             a, b, ra, rb, ends, &mut repr, &mut size, &mut queue, &mut trail, counts,
         );
         made = t.made;
-        let comparison = t.comparison;
-        match comparison {
-            Comparison::Differ(x) => {
-                return Verdict::Different(spell(&trail, head, x, word));
-            }
-            Comparison::Alike => {
-                head += 1;
-            }
+        if let Some(x) = t.difference {
+            return Verdict::Different(spell(&trail, head, x, word));
         }
+        head += 1;
     }
     Verdict::Same(made)
 }

@@ -1,15 +1,7 @@
 -- Two runs compared in one pass: the laws of the loop, in the words of the code. Assumes nothing.
-use Prim.Native.Nat.{ℕ, ◌+◌, ◌-◌, ◌≤◌, ◌<◌}
-use mathlib.Core.Bool.{Bool, true, false, not}
+use Rattle.std.specs.Bool.{then_some}
+use Rattle.std.proofs.Common.{ℕ, ◌+◌, ◌-◌, ◌≤◌, ◌<◌, Bool, true, false, List, [], ◌∷◌, ⊎_elim, ◌≡◌, refl, sym, ap, subst, ◌∙◌, arith, ltb-true, ltb-false, ltb, length, get_or, take, drop}
 use mathlib.Core.List.Memᴰ
-use mathlib.Core.List.{List, [], ◌∷◌}
-use mathlib.Core.Logic.{⊎_elim}
-use mathlib.Core.Path.{◌≡◌, refl, sym, ap, subst, ◌∙◌}
-use native.Mathlib.Omega.{arith}
-use borrow.Author.Rules.{rules}
-use borrow.Author.Tests.{ltb-true, ltb-false, not-true, not-false}
-use lib.Dec.{ltb}
-use lib.ListN.{length, get_or, take, drop}
 use Rattle.lists.specs.Lists.{◌∈◌}
 use Rattle.lists.proofs.Tests.{test}
 use Rattle.automata.specs.Automaton.{Transition}
@@ -20,7 +12,7 @@ use Rattle.pairs.specs.inner.Pairs.{Pairs, ValidPairs, PairsKept, PairFits, Pair
 use Rattle.pairs.proofs.Laws.{pair_fits, kept_self, kept_chain}
 use Rattle.equivalence.specs.Triggers.{SameTrigger, TriggersWithin, same_trigger}
 use Rattle.equivalence.specs.inner.Rows.{leaders_behind, leaders, RowEnd}
-use Rattle.equivalence.specs.inner.Walking.{Runs, ComparableRuns, NewPairsFrom, RunsAlike, RunsCompared}
+use Rattle.equivalence.specs.inner.Walking.{Runs, ComparableRuns, NewPairsFrom, RunsAlike, RunsCompared, RunsAnswered}
 use Rattle.equivalence.proofs.Triggers.{trigger_test, trigger_apart, trigger_chain}
 use Rattle.equivalence.proofs.Reading.{test_parts}
 use Rattle.equivalence.proofs.Rows.{leaders_rest, leaders_out, leaders_led}
@@ -44,6 +36,11 @@ within_leaders {ds} {es} w d m = let (e, n, s) = w d (leaders_out ds d m) in let
 
 leaders_within : {ds es : List Transition} → TriggersWithin (leaders ds) (leaders es) → TriggersWithin ds es
 leaders_within {ds} {es} w d m = let (l, n, s) = leaders_led ds d m in let (e, k, t) = w l n in (e, leaders_out es e k, trigger_chain s t)
+
+-- the answer where a test says whether the triggers are equal
+pub runs_answer : (n1 : ℕ) (ds es : List Transition) (v : Pairs) (r : ℕ → Pairs) (made : ℕ) (b : Bool) → RunsCompared n1 ds es v (r made) b → RunsAnswered n1 ds es v r (then_some b made)
+runs_answer n1 ds es v r made true c = c
+runs_answer n1 ds es v r made false c = (made, c)
 
 -- the rows before j and k have equal triggers, whose targets are joined
 pub record RunsInvariant (n1 : ℕ) (ra rb : List ℕ) (v w : Pairs) (j k : ℕ) : Type 0 where
@@ -116,14 +113,14 @@ module _ (n1 : ℕ) (ra rb : List ℕ) (v w : Pairs) (j k : ℕ) (c : RunsInvari
 
     module _ (b : Bool) (is_b : b ≡ same_trigger (record_at (take (j + 5 - j) (drop j ra)) 0) (record_at (take (k + 5 - k) (drop k rb)) 0)) where
       -- the next triggers differ
-      pub runs_apart : not b ≡ true → RunsCompared n1 (read_records ra) (read_records rb) v w false
+      pub runs_apart : b ≡ false → RunsCompared n1 (read_records ra) (read_records rb) v w false
       runs_apart f =
-          answered false (λ there back. zipped_heads c.runs.first c.runs.second zipped (trigger_apart d e (sym (test_parts ra rb j k b is_b) ∙ not-true b f)) (within_leaders there) (within_leaders back))
+          answered false (λ there back. zipped_heads c.runs.first c.runs.second zipped (trigger_apart d e (sym (test_parts ra rb j k b is_b) ∙ f)) (within_leaders there) (within_leaders back))
 
       -- they are equal, and their targets are joined
-      module _ (f : not b ≡ false) (r : Pairs) (o : PairJoined n1 (get_or ra (j + 4) 0) (get_or rb (k + 4) 0) w r) where
+      module _ (f : b ≡ true) (r : Pairs) (o : PairJoined n1 (get_or ra (j + 4) 0) (get_or rb (k + 4) 0) w r) where
         same : SameTrigger d e
-        same = trigger_test d e (sym (test_parts ra rb j k b is_b) ∙ not-false b f)
+        same = trigger_test d e (sym (test_parts ra rb j k b is_b) ∙ f)
 
         came : NewPairsFrom (read_records ra) (read_records rb) v r
         came i m n =
@@ -150,5 +147,3 @@ module _ (n1 : ℕ) (ra rb : List ℕ) (v w : Pairs) (j k : ℕ) (c : RunsInvari
               j_in = ex.inside;
               k_in = ey.inside;
             }
-
-pub ruleset run_laws = (runs_begin, runs_short, runs_done, runs_fit, runs_apart, runs_next, rules)

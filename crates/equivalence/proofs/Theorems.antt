@@ -12,13 +12,12 @@ use mathlib.Core.Path.{◌≡◌, refl, sym, ap, ◌∙◌}
 use native.Mathlib.Omega.{arith}
 use borrow.Author.Tests.{ne_eqb, eqb-true, eqb-false}
 use lib.Dec.{eqb}
+use Rattle.std.specs.Prelude.{Result, Ok, Err}
 use Rattle.automata.specs.Automaton.{Automaton, Accepts, EpsilonFree}
 use Rattle.automata.specs.WellFormed.{WellFormed}
 use Rattle.refusal.specs.Answer.{refused, given}
 use Rattle.refusal.specs.Decision.{decision_of}
 use Rattle.refusal.specs.Number.{input_number}
-use Rattle.refusal.specs.declared.Decision.{Decision}
-use Rattle.refusal.specs.declared.Decision.TheVariants.{Is, Refused}
 use Rattle.refusal.specs.declared.InputRefusal.{InputRefusal}
 use Rattle.sheets.specs.Checked.{sheet_first}
 use Rattle.sheets.specs.Fault.{fault}
@@ -84,8 +83,8 @@ equivalent_refused a b n = (
     by_first false t e = inl (cc, eqb-false _ _ t)
 
 -- the contract of the call: r is its answer for the sheets a and b
-module _ (a b : List ℕ) (r : Decision) (call : decision_of r ≡ equivalent_answer a b) where
-  answer_is : (x : Bool) → (r ≡ Is x) ↔ ((fault a ≡ 0) × (fault b ≡ 0) × (equivalent (read a) (read b) ≡ x))
+module _ (a b : List ℕ) (r : Result Bool InputRefusal) (call : decision_of r ≡ equivalent_answer a b) where
+  answer_is : (x : Bool) → (r ≡ Ok x) ↔ ((fault a ≡ 0) × (fault b ≡ 0) × (equivalent (read a) (read b) ≡ x))
   unfolding equivalent_answer
   answer_is x =
       let k = call_is r (equivalent_answer a b) call x in
@@ -96,13 +95,13 @@ module _ (a b : List ℕ) (r : Decision) (call : decision_of r ≡ equivalent_an
       )
 
   -- true exactly when the sheets have no fault and no pair of states that equal triggers reach differs in acceptance or in its triggers
-  pub equivalent_call : (r ≡ Is true) ↔ ((fault a ≡ 0) × (fault b ≡ 0) × ((p q : ℕ) → ReachedByTriggers (read a) (read b) p q → Alike (read a) (read b) p q))
+  pub equivalent_call : (r ≡ Ok true) ↔ ((fault a ≡ 0) × (fault b ≡ 0) × ((p q : ℕ) → ReachedByTriggers (read a) (read b) p q → Alike (read a) (read b) p q))
   equivalent_call =
       let k = call_is r (equivalent_answer a b) call true in
       (λ e. let (f, g, h) = (answer_is true).0 e in (f, g, (sheets_exact a b f g).0 (k.0 e)), λ (f, g, h). k.1 ((sheets_exact a b f g).1 h))
 
   -- false exactly when they have no fault and one does
-  pub different_call : (r ≡ Is false) ↔ ((fault a ≡ 0) × (fault b ≡ 0) × ((p q : ℕ) × ReachedByTriggers (read a) (read b) p q × (Alike (read a) (read b) p q → ⊥)))
+  pub different_call : (r ≡ Ok false) ↔ ((fault a ≡ 0) × (fault b ≡ 0) × ((p q : ℕ) × ReachedByTriggers (read a) (read b) p q × (Alike (read a) (read b) p q → ⊥)))
   different_call =
       let is = answer_is false in
       (λ e. let (f, g, h) = is.0 e in (f, g, (one f g).0 h), λ (f, g, h). is.1 (f, g, (one f g).1 h))
@@ -111,11 +110,11 @@ module _ (a b : List ℕ) (r : Decision) (call : decision_of r ≡ equivalent_an
       one f g = different_exact (read a) (read b) (read_well a (accepted a f)) (read_well b (accepted b g))
 
   -- without epsilons or overlaps, true implies equal words
-  pub words_call : EpsilonFree (read a) → EpsilonFree (read b) → OverlapFree (read a) → OverlapFree (read b) → r ≡ Is true → (w : List ℕ) → Accepts (read a) w ↔ Accepts (read b) w
+  pub words_call : EpsilonFree (read a) → EpsilonFree (read b) → OverlapFree (read a) → OverlapFree (read b) → r ≡ Ok true → (w : List ℕ) → Accepts (read a) w ↔ Accepts (read b) w
   words_call e f o p t = let (g, h, i) = (answer_is true).0 t in sheets_words a b g h e f o p ((call_is r (equivalent_answer a b) call true).0 t)
 
   -- a refusal exactly when it is the first sheet's fault or, where that has none, the second's
-  pub refused_call : (i : InputRefusal) → (r ≡ Refused i) ↔ ((fault a ≡ input_number i) ⊎ ((fault a ≡ 0) × (fault b ≡ input_number i)))
+  pub refused_call : (i : InputRefusal) → (r ≡ Err i) ↔ ((fault a ≡ input_number i) ⊎ ((fault a ≡ 0) × (fault b ≡ input_number i)))
   unfolding equivalent_answer
   refused_call i =
       let k = call_refused r (equivalent_answer a b) call i in

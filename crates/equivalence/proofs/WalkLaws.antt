@@ -1,16 +1,6 @@
 -- The queue of pairs: from the starts to the answer. Assumes nothing.
-use Prim.Native.Nat.{ℕ, ◌+◌, ◌≤◌, ◌<◌}
-use mathlib.Core.Bool.{Bool, true, false, not}
-use mathlib.Core.List.{List}
-use mathlib.Core.Path.{◌≡◌, refl, sym, ap, subst, ◌∙◌}
-use native.Mathlib.Omega.{arith}
-use borrow.Author.Count.{below_more}
-use borrow.Author.Rules.{rules}
-use borrow.Author.Tests.{ltb-true, ltb-false, not-true, not-false}
-use lib.Dec.{ltb}
-use lib.ListN.{length, get_or}
+use Rattle.std.proofs.Common.{ℕ, ◌+◌, ◌≤◌, ◌<◌, Bool, true, false, List, ◌≡◌, refl, sym, ap, subst, ◌∙◌, arith, below_more, ltb-true, ltb-false, ltb, length, get_or, ⊎_elim}
 use lib.Seq.{sets}
-use mathlib.Core.Logic.{⊎_elim}
 use Rattle.lists.proofs.Members.{ascending_filter}
 use Rattle.lists.proofs.Tests.{test}
 use Rattle.automata.specs.Automaton.{Transition, Automaton, leaving}
@@ -26,7 +16,7 @@ use Rattle.automata.proofs.Leaving.{leaves}
 use Rattle.dsu.specs.declared.SetsAnswer.{SetsAnswer}
 use Rattle.dsu.specs.Sets.{new_of}
 use Rattle.pairs.specs.inner.Pairs.{Pairs, classes, one_at, two_at, ValidPairs, NoPairs, PairFits, PairJoined}
-use Rattle.pairs.proofs.Laws.{no_pairs, pairs_few, pair_fits}
+use Rattle.pairs.proofs.Laws.{no_pairs, pair_fits}
 use Rattle.equivalence.specs.Equivalent.{ReachedByTriggers, start, step, Alike, equivalent}
 use Rattle.equivalence.specs.inner.Walking.{Runs, ComparableRuns, RunsAlike, RunsCompared, IndexedSheets}
 use Rattle.equivalence.specs.Triggers.{SameTrigger, FirstOfTrigger}
@@ -102,9 +92,6 @@ module _ (a b starts-a starts-b : List ℕ) (n1 head : ℕ) (w : Pairs) (g : Wal
   inside : (i : ℕ) → i < w.made → (one_at w i < state_count a) × (two_at w i < state_count b)
   inside i h = reached_in (read a) (read b) well_a.states well_b.states (g.reached i h)
 
-  pub walk_made : w.made ≤ 512
-  walk_made = pairs_few n1 w g.valid
-
   -- all pairs are compared
   pub walk_ended : w.made ≤ head → true ≡ equivalent (read a) (read b)
   walk_ended h =
@@ -161,66 +148,64 @@ module _ (a b starts-a starts-b : List ℕ) (n1 head : ℕ) (w : Pairs) (g : Wal
       pub walk_runs : ComparableRuns n1 (read_records ra) (read_records rb) w
       walk_runs = record { valid = g.valid; runs = subst (λ (l : List Transition). Runs n1 w.sets.n l (read_records rb)) (sym read_a) (subst (Runs n1 w.sets.n ds) (sym read_b) runs) }
 
-      module _ (r : Pairs) (alike : Bool) (compared : RunsCompared n1 (read_records ra) (read_records rb) w r alike) where
-        t : RunsCompared n1 ds es w r alike
-        t = subst (λ (l : List Transition). RunsCompared n1 ds l w r alike) read_b (subst (λ (l : List Transition). RunsCompared n1 l (read_records rb) w r alike) read_a compared)
+      of_states : (r : Pairs) (alike : Bool) → RunsCompared n1 (read_records ra) (read_records rb) w r alike → RunsCompared n1 ds es w r alike
+      of_states r alike c = subst (λ (l : List Transition). RunsCompared n1 ds l w r alike) read_b (subst (λ (l : List Transition). RunsCompared n1 l (read_records rb) w r alike) read_a c)
 
-        -- a trigger is missing
-        pub walk_lacks : not alike ≡ true → false ≡ equivalent (read a) (read b)
-        walk_lacks e =
-            let s : RunsAlike n1 ds es r false = subst (RunsAlike n1 ds es r) (not-true alike e) t.answer in
-            differs (λ z. s z.there z.back)
+      -- a trigger is missing
+      pub walk_lacks : (r : Pairs) → RunsCompared n1 (read_records ra) (read_records rb) w r false → false ≡ equivalent (read a) (read b)
+      walk_lacks r c = let s = (of_states r false c).answer in differs (λ z. s z.there z.back)
 
-        -- the two are alike
-        module _ (e : not alike ≡ false) where
-          equal : RunsAlike n1 ds es r true
-          equal = subst (RunsAlike n1 ds es r) (not-false alike e) t.answer
+      -- the two are alike
+      module _ (r : Pairs) (compared : RunsCompared n1 (read_records ra) (read_records rb) w r true) where
+        t : RunsCompared n1 ds es w r true
+        t = of_states r true compared
 
-          same_one : (i : ℕ) → i < w.made → one_at r i ≡ one_at w i
-          same_one = t.kept.one
+        equal : RunsAlike n1 ds es r true
+        equal = t.answer
 
-          same_two : (i : ℕ) → i < w.made → two_at r i ≡ two_at w i
-          same_two = t.kept.two
+        same_one : (i : ℕ) → i < w.made → one_at r i ≡ one_at w i
+        same_one = t.kept.one
 
-          -- the first records of equal triggers of this pair
-          here : FirstTargetsJoined a b r (one_at w head) (two_at w head)
-          here d e p q s =
-              let (k, m, u) = leaders_led ds d p.one in
-              let (l, n, v) = leaders_led es e q.one in
-              let x : d.to ≡ k.to = first_target_lem p (leaders_first (one_at w head) ds sorted_a k m) u in
-              let y : e.to ≡ l.to = first_target_lem q (leaders_first (two_at w head) es sorted_b l n) v in
-              ap (classes r) x ∙ equal.2 k l m n (trigger_chain (trigger_turn u) (trigger_chain s v)) ∙ ap (classes r) (omega (arith, g.is_n1))
+        same_two : (i : ℕ) → i < w.made → two_at r i ≡ two_at w i
+        same_two = t.kept.two
 
-          -- and of those before
-          before : (i : ℕ) → i < head → FirstTargetsJoined a b r (one_at w i) (two_at w i)
-          before i l d e p q s =
-              t.kept.joins d.to (state_count a + e.to)
-              (omega (arith, g.is_n, well_a.states.tos d (leaves (read a) (one_at w i) d p.one).0))
-              (omega (arith, g.is_n, well_b.states.tos e (leaves (read b) (two_at w i) e q.one).0)) (g.follows i l d e p q s)
+        -- the first records of equal triggers of this pair
+        here : FirstTargetsJoined a b r (one_at w head) (two_at w head)
+        here d e p q s =
+            let (k, m, u) = leaders_led ds d p.one in
+            let (l, n, v) = leaders_led es e q.one in
+            let x : d.to ≡ k.to = first_target_lem p (leaders_first (one_at w head) ds sorted_a k m) u in
+            let y : e.to ≡ l.to = first_target_lem q (leaders_first (two_at w head) es sorted_b l n) v in
+            ap (classes r) x ∙ equal.2 k l m n (trigger_chain (trigger_turn u) (trigger_chain s v)) ∙ ap (classes r) (omega (arith, g.is_n1))
 
-          came : (i : ℕ) → i < r.made → ReachedByTriggers (read a) (read b) (one_at r i) (two_at r i)
-          came i l =
-              ⊎_elim (λ (u : ltb i w.made ≡ true). let m = ltb-true i w.made u in rw (same_one i m, same_two i m) (g.reached i m))
-              (λ (u : ltb i w.made ≡ false).
-              let o = t.new_from i (ltb-false i w.made u) l in
-              rw (o.to_left, o.to_right) (step (g.reached head h) (leaders_first (one_at w head) ds sorted_a o.left o.in_left) (leaders_first (two_at w head) es sorted_b o.right o.in_right) o.same))
-              (test (ltb i w.made))
+        -- and of those before
+        before : (i : ℕ) → i < head → FirstTargetsJoined a b r (one_at w i) (two_at w i)
+        before i l d e p q s =
+            t.kept.joins d.to (state_count a + e.to)
+            (omega (arith, g.is_n, well_a.states.tos d (leaves (read a) (one_at w i) d p.one).0))
+            (omega (arith, g.is_n, well_b.states.tos e (leaves (read b) (two_at w i) e q.one).0)) (g.follows i l d e p q s)
 
-          pub walk_next : (x y : ℕ) → x ≡ get_or (read a).accept (one_at w head) 0 → y ≡ get_or (read b).accept (two_at w head) 0 → x ≡ y → WalkInvariant a b starts-a starts-b n1 (head + 1) r
-          walk_next x y is_x is_y agree = record {
-            sheets = g.sheets;
-            is_n1 = g.is_n1;
-            valid = t.valid;
-            is_n = t.kept.same_n ∙ g.is_n;
-            started = t.kept.joins (get_or a 1 0) (state_count a + get_or b 1 0) (omega (arith, g.is_n, g.sheets.first.start)) (omega (arith, g.is_n, g.sheets.second.start)) g.started;
-            reached = came;
-            so_far = omega (arith, t.kept.more);
-            alike = below_more (λ (i : ℕ). Alike (read a) (read b) (one_at r i) (two_at r i)) head
-                (λ i l. rw (same_one i (omega arith), same_two i (omega arith)) (g.alike i l))
-                (rw (same_one head h, same_two head h) (record { accept = sym is_x ∙ agree ∙ is_y; there = equal.0; back = equal.1 }));
-            follows = below_more (λ (i : ℕ). FirstTargetsJoined a b r (one_at r i) (two_at r i)) head
-                (λ i l. rw (same_one i (omega arith), same_two i (omega arith)) (before i l))
-                (rw (same_one head h, same_two head h) here);
-          }
+        came : (i : ℕ) → i < r.made → ReachedByTriggers (read a) (read b) (one_at r i) (two_at r i)
+        came i l =
+            ⊎_elim (λ (u : ltb i w.made ≡ true). let m = ltb-true i w.made u in rw (same_one i m, same_two i m) (g.reached i m))
+            (λ (u : ltb i w.made ≡ false).
+            let o = t.new_from i (ltb-false i w.made u) l in
+            rw (o.to_left, o.to_right) (step (g.reached head h) (leaders_first (one_at w head) ds sorted_a o.left o.in_left) (leaders_first (two_at w head) es sorted_b o.right o.in_right) o.same))
+            (test (ltb i w.made))
 
-pub ruleset walk_laws = (walk_made, walk_ended, walk_in_a, walk_in_b, walk_run_a, walk_run_b, walk_rejects, rules)
+        pub walk_next : (x y : ℕ) → x ≡ get_or (read a).accept (one_at w head) 0 → y ≡ get_or (read b).accept (two_at w head) 0 → x ≡ y → WalkInvariant a b starts-a starts-b n1 (head + 1) r
+        walk_next x y is_x is_y agree = record {
+          sheets = g.sheets;
+          is_n1 = g.is_n1;
+          valid = t.valid;
+          is_n = t.kept.same_n ∙ g.is_n;
+          started = t.kept.joins (get_or a 1 0) (state_count a + get_or b 1 0) (omega (arith, g.is_n, g.sheets.first.start)) (omega (arith, g.is_n, g.sheets.second.start)) g.started;
+          reached = came;
+          so_far = omega (arith, t.kept.more);
+          alike = below_more (λ (i : ℕ). Alike (read a) (read b) (one_at r i) (two_at r i)) head
+              (λ i l. rw (same_one i (omega arith), same_two i (omega arith)) (g.alike i l))
+              (rw (same_one head h, same_two head h) (record { accept = sym is_x ∙ agree ∙ is_y; there = equal.0; back = equal.1 }));
+          follows = below_more (λ (i : ℕ). FirstTargetsJoined a b r (one_at r i) (two_at r i)) head
+              (λ i l. rw (same_one i (omega arith), same_two i (omega arith)) (before i l))
+              (rw (same_one head h, same_two head h) here);
+        }

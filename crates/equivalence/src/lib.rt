@@ -13,18 +13,10 @@ ghost use Rattle.equivalence.specs.Triggers.{same_trigger};
 ghost use Rattle.equivalence.specs.Equivalent.{equivalent, equivalent_answer};
 ghost use Rattle.equivalence.specs.inner.Rows.{RowEnd};
 ghost use Rattle.pairs.specs.inner.Pairs.{pairs_of};
-ghost use Rattle.equivalence.specs.inner.Walking.{ComparableRuns, RunsCompared, IndexedSheets};
+ghost use Rattle.equivalence.specs.inner.Walking.{ComparableRuns, RunsAnswered, IndexedSheets};
 
 use dsu::DSU;
-use refusal::Decision;
-use sheets::Checked;
-
-// How many pairs there are after two runs were compared, and whether they have the same triggers.
-#[derive(Drop)]
-pub struct Compared {
-    pub made: usize,
-    pub alike: bool,
-}
+use refusal::InputRefusal;
 
 // Whether two records have the same trigger.
 fn same_trigger(d: &[u32], e: &[u32]) -> bool
@@ -56,7 +48,7 @@ fn next_trigger(run: &[u32], at: usize) -> usize
 }
 
 // The records ra and rb of two states, in one pass: the targets of the first records of equal triggers are joined, up to a trigger
-// that one of the states lacks.
+// that one of the states lacks. How many pairs there are then, or None at such a trigger.
 fn compare_runs(
     ra: &[u32],
     rb: &[u32],
@@ -66,27 +58,24 @@ fn compare_runs(
     n: usize,
     mut made: usize,
     n1: usize,
-) -> Compared
+) -> Option<usize>
     requires { ComparableRuns n1 (read_records ra.now) (read_records rb.now) (pairs_of repr.old size.old queue.old n made) }
-    ensures { RunsCompared n1 (read_records ra.now) (read_records rb.now) (pairs_of repr.old size.old queue.old n made) (pairs_of repr.new size.new queue.new n result.made) result.alike }
+    ensures { RunsAnswered n1 (read_records ra.now) (read_records rb.now) (pairs_of repr.old size.old queue.old n made) (pairs_of repr.new size.new queue.new n) result }
 {
     let mut j: usize = 0;
     let mut k: usize = 0;
     while 5 <= ra.len() - j {
         if rb.len() - k < 5 {
-            return Compared { made, alike: false };
+            return None;
         }
         if !same_trigger(&ra[j..j + 5], &rb[k..k + 5]) {
-            return Compared { made, alike: false };
+            return None;
         }
         made = pairs::join_pair(repr, size, queue, n, made, n1, ra[j + 4], rb[k + 4]);
         j = next_trigger(ra, j);
         k = next_trigger(rb, k);
     }
-    Compared {
-        made,
-        alike: rb.len() - k < 5,
-    }
+    (rb.len() - k < 5).then_some(made)
 }
 
 // The starts are joined, and the runs of each pair in the queue are compared. starts_a and starts_b say where the records of each state
@@ -113,11 +102,10 @@ fn walk_pairs(a: &[u32], b: &[u32], starts_a: &[u32], starts_b: &[u32]) -> bool
         }
         let ra = sheets::run(a, starts_a, p);
         let rb = sheets::run(b, starts_b, q);
-        let t = compare_runs(ra, rb, &mut repr, &mut size, &mut queue, n, made, n1);
-        made = t.made;
-        if !t.alike {
+        let Some(more) = compare_runs(ra, rb, &mut repr, &mut size, &mut queue, n, made, n1) else {
             return false;
-        }
+        };
+        made = more;
         head += 1;
     }
     true
@@ -136,16 +124,11 @@ fn walk(a: &[u32], b: &[u32]) -> bool
 }
 
 // Whether no pair of states that equal triggers reach differs in acceptance or in its triggers.
-pub fn is_equivalent(a: &[u32], b: &[u32]) -> Decision
+#[tactic(auto, using(crate::proofs::Answers::answer_laws))]
+pub fn is_equivalent(a: &[u32], b: &[u32]) -> Result<bool, InputRefusal>
     ensures { decision_of result ≡ equivalent_answer a.now b.now }
 {
-    match sheets::check(a) {
-        Checked::Accepted => {}
-        Checked::Refused(r) => return Decision::Refused(r),
-    }
-    match sheets::check(b) {
-        Checked::Accepted => {}
-        Checked::Refused(r) => return Decision::Refused(r),
-    }
-    Decision::Is(walk(a, b))
+    sheets::check(a)?;
+    sheets::check(b)?;
+    Ok(walk(a, b))
 }

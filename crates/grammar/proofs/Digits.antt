@@ -52,8 +52,8 @@ module _ (t : List ℕ) (start at v : ℕ) (g : start ≤ at) (m : v < 2 ^ 32) (
       some : (at ≡ start → ⊥) → 0 < run is_digit (drop start t)
       some y = omega arith
 
-  pub number_ended : length t ≤ at → (x : ReadResult ℕ) → x ≡ cond (eqb at start) nothing (found v at) → x ≡ number t start
-  number_ended h = done (run_end is_digit t at h)
+  pub number_ended : length t ≤ at → (m : ℕ) → m ≡ at → (x : ReadResult ℕ) → x ≡ cond (eqb m start) nothing (found v m) → x ≡ number t start
+  number_ended h m q x r = done (run_end is_digit t at h) x (rw q at r)
 
   pub number_stopped : at < length t → (r : Bool) → r ≡ is_digit (get_or t at 0) → not r ≡ true → (x : ReadResult ℕ) → x ≡ cond (eqb at start) nothing (found v at) → x ≡ number t start
   number_stopped h r f k = done (run_stop is_digit t at h (sym f ∙ not-true r k))

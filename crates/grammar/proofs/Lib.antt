@@ -4,7 +4,6 @@ pub mod Runs
 pub mod Comparing
 pub mod Digits
 pub mod Spelling
-pub mod Following
 pub mod Progress
 pub mod Parts
 pub mod Many

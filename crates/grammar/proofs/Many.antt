@@ -3,18 +3,14 @@ use Prim.Native.Nat.{ℕ, zero, suc, ◌+◌, ◌-◌, ◌≤◌, ◌<◌}
 use mathlib.Core.List.{List, [], ◌∷◌}
 use mathlib.Core.Path.{◌≡◌, refl, sym, ◌∙◌, ap}
 use native.Mathlib.Omega.{arith}
-use borrow.Author.Rules.{rules}
 use lib.ListN.{length}
+use Rattle.std.proofs.Common.{Option, Some, None}
 use Rattle.grammar.specs.Grammar.{ReadResult, nothing, found, space, transition, next_name, Items, one_more, many, transitions, next_names}
 use Rattle.grammar.specs.inner.Pieces.{name_of, arrow_of}
 use Rattle.grammar.specs.inner.Places.{Spelt, Drawn}
 use Rattle.grammar.specs.declared.tokens.Cursor.{Cursor}
 use Rattle.grammar.specs.declared.tokens.TextSpan.{TextSpan}
 use Rattle.grammar.specs.declared.pieces.Arrow.{Arrow}
-use Rattle.grammar.specs.declared.tokens.NamePiece.{NamePiece}
-use Rattle.grammar.specs.declared.tokens.NamePiece.TheVariants.{Read as NameRead, Nothing as NoName}
-use Rattle.grammar.specs.declared.pieces.ArrowPiece.{ArrowPiece}
-use Rattle.grammar.specs.declared.pieces.ArrowPiece.TheVariants.{Read as ArrowRead, Nothing as NoArrow}
 use Rattle.grammar.proofs.Progress.{holds_found, Past, next_holds, spaced_holds}
 
 -- each piece ends behind its start, and at n at the latest
@@ -54,12 +50,12 @@ module _ (t : List ℕ) where
   names_advance at s b h = let g = holds_found _ (next_holds t at) h in (g.1.forward, g.1.inside)
 
   -- the answer p of `spaced_transition` at a place
-  module _ (at : ℕ) (p : ArrowPiece) (told : arrow_of p ≡ transition t (space t at)) where
-    pub arrows_ended : p ≡ NoArrow → transitions t at ≡ record { items = []; behind = at }
+  module _ (at : ℕ) (p : Option (Arrow × Cursor)) (told : arrow_of p ≡ transition t (space t at)) where
+    pub arrows_ended : p ≡ None → transitions t at ≡ record { items = []; behind = at }
     unfolding transitions
     arrows_ended h = many_nothing _ (length t) arrows_advance at (sym told ∙ ap arrow_of h)
 
-    module _ (e : Arrow) (c : Cursor) (h : p ≡ ArrowRead e c) where
+    module _ (e : Arrow) (c : Cursor) (h : p ≡ Some (e, c)) where
       pub arrows_more : transitions t at ≡ record { items = e ∷ (transitions t c.at).items; behind = (transitions t c.at).behind }
       unfolding transitions
       arrows_more = many_found _ (length t) arrows_advance at e c.at (sym told ∙ ap arrow_of h)
@@ -74,19 +70,19 @@ module _ (t : List ℕ) where
       arrows_less = omega (arith, arrows_past.forward, arrows_past.inside)
 
     module _ (n : ℕ) (i : n ≡ (transitions t at).behind) where
-      pub arrows_behind : p ≡ NoArrow → at ≡ n
+      pub arrows_behind : p ≡ None → at ≡ n
       arrows_behind h = sym (i ∙ ap (λ (m : Items Arrow). m.behind) (arrows_ended h))
 
-      pub arrows_next : (e : Arrow) (b : ℕ) → p ≡ ArrowRead e (record { at = b }) → n ≡ (transitions t b).behind
-      arrows_next e b h = i ∙ ap (λ (m : Items Arrow). m.behind) (arrows_more e _ h)
+      pub arrows_next : (e : Arrow) (c : Cursor) → p ≡ Some (e, c) → n ≡ (transitions t c.at).behind
+      arrows_next e c h = i ∙ ap (λ (m : Items Arrow). m.behind) (arrows_more e _ h)
 
   -- the answer p of `next_name` at a place
-  module _ (at : ℕ) (p : NamePiece) (told : name_of p ≡ next_name t at) where
-    pub names_ended : p ≡ NoName → next_names t at ≡ record { items = []; behind = at }
+  module _ (at : ℕ) (p : Option (TextSpan × Cursor)) (told : name_of p ≡ next_name t at) where
+    pub names_ended : p ≡ None → next_names t at ≡ record { items = []; behind = at }
     unfolding next_names
     names_ended h = many_nothing _ (length t) names_advance at (sym told ∙ ap name_of h)
 
-    module _ (s : TextSpan) (c : Cursor) (h : p ≡ NameRead s c) where
+    module _ (s : TextSpan) (c : Cursor) (h : p ≡ Some (s, c)) where
       pub names_more : next_names t at ≡ record { items = s ∷ (next_names t c.at).items; behind = (next_names t c.at).behind }
       unfolding next_names
       names_more = many_found _ (length t) names_advance at s c.at (sym told ∙ ap name_of h)
@@ -101,12 +97,8 @@ module _ (t : List ℕ) where
       names_less = omega (arith, names_past.forward, names_past.inside)
 
     module _ (n : ℕ) (i : n ≡ (next_names t at).behind) where
-      pub names_behind : p ≡ NoName → at ≡ n
+      pub names_behind : p ≡ None → at ≡ n
       names_behind h = sym (i ∙ ap (λ (m : Items TextSpan). m.behind) (names_ended h))
 
-      pub names_next : (s : TextSpan) (b : ℕ) → p ≡ NameRead s (record { at = b }) → n ≡ (next_names t b).behind
-      names_next s b h = i ∙ ap (λ (m : Items TextSpan). m.behind) (names_more s _ h)
-
-pub ruleset arrows_loop = (arrows_behind, arrows_less, rules)
-
-pub ruleset names_loop = (names_behind, names_less, rules)
+      pub names_next : (s : TextSpan) (c : Cursor) → p ≡ Some (s, c) → n ≡ (next_names t c.at).behind
+      names_next s c h = i ∙ ap (λ (m : Items TextSpan). m.behind) (names_more s _ h)

@@ -2,7 +2,7 @@
 use Prim.Native.Nat.{ℕ}
 use mathlib.Core.List.{List, ◌∷◌}
 use mathlib.Core.Path.{◌≡◌, refl, sym, ◌∙◌, ap}
-use borrow.Author.Rules.{rules}
+use Rattle.std.proofs.Common.{Option, Some, None}
 use Rattle.grammar.specs.Grammar.{ReadResult, nothing, found, follow, space, heading, initial, transitions, next_names, accepting, ending, TextParts, whole_text}
 use Rattle.grammar.specs.inner.Parts.{opening, closing, told_from}
 use Rattle.grammar.specs.inner.Pieces.{name_of, accepting_of}
@@ -10,10 +10,6 @@ use Rattle.grammar.specs.inner.Places.{Spelt}
 use Rattle.grammar.specs.Places.{told_at}
 use Rattle.grammar.specs.declared.tokens.Cursor.{Cursor}
 use Rattle.grammar.specs.declared.tokens.TextSpan.{TextSpan}
-use Rattle.grammar.specs.declared.tokens.NamePiece.{NamePiece}
-use Rattle.grammar.specs.declared.tokens.NamePiece.TheVariants.{Read as NameRead, Nothing as NoName}
-use Rattle.grammar.specs.declared.pieces.AcceptingPiece.{AcceptingPiece}
-use Rattle.grammar.specs.declared.pieces.AcceptingPiece.TheVariants.{Read as AcceptingRead, Nothing as NoAccepting}
 use Rattle.grammar.proofs.Progress.{Holds, some, holds_found, holds_follow, always, initial_holds, accepting_holds, FirstSpelt, leads}
 
 -- pieces that follow may be taken together
@@ -50,12 +46,12 @@ module _ (t : List ℕ) where
   closing_holds at = holds_follow _ (accepting_holds t (space t at)) λ names c u. holds_follow (λ _ _. ℕ) (always t (ending t c)) λ _ d v. some u
 
   -- what the opening says of the whole text: p is its answer
-  module _ (p : NamePiece) (told : name_of p ≡ opening t) where
-    pub opens_nothing : p ≡ NoName → whole_text t ≡ nothing
+  module _ (p : Option (TextSpan × Cursor)) (told : name_of p ≡ opening t) where
+    pub opens_nothing : p ≡ None → whole_text t ≡ nothing
     unfolding follow
     opens_nothing e = whole_parts ∙ ap (λ (r : ReadResult TextSpan). follow r (told_from t)) (sym told ∙ ap name_of e)
 
-    module _ (s : TextSpan) (b : Cursor) (e : p ≡ NameRead s b) where
+    module _ (s : TextSpan) (b : Cursor) (e : p ≡ Some (s, b)) where
       pub opens_found : whole_text t ≡ told_from t s b.at
       unfolding follow
       opens_found = whole_parts ∙ ap (λ (r : ReadResult TextSpan). follow r (told_from t)) (sym told ∙ ap name_of e)
@@ -64,16 +60,16 @@ module _ (t : List ℕ) where
       start_spelt = holds_found _ opening_holds (sym told ∙ ap name_of e)
 
   -- and the closing, which is read behind the transitions: q is its answer
-  module _ (s : TextSpan) (b : Cursor) (at : ℕ) (behind : at ≡ (transitions t b.at).behind) (q : AcceptingPiece) (told : accepting_of t q ≡ closing t at) where
+  module _ (s : TextSpan) (b : Cursor) (at : ℕ) (behind : at ≡ (transitions t b.at).behind) (q : Option (TextSpan × Cursor × Cursor)) (told : accepting_of t q ≡ closing t at) where
     closes : (r : ReadResult (List TextSpan)) → accepting_of t q ≡ r → told_from t s b.at ≡ follow r (tells s b.at)
     unfolding told_from tells
     closes r e = ap (λ (k : ℕ). follow (closing t k) (tells s b.at)) (sym behind) ∙ ap (λ (k : ReadResult (List TextSpan)). follow k (tells s b.at)) (sym told ∙ e)
 
-    pub closes_nothing : q ≡ NoAccepting → told_from t s b.at ≡ nothing
+    pub closes_nothing : q ≡ None → told_from t s b.at ≡ nothing
     unfolding follow
     closes_nothing e = closes _ (ap (accepting_of t) e)
 
-    module _ (first : TextSpan) (more c : Cursor) (e : q ≡ AcceptingRead first more c) where
+    module _ (first : TextSpan) (more c : Cursor) (e : q ≡ Some (first, more, c)) where
       pub closes_found : told_from t s b.at ≡ found (told_at t (record { initial = s; arrows = b; first = first; more = more })) c.at
       unfolding follow tells
       closes_found = closes _ (ap (accepting_of t) e)
@@ -83,18 +79,3 @@ module _ (t : List ℕ) where
         where
           lead : FirstSpelt t (first ∷ (next_names t more.at).items) → Spelt t first
           lead (leads k) = k
-
--- the laws of `whole_text`: p is the answer of the opening, q that of the closing
-module _ (t : List ℕ) (p : NamePiece) (told : name_of p ≡ opening t) where
-  pub whole_nothing : p ≡ NoName → nothing ≡ whole_text t
-  whole_nothing e = sym (opens_nothing t p told e)
-
-  module _ (s : TextSpan) (b : Cursor) (e : p ≡ NameRead s b) (at : ℕ) (behind : at ≡ (transitions t b.at).behind) (q : AcceptingPiece) (closed : accepting_of t q ≡ closing t at) where
-    pub whole_open : q ≡ NoAccepting → nothing ≡ whole_text t
-    whole_open f = sym (opens_found t p told s b e ∙ closes_nothing t s b at behind q closed f)
-
-    pub whole_found : (first : TextSpan) (more c : Cursor) → q ≡ AcceptingRead first more c
-        → found (told_at t (record { initial = s; arrows = b; first = first; more = more })) c.at ≡ whole_text t
-    whole_found first more c f = sym (opens_found t p told s b e ∙ closes_found t s b at behind q closed first more c f)
-
-pub ruleset whole_laws = (whole_nothing, whole_open, whole_found, rules)

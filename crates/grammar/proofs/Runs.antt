@@ -39,8 +39,8 @@ run_within f t at h = omega (arith, run_short f (drop at t), length-drop at t)
 
 -- a loop that has passed the bytes up to at, where n is the place behind the last that passes
 module _ (f : ℕ → Bool) (t : List ℕ) (n at : ℕ) (e : n ≡ at + run f (drop at t)) where
-  past_end : length t ≤ at → at ≡ n
-  past_end h = omega (arith, e, run_end f t at h)
+  past_end : length t ≤ at → (m : ℕ) → m ≡ at → m ≡ n
+  past_end h m q = omega (arith, e, run_end f t at h)
 
   past_stop : at < length t → (r : Bool) → r ≡ f (get_or t at 0) → not r ≡ true → at ≡ n
   past_stop h r g k = omega (arith, e, run_stop f t at h (sym g ∙ not-true r k))
@@ -58,7 +58,7 @@ unfolding space
 space_inside t at h = omega (arith, run_short is_space (drop at t), length-drop at t)
 
 module _ (t : List ℕ) (n at : ℕ) (e : n ≡ at + run is_space (drop at t)) where
-  pub space_end : length t ≤ at → at ≡ n
+  pub space_end : length t ≤ at → (m : ℕ) → m ≡ at → m ≡ n
   space_end = past_end is_space t n at e
 
   pub space_stop : at < length t → (r : Bool) → r ≡ is_space (get_or t at 0) → not r ≡ true → at ≡ n
@@ -70,7 +70,7 @@ module _ (t : List ℕ) (n at : ℕ) (e : n ≡ at + run is_space (drop at t)) w
 pub ruleset space_laws = (space_begin, space_end, space_stop, space_next, rules)
 
 module _ (t : List ℕ) (n at : ℕ) (e : n ≡ at + run is_name_byte (drop at t)) where
-  pub name_end : length t ≤ at → at ≡ n
+  pub name_end : length t ≤ at → (m : ℕ) → m ≡ at → m ≡ n
   name_end = past_end is_name_byte t n at e
 
   pub name_stop : at < length t → (r : Bool) → r ≡ is_name_byte (get_or t at 0) → not r ≡ true → at ≡ n

@@ -9,6 +9,6 @@ mod text;
 mod tokens;
 
 pub use bytes::{is_letter, is_name_byte};
-pub use pieces::{AcceptingPiece, Arrow, ArrowPiece, next_name, spaced_transition, transitions};
-pub use text::{Layout, TextPiece, closing, opening, whole_text};
-pub use tokens::{Cursor, NamePiece, TextSpan, space};
+pub use pieces::{Arrow, next_name, spaced_transition, transitions};
+pub use text::{Layout, closing, opening, whole_text};
+pub use tokens::{Cursor, TextSpan, space};

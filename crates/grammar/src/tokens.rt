@@ -17,104 +17,90 @@ pub struct TextSpan {
     pub end: usize,
 }
 
-// What a piece without a value answers.
-#[derive(Drop)]
-pub enum Piece {
-    Read(Cursor),
-    Nothing,
-}
-
-#[derive(Drop)]
-pub enum NamePiece {
-    Read(TextSpan, Cursor),
-    Nothing,
-}
-
 // Optional space.
 pub fn space(text: &[u8], c: Cursor) -> Cursor
     ensures { result.at ≡ space text.now c.at }
 {
-    let mut at = c.at;
-    while at < text.len() {
+    for at in c.at..text.len() {
         if !crate::bytes::is_space(text[at]) {
             return Cursor { at };
         }
-        at += 1;
     }
-    Cursor { at }
+    Cursor {
+        at: c.at.max(text.len()),
+    }
 }
 
 // Space, one or more.
-pub fn needed_space(text: &[u8], c: Cursor) -> Piece
+#[tactic(auto, unfolding(crate::specs::Grammar::needed_space))]
+pub fn needed_space(text: &[u8], c: Cursor) -> Option<Cursor>
     ensures { piece_of result ≡ needed_space text.now c.at }
 {
     let next = space(text, c);
     if c.at < next.at {
-        return Piece::Read(next);
+        return Some(next);
     }
-    Piece::Nothing
+    None
 }
 
 // The bytes of a word.
-pub fn token(text: &[u8], c: Cursor, word: &[u8]) -> Piece
+#[tactic(auto, using(crate::proofs::Comparing::token_laws))]
+pub fn token(text: &[u8], c: Cursor, word: &[u8]) -> Option<Cursor>
     ensures { piece_of result ≡ token word.now text.now c.at }
 {
     let mut at = c.at;
-    let mut i: usize = 0;
-    while i < word.len() {
+    for b in word {
         if text.len() <= at {
-            return Piece::Nothing;
+            return None;
         }
-        if text[at] != word[i] {
-            return Piece::Nothing;
+        if text[at] != *b {
+            return None;
         }
         at += 1;
-        i += 1;
     }
-    Piece::Read(Cursor { at })
+    Some(Cursor { at })
 }
 
 // The place behind the letters, digits and `_` from at on.
 fn name_end(text: &[u8], at: usize) -> usize
     ensures { result ≡ at + run is_name_byte (drop at text.now) }
 {
-    let mut end = at;
-    while end < text.len() {
+    for end in at..text.len() {
         if !crate::bytes::is_name_byte(text[end]) {
             return end;
         }
-        end += 1;
     }
-    end
+    at.max(text.len())
 }
 
 // A letter, then letters, digits, `_`; at most 64 bytes.
-pub fn name(text: &[u8], c: Cursor) -> NamePiece
+#[tactic(auto, using(crate::proofs::Spelling::name_piece_laws))]
+pub fn name(text: &[u8], c: Cursor) -> Option<(TextSpan, Cursor)>
     ensures { name_of result ≡ name text.now c.at }
 {
     let at = c.at;
     if text.len() <= at {
-        return NamePiece::Nothing;
+        return None;
     }
     if !crate::bytes::is_letter(text[at]) {
-        return NamePiece::Nothing;
+        return None;
     }
     let end = name_end(text, at);
     if 64 < end - at {
-        return NamePiece::Nothing;
+        return None;
     }
-    NamePiece::Read(TextSpan { start: at, end }, Cursor { at: end })
+    Some((TextSpan { start: at, end }, Cursor { at: end }))
 }
 
 // A word behind optional space.
-pub fn spaced_token(text: &[u8], c: Cursor, word: &[u8]) -> Piece
+pub fn spaced_token(text: &[u8], c: Cursor, word: &[u8]) -> Option<Cursor>
     ensures { piece_of result ≡ token word.now text.now (space text.now c.at) }
 {
     token(text, space(text, c), word)
 }
 
 // A name behind optional space.
-pub fn spaced_name(text: &[u8], c: Cursor) -> NamePiece
+pub fn spaced_name(text: &[u8], c: Cursor) -> Option<(TextSpan, Cursor)>
     ensures { name_of result ≡ name text.now (space text.now c.at) }
 {
     name(text, space(text, c))

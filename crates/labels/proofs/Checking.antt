@@ -1,64 +1,42 @@
 -- The laws in the shape of what the check asks.
-use Prim.Native.Nat.{ℕ, zero, suc, ◌+◌, ◌-◌, ◌/◌, ◌%◌, ◌≤◌, ◌<◌}
-use mathlib.Core.Bool.{Bool, true, false, cond, ◌&&◌, and-false}
-use mathlib.Core.List.{List, []}
-use mathlib.Core.Path.{◌≡◌, refl, sym, ◌∙◌, ap}
-use native.Mathlib.Numerals.{sub-one}
+use Prim.Native.Nat.{ℕ, suc, ◌+◌, ◌-◌, ◌/◌, ◌%◌, ◌≤◌, ◌<◌}
+use mathlib.Core.Bool.{Bool, true, false, cond, ◌&&◌}
+use mathlib.Core.List.{List}
+use mathlib.Core.Logic.{⊎_elim}
+use mathlib.Core.Path.{◌≡◌, sym, ◌∙◌, ap}
 use native.Mathlib.Omega.{arith}
 use lib.Dec.{leb}
 use lib.ListN.{length, get_or, drop, length-drop, drop_of_length-le}
 use lib.Seq.{drop-drop}
 use borrow.Author.Rules.{rules}
-use borrow.Author.Tests.{lt-leb, le-leb, eq-eqb, ne_eqb}
+use borrow.Author.Tests.{lt-leb, le-leb, leb-true, leb-false, eq-eqb, ne_eqb}
 use Rattle.lists.proofs.Parts.{drop_at}
+use Rattle.lists.proofs.Tests.{test}
 use Rattle.labels.specs.Labels.{entries_ok, labels_ok, labels_fault}
 
--- the entries from a place on, by the length that stands there
-entries_at : (k at : ℕ) (b : List ℕ) → 0 < k → at < length b →
-    entries_ok k (drop at b) ≡ (leb 1 (get_or b at 0) && (leb (get_or b at 0) 64 && (leb (get_or b at 0) (length b - (at + 1)) && entries_ok (k - 1) (drop (at + 1 + get_or b at 0) b))))
+-- the entries from a place on, with i of n labels behind it, by the length that stands there
+entries_at : (k at : ℕ) (b : List ℕ) → at < length b
+    → entries_ok (suc k) (drop at b)
+    ≡ (leb 1 (get_or b at 0) && (leb (get_or b at 0) 64 && (leb (get_or b at 0) (length b - (at + 1)) && entries_ok k (drop (at + 1 + get_or b at 0) b))))
 unfolding entries_ok
-entries_at zero at b h g = absurd (omega arith)
-entries_at (suc k) at b h g = ap (λ t. entries_ok (suc k) t) (drop_at b at g) ∙ rw (length-drop, drop-drop, sub-one (suc k))
+entries_at k at b g = ap (λ t. entries_ok (suc k) t) (drop_at b at g) ∙ rw (length-drop, drop-drop)
 
-none_left : (k : ℕ) → k ≤ 0 → k ≡ 0
-none_left k h = omega arith
+pub entries_next : (n i at : ℕ) (b : List ℕ) → i < n → at < length b
+    → entries_ok (n - i) (drop at b)
+    ≡ (leb 1 (get_or b at 0) && (leb (get_or b at 0) 64 && (leb (get_or b at 0) (length b - (at + 1)) && entries_ok (n - (i + 1)) (drop (at + 1 + get_or b at 0) b))))
+entries_next n i at b h g = let z : n - i ≡ suc (n - (i + 1)) = omega arith in rw z (entries_at (n - (i + 1)) at b g)
 
-missing : (k : ℕ) → 0 < k → entries_ok k [] ≡ false
+pub entries_missing : (n i at : ℕ) (b : List ℕ) → i < n → length b ≤ at → entries_ok (n - i) (drop at b) ≡ false
 unfolding entries_ok
-missing zero h = absurd (omega arith)
-missing (suc k) h = refl
+entries_missing n i at b h g = let z : n - i ≡ suc (n - (i + 1)) = omega arith in rw (z, drop_of_length-le b g)
 
--- what the loop over the entries knows at a place, with k labels to come; l is the length that stands there
-module _ (n k at : ℕ) (b : List ℕ) (e : entries_ok n (drop 2 b) ≡ entries_ok k (drop at b)) where
-  pub ok_ended : k ≤ 0 → length b ≤ at → true ≡ entries_ok n (drop 2 b)
-  unfolding entries_ok
-  ok_ended h g = sym (e ∙ ap (λ j. entries_ok j (drop at b)) (none_left k h) ∙ rw (drop_of_length-le b g))
-
-  pub ok_left_over : k ≤ 0 → at < length b → false ≡ entries_ok n (drop 2 b)
-  unfolding entries_ok
-  ok_left_over h g = sym (e ∙ ap (λ j. entries_ok j (drop at b)) (none_left k h) ∙ rw (drop_at b at g))
-
-  pub ok_missing : 0 < k → length b ≤ at → false ≡ entries_ok n (drop 2 b)
-  ok_missing h g = sym (e ∙ rw (drop_of_length-le b g) (missing k h))
-
-  module _ (l : ℕ) (d : l ≡ get_or b at 0) (h : 0 < k) (g : at < length b) where
-    ok_at : entries_ok n (drop 2 b) ≡ (leb 1 l && (leb l 64 && (leb l (length b - (at + 1)) && entries_ok (k - 1) (drop (at + 1 + l) b))))
-    ok_at = e ∙ entries_at k at b h g ∙ rw (← d)
-
-    -- a length below 1, above 64 or beyond the end: m is the number that the code compares with
-    pub ok_empty : (m : ℕ) → l < m → m ≤ 1 → false ≡ entries_ok n (drop 2 b)
-    ok_empty m p q = sym (ok_at ∙ rw (lt-leb 1 l (omega arith)))
-
-    pub ok_long : (m : ℕ) → m < l → 64 ≤ m → false ≡ entries_ok n (drop 2 b)
-    ok_long m p q = sym (ok_at ∙ rw (le-leb 1 l (omega arith), lt-leb l 64 (omega arith)))
-
-    pub ok_cut : length b - (at + 1) < l → false ≡ entries_ok n (drop 2 b)
-    ok_cut p = sym (ok_at ∙ rw (le-leb 1 l (omega arith), lt-leb l (length b - (at + 1)) p) (and-false (leb l 64)))
-
-    pub ok_next : 1 ≤ l → l ≤ 64 → l ≤ length b - (at + 1) → entries_ok n (drop 2 b) ≡ entries_ok (k - 1) (drop (at + 1 + l) b)
-    ok_next q r p = ok_at ∙ rw (le-leb 1 l q, le-leb l 64 r, le-leb l (length b - (at + 1)) p)
-
-pub ruleset entries_laws = (ok_ended, ok_left_over, ok_missing, ok_empty, ok_long, ok_cut, ok_next, rules)
+pub entries_done : (n i at : ℕ) (b : List ℕ) → n ≤ i → entries_ok (n - i) (drop at b) ≡ leb (length b) at
+unfolding entries_ok
+entries_done n i at b h =
+    let z : n - i ≡ 0 = omega arith in
+    rw z
+    (⊎_elim (λ p. rw (drop_of_length-le b (leb-true (length b) at p)) (sym p)) (λ p. rw (drop_at b at (leb-false (length b) at p)) (sym p))
+    (test (leb (length b) at)))
 
 -- the fault, by what the check finds in this order; low and high are the two bytes of the count
 module _ (n : ℕ) (b : List ℕ) where

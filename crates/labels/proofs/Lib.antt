@@ -2,7 +2,6 @@
 pub mod Labels
 pub mod Checking
 pub mod Places
-pub mod Same
 pub mod Reading
 pub mod Putting
 pub mod Listing

@@ -13,30 +13,17 @@ pub use writing::{
     copy_all, copy_with_sink, put_copy, put_count, put_numbered, put_pair, put_sink, write_numbered,
 };
 
-#[derive(Drop)]
-pub enum Checked {
-    Accepted,
-    Refused(InputRefusal),
-}
-
-// A byte as a size or an index.
-fn wide(x: u8) -> usize
-    ensures { (result ≡ x) × (result < 256) }
-{
-    x as usize
-}
-
 // Whether n labels stand behind the count, each after its length of 1 to 64, and nothing behind them.
+#[tactic(auto, using(crate::proofs::Checking::entries_next, crate::proofs::Checking::entries_missing, crate::proofs::Checking::entries_done))]
 fn entries_ok(n: usize, b: &[u8]) -> bool
     ensures { result ≡ entries_ok n (drop 2 b.now) }
 {
-    let mut k = n;
     let mut at: usize = 2;
-    while 0 < k {
+    for _ in 0..n {
         if b.len() <= at {
             return false;
         }
-        let l = wide(b[at]);
+        let l = usize::from(b[at]);
         if l < 1 {
             return false;
         }
@@ -47,33 +34,30 @@ fn entries_ok(n: usize, b: &[u8]) -> bool
             return false;
         }
         at = at + 1 + l;
-        k -= 1;
     }
-    if at < b.len() {
-        return false;
-    }
-    true
+    b.len() <= at
 }
 
 // The fault of b as the labels of n states.
-pub fn check(n: usize, b: &[u8]) -> Checked
+#[tactic(auto, using(crate::proofs::Checking::fault_laws))]
+pub fn check(n: usize, b: &[u8]) -> Result<(), InputRefusal>
     ensures { checked_number result ≡ labels_fault n b.now }
 {
     if b.len() < 2 {
-        return Checked::Refused(InputRefusal::Labels);
+        return Err(InputRefusal::Labels);
     }
-    let low = wide(b[0]);
+    let low = usize::from(b[0]);
     if low != n % 256 {
-        return Checked::Refused(InputRefusal::Labels);
+        return Err(InputRefusal::Labels);
     }
-    let high = wide(b[1]);
+    let high = usize::from(b[1]);
     if high != n / 256 {
-        return Checked::Refused(InputRefusal::Labels);
+        return Err(InputRefusal::Labels);
     }
     if entries_ok(n, b) {
-        return Checked::Accepted;
+        return Ok(());
     }
-    Checked::Refused(InputRefusal::Labels)
+    Err(InputRefusal::Labels)
 }
 
 // The place behind the label whose length stands at at: where the length of the next one stands.
@@ -81,7 +65,7 @@ pub fn next_label(b: &[u8], at: usize) -> usize
     requires { at < length b.now }
     ensures { result ≡ at + 1 + get_or b.now at 0 }
 {
-    at + 1 + wide(b[at])
+    at + 1 + usize::from(b[at])
 }
 
 // The label whose length stands at at.
@@ -90,23 +74,14 @@ pub fn label_from(b: &[u8], at: usize) -> &[u8]
     ensures { result.now ≡ take (get_or b.now at 0) (drop (at + 1) b.now) }
 {
     let first = at + 1;
-    let end = first + wide(b[at]);
+    let end = first + usize::from(b[at]);
     &b[first..end]
 }
 
 // Whether two labels are the same.
+#[tactic(auto, using(lists::proofs::Index::same_slices))]
 pub fn same_label(a: &[u8], b: &[u8]) -> bool
     ensures { result ≡ same_label a.now b.now }
 {
-    if a.len() != b.len() {
-        return false;
-    }
-    let mut i = 0;
-    while i < a.len() {
-        if a[i] != b[i] {
-            return false;
-        }
-        i += 1;
-    }
-    true
+    a == b
 }

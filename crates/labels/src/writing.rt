@@ -12,8 +12,8 @@ pub fn put_count(out: &mut [u8], n: usize) -> usize
     requires n_bound { n < 65536 }
     ensures { Written out.old 0 (count_bytes n) out.new result }
 {
-    let high = stores::put_byte(out, 0, (n % 256) as u8);
-    stores::put_byte(out, high, (n / 256) as u8)
+    let high = stores::put(out, 0, (n % 256) as u8);
+    stores::put(out, high, (n / 256) as u8)
 }
 
 // Writes a given label after its length.
@@ -22,8 +22,8 @@ pub fn put_copy(out: &mut [u8], at: usize, label: &[u8]) -> usize
     requires label_in_bounds { at + 1 + length label.now ≤ length out.old }
     ensures { Written out.old at (entry label.now) out.new result }
 {
-    let first = stores::put_byte(out, at, label.len() as u8);
-    stores::put_bytes(out, first, label)
+    let first = stores::put(out, at, label.len() as u8);
+    stores::put_all(out, first, label)
 }
 
 // Writes the label `sink` after its length.
@@ -40,7 +40,7 @@ fn put_number(out: &mut [u8], at: usize, lead: u8, x: u32) -> usize
     ensures written { Written out.old at (lead ∷ digits x) out.new result }
     ensures upper_bound { result ≤ at + 11 }
 {
-    let first = stores::put_byte(out, at, lead);
+    let first = stores::put(out, at, lead);
     decimal::put_decimal(out, first, x)
 }
 
@@ -69,9 +69,9 @@ pub fn put_pair(out: &mut [u8], at: usize, p: u32, q: u32) -> usize
     ensures { Written out.old at (entry (pair_label p q)) out.new result }
 {
     let first = put_number(out, at + 1, b'(', p);
-    let comma = stores::put_byte(out, first, b',');
+    let comma = stores::put(out, first, b',');
     let second = put_number(out, comma, b' ', q);
-    let end = stores::put_byte(out, second, b')');
+    let end = stores::put(out, second, b')');
     put_length(out, at, end)
 }
 
@@ -82,10 +82,8 @@ pub fn write_numbered(out: &mut [u8], n: usize) -> usize
     ensures { Written out.old 0 (write_labels (numbered_labels n)) out.new result }
 {
     let mut at = put_count(out, n);
-    let mut k = 0;
-    while k < n {
+    for k in 0..n {
         at = put_numbered(out, at, k as u32);
-        k += 1;
     }
     at
 }
@@ -98,7 +96,7 @@ pub fn copy_with_sink(out: &mut [u8], b: &[u8], n: usize) -> usize
     ensures { Written out.old 0 (write_labels (read_labels b.now ++ sink_label ∷ [])) out.new result }
 {
     let first = put_count(out, n + 1);
-    let behind = stores::put_bytes(out, first, &b[2..]);
+    let behind = stores::put_all(out, first, &b[2..]);
     put_sink(out, behind)
 }
 
@@ -109,5 +107,5 @@ pub fn copy_all(out: &mut [u8], b: &[u8]) -> usize
     requires b_bound { label_count b.now ≤ 256 }
     ensures { Written out.old 0 (write_labels (read_labels b.now)) out.new result }
 {
-    stores::put_bytes(out, 0, b)
+    stores::put_all(out, 0, b)
 }

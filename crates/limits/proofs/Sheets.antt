@@ -1,18 +1,13 @@
 -- What `put_records` writes and `fault` reads. Assumes nothing.
 use Prim.Native.Nat.{ℕ, zero, suc, ◌+◌, ◌-◌, ◌*◌, ◌≤◌, ◌<◌}
 use mathlib.Core.List.{List, [], ◌∷◌, ◌++◌}
-use mathlib.Core.Path.{◌≡◌, refl, sym, ap, ◌∙◌}
+use mathlib.Core.Path.{◌≡◌, refl, ap, ◌∙◌}
 use native.Mathlib.Omega.{arith}
 use native.Mathlib.Numerals.{add-one}
 use lib.ListN.{length, take, drop, replicate, length-append, length-replicate}
 use lib.Seq.{sets, sets-eq, length-sets, take_at}
 use borrow.Author.Rules.{rules}
-use Rattle.refusal.specs.declared.InputRefusal.{InputRefusal}
-use Rattle.refusal.specs.Number.{input_number}
 use Rattle.sheets.specs.Fault.{fault}
-use Rattle.sheets.specs.Checked.{checked_number}
-use Rattle.sheets.specs.declared.Checked.{Checked}
-use Rattle.sheets.specs.declared.Checked.TheVariants.{Accepted, Refused}
 use Rattle.limits.specs.Limits.{loops, loop_sheet}
 
 -- i of m records are stored from start on, and with those that are left all are
@@ -43,10 +38,7 @@ module _ (old l a : List ℕ) (at m start i end : ℕ) (p : Put l start m i a en
       let y : start ≡ suc at = omega (arith, h) in
       ap (λ (t : ℕ). sets a end (loops i t)) z ∙ p.left ∙ ap (λ (t : ℕ). sets l t (loops 0 m)) y ∙ ap (λ (t : List ℕ). sets t (suc at) (loops 0 m)) w
 
-  pub place_behind : end ≡ at + 1 + 5 * m
-  place_behind = omega (arith, p.place, h)
-
-pub ruleset put_laws = (none_put, one_put, all_put, place_behind, rules)
+pub ruleset put_laws = (none_put, one_put, all_put, rules)
 
 length_loops : (i m : ℕ) → length (loops i m) ≡ 5 * m
 unfolding loops
@@ -77,19 +69,9 @@ module _ (k n m : ℕ) (room : n + 1 + 5 * m ≤ k) where
       let size : length (u ++ v) ≡ e = length-append u v ∙ omega (arith, long, zeros, h) in
       ap (λ (t : List ℕ). take e t) parts ∙ take_at (u ++ v) _ e size
 
--- the answer of the check of that sheet
-module _ (n m e : ℕ) (a b : List ℕ) (x : Checked) (few : n ≤ 257) (short : m ≤ 2049) where
-  module _ (f : a ≡ sets (replicate 10506 0) 0 (1 ∷ 0 ∷ n ∷ [])) (g : b ≡ sets a (n + 3) (m ∷ loops 0 m)) (h : e ≡ n + 3 + 1 + 5 * m)
-      (checked : checked_number x ≡ fault (take (e - 0) (drop 0 b))) where
-    its_fault : checked_number x ≡ fault (loop_sheet n m)
-    its_fault =
-        let z : e - 0 ≡ e = omega arith in
-        checked ∙ ap (λ (t : ℕ). fault (take t b)) z ∙ ap fault (sheet_made 10503 n m (omega (arith, few, short)) e a b f g h)
-
-    pub no_fault : x ≡ Accepted → 0 ≡ fault (loop_sheet n m)
-    no_fault y = sym (ap checked_number y) ∙ its_fault
-
-    pub some_fault : (r : InputRefusal) (v : ℕ) → x ≡ Refused r → v ≡ input_number r → v ≡ fault (loop_sheet n m)
-    some_fault r v y w = w ∙ sym (ap checked_number y) ∙ its_fault
-
-pub ruleset fault_laws = (no_fault, some_fault, rules)
+-- what the check of that sheet says, as a number v
+pub its_fault : (n m e v : ℕ) (a b : List ℕ) → n ≤ 257 → m ≤ 2049 → a ≡ sets (replicate 10506 0) 0 (1 ∷ 0 ∷ n ∷ []) → b ≡ sets a (n + 3) (m ∷ loops 0 m)
+    → e ≡ n + 3 + 1 + 5 * m → v ≡ fault (take (e - 0) (drop 0 b)) → v ≡ fault (loop_sheet n m)
+its_fault n m e v a b few short f g h checked =
+    let z : e - 0 ≡ e = omega arith in
+    checked ∙ ap (λ (t : ℕ). fault (take t b)) z ∙ ap fault (sheet_made 10503 n m (omega (arith, few, short)) e a b f g h)

@@ -6,8 +6,6 @@ ghost use Rattle.std.proofs.lemmas.List.Edits.{sets};
 ghost use Rattle.sheets.specs.Fault.{fault};
 ghost use Rattle.limits.specs.Limits.{loops, loop_sheet};
 
-use sheets::Checked;
-
 // Standard output.
 const STDOUT: i32 = 1;
 
@@ -17,11 +15,9 @@ fn put_records(sheet: &mut [u32], at: usize, m: u32) -> usize
     ensures stored { sheet.new ≡ sets sheet.old at (m ∷ loops 0 m) }
     ensures behind { result ≡ at + 1 + 5 * m }
 {
-    let mut end = stores::put_word(sheet, at, m);
-    let mut i: u32 = 0;
-    while i < m {
+    let mut end = stores::put(sheet, at, m);
+    for i in 0..m {
         end = output::put_record(sheet, end, 0, 1, i, i, 0);
-        i += 1;
     }
     end
 }
@@ -35,8 +31,8 @@ fn fault(n: u32, m: u32) -> u32
     output::put_start(&mut sheet, 0, n);
     let end = put_records(&mut sheet, n as usize + 3, m);
     match sheets::check(&sheet[0..end]) {
-        Checked::Accepted => 0,
-        Checked::Refused(r) => refusal::input_number(r),
+        Ok(()) => 0,
+        Err(r) => refusal::input_number(r),
     }
 }
 

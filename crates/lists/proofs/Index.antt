@@ -1,6 +1,6 @@
 -- Laws of the place of an element in a list, and of the test whether two lists of numbers are the same.
 use Prim.Native.Nat.{ℕ, zero, suc, ◌≤◌, ◌<◌}
-use mathlib.Core.Bool.{Bool, true, false, cond, ◌||◌, false≢true}
+use mathlib.Core.Bool.{Bool, true, false, cond, ◌&&◌, ◌||◌, false≢true}
 use mathlib.Core.List.Memᴰ
 use mathlib.Core.List.{List, [], ◌∷◌, ◌++◌}
 use mathlib.Core.Logic.{⊎_elim}
@@ -9,6 +9,7 @@ use native.Mathlib.Omega.{arith}
 use borrow.Author.Tests.{eq-eqb, eqb-true, lt-ltb, ltb-true}
 use lib.Dec.{eqb, ltb}
 use lib.ListN.{get_or, length}
+use Rattle.std.specs.Cmp.Lexicographic.{pointwise}
 use Rattle.lists.specs.Lists.{◌∈◌, any, Distinct}
 use Rattle.lists.specs.Index.{index, same}
 use Rattle.lists.proofs.Members.{at_in}
@@ -149,3 +150,11 @@ equal_same S T e = same_yes same same_decides S T e
 
 pub unequal_same : (S T : List ℕ) → (S ≡ T → ⊥) → same S T ≡ false
 unequal_same S T h = same_no same same_decides S T h
+
+-- the test is std's `==` of two slices
+pub same_slices : (S T : List ℕ) (r : Bool) → r ≡ pointwise eqb S T → r ≡ same S T
+unfolding same
+same_slices [] [] r e = e
+same_slices [] (y ∷ T) r e = e
+same_slices (x ∷ S) [] r e = e
+same_slices (x ∷ S) (y ∷ T) r e = e ∙ ap (λ (b : Bool). eqb x y && b) (same_slices S T (pointwise eqb S T) refl)

@@ -5,3 +5,4 @@ pub mod Parts
 pub mod Members
 pub mod Index
 pub mod Every
+pub mod Chains

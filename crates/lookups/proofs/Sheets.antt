@@ -65,10 +65,7 @@ module _ (l₀ l : List ℕ) (at m end i : ℕ) (p : Left l₀ at (links 0 m) l 
   unfolding links
   links_done h = let z : m - i ≡ 0 = omega arith in left_done _ _ _ _ _ _ p (rw z)
 
-pub links_start : (l : List ℕ) (at m : ℕ) → Left l at (links 0 m) l at (links 0 (m - 0))
-links_start l at m = let z : m - 0 ≡ m = omega arith in rw z (left_start l at (links 0 m))
-
-pub ruleset links_laws = (links_start, links_room, links_next, links_done, left_length, rules)
+pub ruleset links_laws = (links_room, links_next, links_done, left_length, rules)
 
 -- one state of a set
 module _ (k q digit : ℕ) where
@@ -124,10 +121,7 @@ module _ (l₀ l : List ℕ) (at end k : ℕ) (p : Left l₀ at (to_sets 1 254) 
   unfolding to_sets
   sets_done h = let z : 255 - k ≡ 0 = omega arith in left_done _ _ _ _ _ _ p (rw z)
 
-pub sets_start : (l : List ℕ) (at : ℕ) → Left l at (to_sets 1 254) l at (to_sets 1 (255 - 1))
-sets_start l at = left_start l at (to_sets 1 254)
-
-pub ruleset sets_laws = (sets_start, sets_room, sets_next, sets_done, left_length, rules)
+pub ruleset sets_laws = (sets_room, sets_next, sets_done, left_length, rules)
 
 -- the front of a sheet: its start, its accept words and the number of its records, one behind the other
 pub front_put : (o a b c zs : List ℕ) (n m e f g : ℕ) → Written o 0 (1 ∷ 0 ∷ n ∷ []) a e → Written a e zs b f → Written b f (m ∷ []) c g

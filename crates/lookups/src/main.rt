@@ -6,9 +6,6 @@ ghost use Rattle.std.specs.Prelude.{◌≡◌, ◌+◌, ◌*◌, ◌≤◌, [], 
 ghost use Rattle.stores.specs.Written.{Written};
 ghost use Rattle.lookups.specs.Lookups.{links, chain, number, to_state, to_set, to_sets, colliding};
 
-use determinize::Determinized;
-use sheets::Checked;
-
 // Standard output.
 const STDOUT: i32 = 1;
 
@@ -18,8 +15,8 @@ fn put_front(sheet: &mut [u32], n: u32, accepts: &[u32], m: u32) -> usize
     ensures { Written sheet.old 0 (1 ∷ 0 ∷ n ∷ accepts.now ++ m ∷ []) sheet.new result }
 {
     let mut end = output::put_start(sheet, 0, n);
-    end = stores::put_words(sheet, end, accepts);
-    stores::put_word(sheet, end, m)
+    end = stores::put_all(sheet, end, accepts);
+    stores::put(sheet, end, m)
 }
 
 // Stores m records, of which each leads a state to the next by the range (0, 0), from state 0 on; answers the place behind.
@@ -28,10 +25,8 @@ fn put_links(sheet: &mut [u32], at: usize, m: u32) -> usize
     ensures { Written sheet.old at (links 0 m) sheet.new result }
 {
     let mut end = at;
-    let mut i: u32 = 0;
-    while i < m {
+    for i in 0..m {
         end = output::put_record(sheet, end, i, 1, 0, 0, i + 1);
-        i += 1;
     }
     end
 }
@@ -74,11 +69,9 @@ fn put_set(sheet: &mut [u32], at: usize, k: u8) -> usize
     let symbol = k as u32;
     let mut left = number(k);
     let mut end = at;
-    let mut q: u32 = 0;
-    while q < 64 {
+    for q in 0..64 {
         end = put_state(sheet, end, symbol, q, left % 2);
         left /= 2;
-        q += 1;
     }
     end
 }
@@ -89,10 +82,8 @@ fn put_sets(sheet: &mut [u32], at: usize) -> usize
     ensures { Written sheet.old at (to_sets 1 254) sheet.new result }
 {
     let mut end = at;
-    let mut k: u8 = 1;
-    while k < 255 {
+    for k in 1..255 {
         end = put_set(sheet, end, k);
-        k += 1;
     }
     end
 }
@@ -119,22 +110,18 @@ struct Counted {
 fn count(sheet: &[u32]) -> Counted {
     let mut out = [0u32; 10500];
     let mut compared: u64 = 0;
-    match sheets::check(sheet) {
-        Checked::Accepted => {}
-        Checked::Refused(_) => {
-            return Counted {
-                states: 0,
-                compared,
-            };
-        }
-    }
-    match determinize::determinize_counted(sheet, 0, 4294967295, &mut out, &mut compared) {
-        Determinized::Sheet(_, states) => Counted { states, compared },
-        Determinized::Refused(_) => Counted {
+    let Ok(()) = sheets::check(sheet) else {
+        return Counted {
             states: 0,
             compared,
-        },
-    }
+        };
+    };
+    let made = determinize::determinize_counted(sheet, 0, 4294967295, &mut out, &mut compared);
+    let states = match made {
+        Ok(sheet) => sheet.states,
+        Err(_) => 0,
+    };
+    Counted { states, compared }
 }
 
 fn say(what: &[u8], count: Counted) {

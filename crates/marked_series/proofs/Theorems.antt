@@ -16,6 +16,7 @@ use mathlib.Core.Path.{◌≡◌, refl, sym, ◌∙◌, ap}
 use native.Mathlib.Omega.{arith}
 use borrow.Author.Tests.{ltb-true, ltb-false, lt-ltb, le-ltb}
 use lib.Dec.{ltb}
+use Rattle.std.specs.Prelude.{Ok}
 use Rattle.automata.specs.Automaton.{Accepts}
 use Rattle.refusal.specs.Answer.{Answer, refused, given}
 use Rattle.refusal.proofs.Behind.{behind_given, behind_number, behind_refused}
@@ -24,7 +25,6 @@ use Rattle.sheets.specs.Sheet.{read}
 use Rattle.sheets.proofs.Decisions.{given_not}
 use Rattle.sheets.proofs.Numbers.{sheet_given, sheet_some, sheet_number, sheet_fault}
 use Rattle.words.specs.Acceptance.{accepts_words_answer}
-use Rattle.words.specs.declared.Acceptance.TheVariants.{Kind}
 use Rattle.words.specs.Simulation.{kind}
 use Rattle.words.proofs.Theorems.{accepts_words, accepts_words_bit}
 use Rattle.marked_series.specs.Series.{whole_rings, mark_first, accepts_series_answer}
@@ -72,10 +72,10 @@ module _ (s w : List ℕ) (mark : ℕ) where
     of_words = sym e ∙ answer_words s w mark (series_given.0 (k, e)).1
 
     pub series_accepts : (0 < k) ↔ Accepts (read s) (whole_rings mark w)
-    series_accepts = accepts_words s (whole_rings mark w) (Kind k) of_words k refl
+    series_accepts = accepts_words s (whole_rings mark w) (Ok k) of_words k refl
 
     pub series_bit : k ≤ 1
-    series_bit = accepts_words_bit s (whole_rings mark w) (Kind k) of_words k refl
+    series_bit = accepts_words_bit s (whole_rings mark w) (Ok k) of_words k refl
 
   -- no other number is answered by the mark
   other : (n : ℕ) → (n ≡ 34 → ⊥) → mark_first mark matched ≡ refused n → ⊥

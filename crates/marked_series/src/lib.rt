@@ -7,8 +7,6 @@ ghost use Rattle.words.specs.Acceptance.{acceptance_of};
 ghost use Rattle.marked_series.specs.Series.{whole_rings, accepts_series_answer};
 
 use refusal::InputRefusal;
-use sheets::Checked;
-use words::Acceptance;
 
 // The whole rings of a series: with the mark 1 all but the last, and of an empty series none.
 fn whole_rings(series: &[u32], mark: u32) -> &[u32]
@@ -26,14 +24,13 @@ fn whole_rings(series: &[u32], mark: u32) -> &[u32]
 }
 
 // Whether a sheet accepts the whole rings of a series. A mark over 1 is refused where the sheet is not.
-pub fn accepts_series(s: &[u32], series: &[u32], mark: u32) -> Acceptance
+#[tactic(auto, using(crate::proofs::Answers::series_laws))]
+pub fn accepts_series(s: &[u32], series: &[u32], mark: u32) -> Result<u32, InputRefusal>
     ensures { acceptance_of result ≡ accepts_series_answer s.now series.now mark }
 {
     if mark <= 1 {
         return words::accepts_words(s, whole_rings(series, mark));
     }
-    match sheets::check(s) {
-        Checked::Accepted => Acceptance::Refused(InputRefusal::OuterMark),
-        Checked::Refused(r) => Acceptance::Refused(r),
-    }
+    sheets::check(s)?;
+    Err(InputRefusal::OuterMark)
 }

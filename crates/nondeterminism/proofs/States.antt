@@ -104,9 +104,6 @@ holes_bound lower upper s starts holes r =
     omega (arith, few, holes_few lower upper (read s) (read_well s r.accepted) (states (state_count s)))
 
 -- the holes of the states below q are counted
-pub count_start : (lower upper : ℕ) (A : Automaton) → 0 + length (holes_in lower upper A (drop 0 (states A.size))) ≡ length (holes_in lower upper A (states A.size))
-count_start lower upper A = omega arith
-
 module _ (lower upper : ℕ) (s : List ℕ) (count q : ℕ)
     (e : count + length (holes_in lower upper (read s) (drop q (states (state_count s)))) ≡ length (holes_in lower upper (read s) (states (state_count s)))) where
   pub count_ended : state_count s ≤ q → count ≡ length (holes_in lower upper (read s) (states (state_count s)))
@@ -124,7 +121,7 @@ module _ (lower upper : ℕ) (s : List ℕ) (count q : ℕ)
     pub count_fits : (starts holes : List ℕ) → HolesInputs s starts holes → Fits w64 (count + k)
     count_fits starts holes r = record { fits = omega (arith, count_next, holes_bound lower upper s starts holes r) }
 
-pub ruleset count_laws = (count_start, count_ended, count_next, count_fits, state_run, run_sorted, run_room, rules)
+pub ruleset count_laws = (count_ended, count_next, count_fits, state_run, run_sorted, run_room, rules)
 
 -- an accepted sheet, where its runs begin, and room for holes
 pub holes_inputs : (s old starts holes : List ℕ) → Accepted s → starts ≡ sets old 0 (starts_of s) → length old ≡ 257 → length holes ≡ 4098 → HolesInputs s starts holes

@@ -20,9 +20,9 @@ use Rattle.automata.specs.Automaton.{Transition, Automaton, leaving}
 use Rattle.automata.specs.Deterministic.{Deterministic}
 use Rattle.automata.specs.WellFormed.{WellFormed, last_symbol}
 use Rattle.refusal.specs.Answer.{refused, given}
+use Rattle.std.specs.Prelude.{Result, Ok}
 use Rattle.refusal.specs.Decision.{decision_of}
-use Rattle.refusal.specs.declared.Decision.{Decision}
-use Rattle.refusal.specs.declared.Decision.TheVariants.{Is}
+use Rattle.refusal.specs.declared.InputRefusal.{InputRefusal}
 use Rattle.sheets.specs.Fault.{fault}
 use Rattle.sheets.specs.Sheet.{state_count, read}
 use Rattle.sheets.proofs.Decisions.{call_is, given_not}
@@ -51,8 +51,8 @@ pub nfa_sheet : (s : List ℕ) → fault s ≡ 0 → ((i : ℕ) → get_or s i 0
 nfa_sheet s f h = nfa_exact 0 last_symbol (read s) (read_well s (accepted s f)) (read_within s h)
 
 -- the call of `is_nfa` on the sheet s: r is its answer
-module _ (s : List ℕ) (r : Decision) (call : decision_of r ≡ is_nfa_answer 0 last_symbol s) where
-  decided : (t : Bool) → (r ≡ Is t) ↔ ((fault s ≡ 0) × (is_nfa 0 last_symbol (read s) ≡ t))
+module _ (s : List ℕ) (r : Result Bool InputRefusal) (call : decision_of r ≡ is_nfa_answer 0 last_symbol s) where
+  decided : (t : Bool) → (r ≡ Ok t) ↔ ((fault s ≡ 0) × (is_nfa 0 last_symbol (read s) ≡ t))
   unfolding is_nfa_answer
   decided t =
       let c = call_is r (is_nfa_answer 0 last_symbol s) call t in
@@ -63,21 +63,21 @@ module _ (s : List ℕ) (r : Decision) (call : decision_of r ≡ is_nfa_answer 0
       same e = cc
 
   -- the answer is yes exactly where the sheet has no fault, and an epsilon, an overlap or a hole
-  pub is_nfa_yes : (r ≡ Is true) ↔ ((fault s ≡ 0) × Nondeterministic 0 last_symbol (read s))
+  pub is_nfa_yes : (r ≡ Ok true) ↔ ((fault s ≡ 0) × Nondeterministic 0 last_symbol (read s))
   is_nfa_yes = (
     λ e. let (f, t) = (decided true).0 e in (f, (nfa_nondeterministic 0 last_symbol (read s) (read_well s (accepted s f))).0 t),
     λ (f, u). (decided true).1 (f, (nfa_nondeterministic 0 last_symbol (read s) (read_well s (accepted s f))).1 u),
   )
 
   -- it is no exactly where the sheet has no fault, and no state has an epsilon, an overlap or a hole
-  pub is_nfa_no : (r ≡ Is false) ↔ ((fault s ≡ 0) × ((q : ℕ) → q < state_count s → DeterministicAt 0 last_symbol (leaving (read s) q)))
+  pub is_nfa_no : (r ≡ Ok false) ↔ ((fault s ≡ 0) × ((q : ℕ) → q < state_count s → DeterministicAt 0 last_symbol (leaving (read s) q)))
   is_nfa_no = (
     λ e. let (f, t) = (decided false).0 e in (f, (nfa_deterministic_at 0 last_symbol (read s)).0 t),
     λ (f, u). (decided false).1 (f, (nfa_deterministic_at 0 last_symbol (read s)).1 u),
   )
 
   -- on a sheet of 32-bit words it is no exactly where every symbol has one transition in every state and no epsilon stands
-  pub is_nfa_deterministic : ((i : ℕ) → get_or s i 0 ≤ last_symbol) → (r ≡ Is false) ↔ ((fault s ≡ 0) × Deterministic 0 last_symbol (read s))
+  pub is_nfa_deterministic : ((i : ℕ) → get_or s i 0 ≤ last_symbol) → (r ≡ Ok false) ↔ ((fault s ≡ 0) × Deterministic 0 last_symbol (read s))
   is_nfa_deterministic h = (
     λ e. let (f, t) = (decided false).0 e in (f, (nfa_sheet s f h).0 t),
     λ (f, d). (decided false).1 (f, (nfa_sheet s f h).1 d),

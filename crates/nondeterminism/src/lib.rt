@@ -12,7 +12,7 @@ ghost use Rattle.nondeterminism.specs.Nondeterminism.{is_nfa_at, is_nfa, is_nfa_
 ghost use Rattle.nondeterminism.specs.inner.Holes.{HolesInputs};
 ghost use Rattle.automata.specs.WellFormed.{last_symbol};
 
-use refusal::Decision;
+use refusal::InputRefusal;
 
 // Whether the records of one state have an epsilon, an overlap or a hole from lower to upper.
 fn is_nfa_run(run: &[u32], lower: u32, upper: u32, holes: &mut [u32]) -> bool
@@ -29,17 +29,15 @@ fn is_nfa_run(run: &[u32], lower: u32, upper: u32, holes: &mut [u32]) -> bool
 }
 
 // Whether some state has an epsilon, an overlap or a hole from lower to upper.
+#[tactic(auto, using(crate::proofs::States::sheet_laws))]
 fn is_nfa_sheet(s: &[u32], starts: &[u32], lower: u32, upper: u32, holes: &mut [u32]) -> bool
     requires { HolesInputs s.now starts.now holes.old }
     ensures { result ≡ is_nfa lower upper (read s.now) }
 {
-    let n = s[2];
-    let mut q: u32 = 0;
-    while q < n {
+    for q in 0..s[2] {
         if is_nfa_run(sheets::run(s, starts, q), lower, upper, holes) {
             return true;
         }
-        q += 1;
     }
     false
 }
@@ -49,12 +47,9 @@ pub fn count_holes(s: &[u32], starts: &[u32], lower: u32, upper: u32, holes: &mu
     requires { HolesInputs s.now starts.now holes.old }
     ensures { result ≡ length (holes_in lower upper (read s.now) (states (state_count s.now))) }
 {
-    let n = s[2];
     let mut count: usize = 0;
-    let mut q: u32 = 0;
-    while q < n {
+    for q in 0..s[2] {
         count += ranges::missing_ranges(sheets::run(s, starts, q), lower, upper, holes);
-        q += 1;
     }
     count
 }
@@ -71,11 +66,10 @@ pub fn is_nfa_between(s: &[u32], lower: u32, upper: u32) -> bool
 }
 
 // Whether a sheet has an epsilon, an overlap or a hole.
-pub fn is_nfa(s: &[u32]) -> Decision
+#[tactic(auto, using(crate::proofs::Answers::is_nfa_laws))]
+pub fn is_nfa(s: &[u32]) -> Result<bool, InputRefusal>
     ensures { decision_of result ≡ is_nfa_answer 0 last_symbol s.now }
 {
-    match sheets::check(s) {
-        sheets::Checked::Accepted => Decision::Is(is_nfa_between(s, 0, 4294967295)),
-        sheets::Checked::Refused(r) => Decision::Refused(r),
-    }
+    sheets::check(s)?;
+    Ok(is_nfa_between(s, 0, 4294967295))
 }

@@ -1,5 +1,6 @@
 -- Exactly where an answer is a refusal with a number, and where it is given: behind the limits 21 and 22, and behind the faults of a sheet and of its
 -- labels. And what that says of a call with such an answer.
+use Rattle.std.proofs.Common.{Result}
 use Prim.Native.Nat.{ℕ, ◌≤◌, ◌<◌}
 use mathlib.Core.Bool.{Bool, true, false, cond}
 use mathlib.Core.List.{List}
@@ -13,6 +14,7 @@ use Rattle.automata.specs.Automaton.{Automaton}
 use Rattle.automata.specs.WellFormed.{most_states, most_transitions}
 use Rattle.labels.specs.Labels.{labels_fault, labels_ok}
 use Rattle.refusal.specs.Answer.{Answer, refused, given}
+use Rattle.refusal.specs.declared.Refusal.{Refusal}
 use Rattle.sheets.specs.Checked.{sheet_first}
 use Rattle.sheets.specs.Fault.{fault}
 use Rattle.sheets.specs.Sheet.{state_count}
@@ -118,7 +120,7 @@ module _ {X : Type 0} (s b : List ℕ) (a : Answer X) where
       (λ e. let (f, h) = p.0 e in (f, q.0 h), λ (f, g). p.1 (f, q.1 g))
 
 -- the contract of a call on the sheet s with the labels b, where the answer behind 20 and the faults of both is a
-module _ (s b : List ℕ) (a : Answer Pattern) (o l o' l' : List ℕ) (r : Made) (call : output_of r o' l' ≡ outputs o l (room_first o l (sheet_first s (labels_first (state_count s) b a)))) where
+module _ (s b : List ℕ) (a : Answer Pattern) (o l o' l' : List ℕ) (r : Result Made Refusal) (call : output_of r o' l' ≡ outputs o l (room_first o l (sheet_first s (labels_first (state_count s) b a)))) where
   abbrev behind : Answer Pattern
   behind = sheet_first s (labels_first (state_count s) b a)
 

@@ -1,4 +1,5 @@
 -- From the contract of a call with two outputs to what it leaves in them: the laws by which each operation's theorem about its call is proved.
+use Rattle.std.proofs.Common.{Result, Ok, Err, ap₂}
 use Prim.Native.Nat.{ℕ, ◌+◌, ◌≤◌, ◌<◌}
 use mathlib.Core.Bool.{Bool, true, false, cond}
 use mathlib.Core.List.{List}
@@ -24,7 +25,6 @@ use Rattle.sheets.proofs.Checking.{refused_some}
 use Rattle.sheets.proofs.Meaning.{read_write_sheet, write_accepted, write_room}
 use Rattle.sheets.proofs.Numbers.{sheet_given, sheet_number, sheet_fault}
 use Rattle.output.specs.declared.Made.{Made}
-use Rattle.output.specs.declared.Made.TheVariants.{Lengths, Refused}
 use Rattle.output.specs.Left.{made_number, Room, Leaves, Unchanged}
 use Rattle.output.specs.Made.{output_of}
 use Rattle.output.specs.Output
@@ -135,32 +135,32 @@ module _ {X : Type 0} (n : ℕ) (b : List ℕ) (a : Answer X) where
       into false h (f, e) = let g = rw h at f in absurd (omega (arith, g))
 
 -- the contract of a call: r is its answer, o and l are the outputs before it, o' and l' after it, and a is the answer behind 20
-module _ (o l o' l' : List ℕ) (r : Made) (a : Answer Pattern) (call : output_of r o' l' ≡ outputs o l (room_first o l a)) where
+module _ (o l o' l' : List ℕ) (r : Result Made Refusal) (a : Answer Pattern) (call : output_of r o' l' ≡ outputs o l (room_first o l a)) where
   -- what the contract says, by cases
   data Case : Type 0 where
     without_room : (Room o l → ⊥) → made_number r ≡ 20 → Unchanged o l o' l' → Case
     with_refusal : Room o l → (n : ℕ) → a ≡ refused n → made_number r ≡ n → (n ≡ 0 → ⊥) → Unchanged o l o' l' → Case
-    with_pattern : Room o l → (P : Pattern) → a ≡ given P → r ≡ Lengths (length (write P.automaton)) (length (write_labels P.labels))
+    with_pattern : Room o l → (P : Pattern) → a ≡ given P → r ≡ Ok (record { words = length (write P.automaton); bytes = length (write_labels P.labels) })
         → o' ≡ sets o 0 (write P.automaton) → l' ≡ sets l 0 (write_labels P.labels) → Case
 
-  refusal : (r : Made) (n : ℕ) → output_of r o' l' ≡ outputs o l (refused n) → (made_number r ≡ n) × (n ≡ 0 → ⊥) × Unchanged o l o' l'
+  refusal : (r : Result Made Refusal) (n : ℕ) → output_of r o' l' ≡ outputs o l (refused n) → (made_number r ≡ n) × (n ≡ 0 → ⊥) × Unchanged o l o' l'
   unfolding outputs
-  refusal (Lengths w b) n e = let q = ap (λ z. z.answer) e in let z : ◌≡◌ {A = ℕ} 0 1 = cc in absurd (omega arith)
-  refusal (Refused x) n e =
+  refusal (Ok m) n e = let q = ap (λ z. z.answer) e in cc
+  refusal (Err x) n e =
       let q : ◌≡◌ {A = Answer Output.Lengths} (refused (number_of x)) (refused n) = ap (λ z. z.answer) e in
       let i : number_of x ≡ n = cc in
       (i, λ z. number_some x (i ∙ z), record { words = ap (λ z. z.memory.sheet) e; bytes = ap (λ z. z.memory.labels) e })
 
-  pattern : (r : Made) (P : Pattern) → output_of r o' l' ≡ outputs o l (given P)
-      → (r ≡ Lengths (length (write P.automaton)) (length (write_labels P.labels))) × (o' ≡ sets o 0 (write P.automaton)) × (l' ≡ sets l 0 (write_labels P.labels))
+  pattern : (r : Result Made Refusal) (P : Pattern) → output_of r o' l' ≡ outputs o l (given P)
+      → (r ≡ Ok (record { words = length (write P.automaton); bytes = length (write_labels P.labels) })) × (o' ≡ sets o 0 (write P.automaton)) × (l' ≡ sets l 0 (write_labels P.labels))
   unfolding outputs
-  pattern (Lengths w b) P e =
+  pattern (Ok m) P e =
       let q = ap (λ z. z.answer) e in
-      let k : ◌≡◌ {A = Output.Lengths} (record { words = w; bytes = b }) (record { words = length (write P.automaton); bytes = length (write_labels P.labels) }) = cc in
-      let i : w ≡ length (write P.automaton) = ap (λ (z : Output.Lengths). z.words) k in
-      let j : b ≡ length (write_labels P.labels) = ap (λ (z : Output.Lengths). z.bytes) k in
-      (rw (i, j), ap (λ z. z.memory.sheet) e, ap (λ z. z.memory.labels) e)
-  pattern (Refused x) P e = let q = ap (λ z. z.answer) e in let z : ◌≡◌ {A = ℕ} 0 1 = cc in absurd (omega arith)
+      let k : ◌≡◌ {A = Output.Lengths} (record { words = m.words; bytes = m.bytes }) (record { words = length (write P.automaton); bytes = length (write_labels P.labels) }) = cc in
+      let i : m.words ≡ length (write P.automaton) = ap (λ (z : Output.Lengths). z.words) k in
+      let j : m.bytes ≡ length (write_labels P.labels) = ap (λ (z : Output.Lengths). z.bytes) k in
+      (ap₂ (λ x y. Ok (record { words = x; bytes = y })) i j, ap (λ z. z.memory.sheet) e, ap (λ z. z.memory.labels) e)
+  pattern (Err x) P e = let q = ap (λ z. z.answer) e in cc
 
   case : Case
   case = by_room (has_room o l)
@@ -225,7 +225,7 @@ module _ (o l o' l' : List ℕ) (r : Made) (a : Answer Pattern) (call : output_o
       go (with_pattern h P e k i j) = absurd (s (ap made_number k))
 
   -- lengths are answered with the pattern in the outputs
-  module _ (w b : ℕ) (lengths : r ≡ Lengths w b) where
+  module _ (w b : ℕ) (lengths : r ≡ Ok (record { words = w; bytes = b })) where
     pub call_pattern : (P : Pattern) × (a ≡ given P)
     call_pattern = (call_given.0 (ap made_number lengths)).1
 
@@ -238,13 +238,14 @@ module _ (o l o' l' : List ℕ) (r : Made) (a : Answer Pattern) (call : output_o
         go (with_pattern h Q e k i j) =
             let q : given P ≡ given Q = sym given-P ∙ e in
             let same : Q ≡ P = cc in
-            let m : Lengths w b ≡ Lengths (length (write Q.automaton)) (length (write_labels Q.labels)) = sym lengths ∙ k in
-            let x : w ≡ length (write Q.automaton) = cc in
-            let y : b ≡ length (write_labels Q.labels) = cc in
+            let m : ◌≡◌ {A = Result Made Refusal} (Ok (record { words = w; bytes = b })) (Ok (record { words = length (write Q.automaton); bytes = length (write_labels Q.labels) })) = sym lengths ∙ k in
+            let v : ◌≡◌ {A = Made} (record { words = w; bytes = b }) (record { words = length (write Q.automaton); bytes = length (write_labels Q.labels) }) = cc in
+            let x : w ≡ length (write Q.automaton) = ap (λ (z : Made). z.words) v in
+            let y : b ≡ length (write_labels Q.labels) = ap (λ (z : Made). z.bytes) v in
             rw (x, y, i, j, same) (written_leaves o l P ok h)
 
 -- the contract of a call that checks one sheet: a is the answer behind 20 and the faults of the sheet s
-module _ (s o l o' l' : List ℕ) (r : Made) (a : Answer Pattern) (call : output_of r o' l' ≡ outputs o l (room_first o l (sheet_first s a))) where
+module _ (s o l o' l' : List ℕ) (r : Result Made Refusal) (a : Answer Pattern) (call : output_of r o' l' ≡ outputs o l (room_first o l (sheet_first s a))) where
   -- 20 is answered exactly where an output is too short, if no other refusal is 20
   pub sheet_call_20 : (a ≡ refused 20 → ⊥) → (made_number r ≡ 20) ↔ (Room o l → ⊥)
   sheet_call_20 other = call_20 o l o' l' r (sheet_first s a) call (λ e. other ((sheet_number s a 20 (omega arith)).0 e).1)
@@ -272,7 +273,7 @@ module _ (s o l o' l' : List ℕ) (r : Made) (a : Answer Pattern) (call : output
       )
 
   -- a pattern that is given stands in the outputs
-  pub sheet_call_leaves : (w b : ℕ) → r ≡ Lengths w b → (P : Pattern) → a ≡ given P → Writable P → Leaves o l o' l' w b P.automaton P.labels
+  pub sheet_call_leaves : (w b : ℕ) → r ≡ Ok (record { words = w; bytes = b }) → (P : Pattern) → a ≡ given P → Writable P → Leaves o l o' l' w b P.automaton P.labels
   sheet_call_leaves w b lengths P given-P ok =
       let f = (sheet_call_given.0 (ap made_number lengths)).1 in
       call_leaves o l o' l' r (sheet_first s a) call w b lengths P ((sheet_given s a P).1 (f, given-P)) ok

@@ -1,19 +1,19 @@
 -- What a call leaves in the two lent outputs, told of the memory afterwards: an accepted sheet at the front of one, an accepted label list at the
 -- front of the other, and all behind them as it was.
-use Rattle.std.specs.Prelude.{ℕ, ◌≤◌, List, ◌≡◌, length, take, drop}
+use Rattle.std.specs.Prelude.{ℕ, ◌≤◌, List, ◌≡◌, length, take, drop, Result, Ok, Err}
 use Rattle.automata.specs.Automaton.{Automaton}
 use Rattle.labels.specs.Labels.{labels_fault, read_labels}
 use Rattle.refusal.specs.Number.{number_of}
+use Rattle.refusal.specs.declared.Refusal.{Refusal}
 use Rattle.sheets.specs.Fault.{fault}
 use Rattle.sheets.specs.Sheet.{read}
 use Rattle.output.specs.Output.{sheet_size, labels_size}
 use Rattle.output.specs.declared.Made.{Made}
-use Rattle.output.specs.declared.Made.TheVariants.{Lengths, Refused}
 
 -- document 01's number of an answer: 0 where nothing is refused
-abbrev pub made_number : Made → ℕ
-made_number (Lengths w b) = 0
-made_number (Refused r) = number_of r
+abbrev pub made_number : Result Made Refusal → ℕ
+made_number (Ok m) = 0
+made_number (Err r) = number_of r
 
 -- the outputs have their fixed sizes
 pub record Room (o l : List ℕ) : Type 0 where

@@ -5,8 +5,6 @@ ghost use Rattle.std.specs.Prelude.{◌||◌, [], ◌∷◌, ◌≡◌, ◌+◌,
 ghost use Rattle.stores.specs.Written.{Written};
 ghost use Rattle.output.specs.Output.{labels_size, sheet_size};
 
-use refusal::Refusal;
-
 mod finding;
 mod gathering;
 mod sorting;
@@ -14,11 +12,11 @@ mod sorting;
 pub use gathering::{Filled, collect_records, gather_record};
 pub use sorting::sort_records;
 
-// The answer of an operation with two outputs: how many words the sheet takes and how many bytes the labels, or a refusal.
-#[derive(Drop)]
-pub enum Made {
-    Lengths(usize, usize),
-    Refused(Refusal),
+// What an operation has put into its two outputs: how many words the sheet takes and how many bytes the labels.
+#[derive(Clone, Copy)]
+pub struct Made {
+    pub words: usize,
+    pub bytes: usize,
 }
 
 // Whether one of the outputs is shorter than its fixed size (20).

@@ -1,4 +1,5 @@
 -- The contract of `parse_automaton` as one of a call with two outputs: the count of bytes read is left out, so that the laws of output/Left apply.
+use Rattle.std.proofs.Common.{Result, Ok, Err}
 use Prim.Native.Nat.{ℕ}
 use mathlib.Core.Bool.{Bool, true, false, cond}
 use mathlib.Core.List.{List}
@@ -10,17 +11,16 @@ use Rattle.output.specs.Left.{made_number}
 use Rattle.output.specs.Made.{output_of}
 use Rattle.output.specs.Output.{Pattern, Lengths, Outputs, outputs, room_first}
 use Rattle.output.specs.declared.Made.{Made}
-use Rattle.output.specs.declared.Made.TheVariants as made
 use Rattle.refusal.specs.Answer.{Answer, refused, given}
 use Rattle.refusal.specs.Outcome.{Outcome}
+use Rattle.refusal.specs.declared.Refusal.{Refusal}
 use Rattle.parser.specs.Parsed.{ReadLengths, parsed, parsed_of, parsed_number}
 use Rattle.parser.specs.Pattern.{Reading}
 use Rattle.parser.specs.declared.Parsed.{Parsed}
-use Rattle.parser.specs.declared.Parsed.TheVariants.{Read, Refused}
 
-abbrev pub made_of : Parsed → Made
-made_of (Read n w b) = made.Lengths w b
-made_of (Refused x) = made.Refused x
+abbrev pub made_of : Result Parsed Refusal → Result Made Refusal
+made_of (Ok p) = Ok (record { words = p.words; bytes = p.bytes })
+made_of (Err x) = Err x
 
 abbrev pub patterns_of : Answer Reading → Answer Pattern
 patterns_of (refused n) = refused n
@@ -33,13 +33,13 @@ output_lengths (given k) = given k.outputs
 abbrev outputs_of : Outcome ReadLengths Outputs → Outcome Lengths Outputs
 outputs_of x = record { answer = output_lengths x.answer; memory = x.memory }
 
-pub made_number_lem : (r : Parsed) → made_number (made_of r) ≡ parsed_number r
-made_number_lem (Read n w b) = refl
-made_number_lem (Refused x) = refl
+pub made_number_lem : (r : Result Parsed Refusal) → made_number (made_of r) ≡ parsed_number r
+made_number_lem (Ok p) = refl
+made_number_lem (Err x) = refl
 
-made_output : (r : Parsed) (o l : List ℕ) → outputs_of (parsed_of r o l) ≡ output_of (made_of r) o l
-made_output (Read n w b) o l = refl
-made_output (Refused x) o l = refl
+made_output : (r : Result Parsed Refusal) (o l : List ℕ) → outputs_of (parsed_of r o l) ≡ output_of (made_of r) o l
+made_output (Ok p) o l = refl
+made_output (Err x) o l = refl
 
 parsed_outputs : (o l : List ℕ) (a : Answer Reading) → outputs_of (parsed o l a) ≡ outputs o l (patterns_of a)
 unfolding parsed outputs
@@ -55,7 +55,7 @@ patterns_room o l a = go (ltb (length o) 10500) (ltb (length l) 16642)
     go false true = refl
     go false false = refl
 
-pub made_call : (o l o' l' : List ℕ) (r : Parsed) (a : Answer Reading) → parsed_of r o' l' ≡ parsed o l (room_first o l a)
+pub made_call : (o l o' l' : List ℕ) (r : Result Parsed Refusal) (a : Answer Reading) → parsed_of r o' l' ≡ parsed o l (room_first o l a)
     → output_of (made_of r) o' l' ≡ outputs o l (room_first o l (patterns_of a))
 made_call o l o' l' r a call =
     sym (made_output r o' l') ∙ ap outputs_of call ∙ parsed_outputs o l (room_first o l a) ∙ ap (outputs o l) (patterns_room o l a)
@@ -70,7 +70,7 @@ some_reading (refused n) P e = let z : ◌≡◌ {A = ℕ} 0 1 = cc in absurd (o
 some_reading (given R) P e = (R, refl)
 
 -- the count of bytes in an answer
-pub bytes_read : (o l o' l' : List ℕ) (n w b : ℕ) (R : Reading) → parsed_of (Read n w b) o' l' ≡ parsed o l (given R) → n ≡ R.read
+pub bytes_read : (o l o' l' : List ℕ) (n w b : ℕ) (R : Reading) → parsed_of (Ok (record { read = n; words = w; bytes = b })) o' l' ≡ parsed o l (given R) → n ≡ R.read
 unfolding parsed
 bytes_read o l o' l' n w b R e = ap (λ x. count x.answer) e
   where

@@ -14,8 +14,7 @@ use Rattle.grammar.specs.declared.pieces.Arrow.{Arrow}
 use Rattle.labels.specs.Labels.{same_label}
 use Rattle.lists.specs.Lists.{◌∈◌}
 use Rattle.lists.proofs.Index.{index_le, index_lt, index_before, index_behind, same_decides}
-use Rattle.name_table.specs.declared.Added.{Added}
-use Rattle.name_table.specs.declared.Added.TheVariants.{Kept, Full}
+use Rattle.std.proofs.Common.{Option, Some, None}
 use Rattle.output.specs.declared.gathering.Filled.{Filled}
 use Rattle.output.specs.inner.Gathering.{Open, Held, Gathered}
 use Rattle.output.specs.inner.Ordered.{records_in}
@@ -28,7 +27,6 @@ use Rattle.parser.specs.Pattern.{both_names, transition_of_move}
 use Rattle.parser.specs.inner.Arrows.{Entered, Entering, Noting, ArrowNoted}
 use Rattle.parser.specs.inner.Names.{SpeltTable, names_in, SpeltAddition}
 use Rattle.parser.specs.declared.arrows.Entry.{Entry}
-use Rattle.parser.specs.declared.arrows.Entry.TheVariants.{At as EntryAt, Full as NoEntry}
 use Rattle.parser.proofs.Tables.{added_table, added_names, added_full}
 
 -- the number of a name among names to which others are added
@@ -56,11 +54,11 @@ module _ (text t : List ℕ) (n : ℕ) (k : SpeltTable text t n) (x : TextSpan) 
       let q = add_known same_label (spelled text x) (names_in text t n) (omega (arith, e, names_count text t n)) in
       record { table = k; names = sym q; number = e ∙ ap (index same_label (spelled text x)) (sym q) }
 
-  module _ (m : List ℕ) (r : Added) (a : SpeltAddition text (add same_label (spelled text x) (names_in text t n)) m r) where
-    pub enter_full : r ≡ Full → 256 < length (add same_label (spelled text x) (names_in text t n))
+  module _ (m : List ℕ) (r : Option ℕ) (a : SpeltAddition text (add same_label (spelled text x) (names_in text t n)) m r) where
+    pub enter_full : r ≡ None → 256 < length (add same_label (spelled text x) (names_in text t n))
     enter_full q = added_full _ _ m r a q
 
-    pub enter_new : n ≤ i → (u : ℕ) → r ≡ Kept u → Entered text (spelled text x) (names_in text t n) m i u
+    pub enter_new : n ≤ i → (u : ℕ) → r ≡ Some u → Entered text (spelled text x) (names_in text t n) m i u
     enter_new h u q =
         record {
           table = added_table _ _ m r a u q;
@@ -71,15 +69,15 @@ module _ (text t : List ℕ) (n : ℕ) (k : SpeltTable text t n) (x : TextSpan) 
 pub ruleset enter_laws = (enter_known, enter_full, enter_new, rules)
 
 -- what the answer of `enter` says
-module _ (text x : List ℕ) (ls : List (List ℕ)) (t : List ℕ) (r : Entry) (a : Entering text x ls t r) where
-  pub entry_at : (i n : ℕ) → r ≡ EntryAt i n → Entered text x ls t i n
-  entry_at i n e = subst (Entering text x ls t) e a
+module _ (text x : List ℕ) (ls : List (List ℕ)) (t : List ℕ) (r : Option Entry) (a : Entering text x ls t r) where
+  pub entry_at : (i : Entry) → r ≡ Some i → Entered text x ls t i.number i.count
+  entry_at i e = subst (Entering text x ls t) e a
 
-  pub entry_none : r ≡ NoEntry → 256 < length (add same_label x ls)
+  pub entry_none : r ≡ None → 256 < length (add same_label x ls)
   entry_none e = subst (Entering text x ls t) e a
 
-  pub entry_table : (i n : ℕ) → r ≡ EntryAt i n → SpeltTable text t n
-  entry_table i n e = (entry_at i n e).table
+  pub entry_table : (i : Entry) → r ≡ Some i → SpeltTable text t i.count
+  entry_table i e = (entry_at i e).table
 
 -- the record is put, unless there are too many
 module _ (buf : List ℕ) (f : Filled) where
@@ -96,41 +94,41 @@ module _ (buf : List ℕ) (f : Filled) where
 pub ruleset note_laws = (note_room, note_over, note_more, rules)
 
 -- the names of a transition, one after the other: r is the answer for the first
-module _ (text : List ℕ) (e : Arrow) (ls : List (List ℕ)) (t : List ℕ) (r : Entry) (a : Entering text (spelled text e.from) ls t r) where
-  pub first_full : r ≡ NoEntry → 256 < length (meet same_label (both_names (spell_move text e)) ls)
+module _ (text : List ℕ) (e : Arrow) (ls : List (List ℕ)) (t : List ℕ) (r : Option Entry) (a : Entering text (spelled text e.from) ls t r) where
+  pub first_full : r ≡ None → 256 < length (meet same_label (both_names (spell_move text e)) ls)
   unfolding meet
   first_full q = omega (arith, entry_none _ _ _ _ r a q, extends_length (meet_extends same_label (spelled text e.to ∷ []) (add same_label (spelled text e.from) ls)))
 
-  module _ (from n : ℕ) (q : r ≡ EntryAt from n) (u : List ℕ) (s : Entry) (b : Entering text (spelled text e.to) (names_in text t n) u s) where
-    one : Entered text (spelled text e.from) ls t from n
-    one = entry_at _ _ _ _ r a from n q
+  module _ (from : Entry) (q : r ≡ Some from) (u : List ℕ) (s : Option Entry) (b : Entering text (spelled text e.to) (names_in text t from.count) u s) where
+    one : Entered text (spelled text e.from) ls t from.number from.count
+    one = entry_at _ _ _ _ r a from q
 
-    both : add same_label (spelled text e.to) (names_in text t n) ≡ meet same_label (both_names (spell_move text e)) ls
+    both : add same_label (spelled text e.to) (names_in text t from.count) ≡ meet same_label (both_names (spell_move text e)) ls
     unfolding meet
     both = ap (add same_label (spelled text e.to)) one.names
 
-    pub second_full : s ≡ NoEntry → 256 < length (meet same_label (both_names (spell_move text e)) ls)
+    pub second_full : s ≡ None → 256 < length (meet same_label (both_names (spell_move text e)) ls)
     second_full p = omega (arith, entry_none _ _ _ _ s b p, ap length both)
 
-    module _ (to k : ℕ) (p : s ≡ EntryAt to k) where
-      two : Entered text (spelled text e.to) (names_in text t n) u to k
-      two = entry_at _ _ _ _ s b to k p
+    module _ (to : Entry) (p : s ≡ Some to) where
+      two : Entered text (spelled text e.to) (names_in text t from.count) u to.number to.count
+      two = entry_at _ _ _ _ s b to p
 
-      all : names_in text u k ≡ meet same_label (both_names (spell_move text e)) ls
+      all : names_in text u to.count ≡ meet same_label (both_names (spell_move text e)) ls
       all = two.names ∙ both
 
-      from_number : from ≡ index same_label (spelled text e.from) (names_in text u k)
+      from_number : from.number ≡ index same_label (spelled text e.from) (names_in text u to.count)
       unfolding meet
       from_number =
           one.number
           ∙ sym (ap (index same_label (spelled text e.from)) all
           ∙ number_stays (spelled text e.from) (spelled text e.to ∷ []) (add same_label (spelled text e.from) ls) (added_in (spelled text e.from) ls))
 
-      to_number : to ≡ index same_label (spelled text e.to) (names_in text u k)
+      to_number : to.number ≡ index same_label (spelled text e.to) (names_in text u to.count)
       to_number = two.number ∙ ap (index same_label (spelled text e.to)) (sym two.names)
 
-      pub both_noted : (old : List ℕ) (f : Filled) (new : List ℕ) (g : Filled) → Noting old f (record { from = from; kind = 1; first = e.first; last = e.last; to = to }) new g
-          → ArrowNoted text (spell_move text e) ls u old f new k g
+      pub both_noted : (old : List ℕ) (f : Filled) (new : List ℕ) (g : Filled) → Noting old f (record { from = from.number; kind = 1; first = e.first; last = e.last; to = to.number }) new g
+          → ArrowNoted text (spell_move text e) ls u old f new to.count g
       both_noted old f new g h = record { table = two.table; names = all; noting = rw (← from_number, ← to_number) h }
 
 pub from_drawn : (text : List ℕ) (e : Arrow) → Drawn text e → Spelt text e.from

@@ -14,8 +14,8 @@ use Rattle.grammar.specs.Grammar.{Items, next_name, next_names}
 use Rattle.grammar.specs.Places.{spelled}
 use Rattle.grammar.specs.inner.Pieces.{name_of}
 use Rattle.grammar.specs.declared.tokens.TextSpan.{TextSpan}
-use Rattle.grammar.specs.declared.tokens.NamePiece.{NamePiece}
-use Rattle.grammar.specs.declared.tokens.NamePiece.TheVariants.{Read as NameRead, Nothing as NoName}
+use Rattle.grammar.specs.declared.tokens.Cursor.{Cursor}
+use Rattle.std.proofs.Common.{Option, Some, None}
 use Rattle.grammar.proofs.Many.{names_ended, names_more}
 use Rattle.lists.specs.Lists.{any, Distinct}
 use Rattle.lists.proofs.Tests.{test}
@@ -54,15 +54,15 @@ module _ (t b : List ℕ) (n : ℕ) (k : SpeltTable t b n) (x : TextSpan) (ws : 
 pub ruleset mark_laws = (mark_none, mark_set, among_not, among_is, mark_room, length-set, rules)
 
 -- the words ws are marked up to the place, and p is what is read there
-module _ (t : List ℕ) (at : ℕ) (p : NamePiece) (told : name_of p ≡ next_name t at) (ls : List (List ℕ)) (ws all : List ℕ)
+module _ (t : List ℕ) (at : ℕ) (p : Option (TextSpan × Cursor)) (told : name_of p ≡ next_name t at) (ls : List (List ℕ)) (ws all : List ℕ)
     (i : mark_all t ls ws (next_names t at).items ≡ all) where
-  pub marks_ended : p ≡ NoName → ws ≡ all
+  pub marks_ended : p ≡ None → ws ≡ all
   unfolding mark_all
   marks_ended h = sym (sym i ∙ ap (λ (m : Items TextSpan). mark_all t ls ws m.items) (names_ended t at p told h))
 
-  pub marks_next : (x : TextSpan) (next : ℕ) → p ≡ NameRead x (record { at = next }) → (m : List ℕ) → m ≡ mark_one t ls ws x → mark_all t ls m (next_names t next).items ≡ all
+  pub marks_next : (x : TextSpan) (next : Cursor) → p ≡ Some (x, next) → (m : List ℕ) → m ≡ mark_one t ls ws x → mark_all t ls m (next_names t next.at).items ≡ all
   unfolding mark_all
-  marks_next x next h m q = sym (sym i ∙ ap (λ (k : Items TextSpan). mark_all t ls ws k.items) (names_more t at p told x (record { at = next }) h) ∙ ap (λ (v : List ℕ). mark_all t ls v (next_names t next).items) (sym q))
+  marks_next x next h m q = sym (sym i ∙ ap (λ (k : Items TextSpan). mark_all t ls ws k.items) (names_more t at p told x next h) ∙ ap (λ (v : List ℕ). mark_all t ls v (next_names t next.at).items) (sym q))
 
 pub marks_first : (t : List ℕ) (ls : List (List ℕ)) (ws m n : List ℕ) (x : TextSpan) (xs : List TextSpan) → m ≡ mark_one t ls ws x → n ≡ mark_all t ls m xs → n ≡ mark_all t ls ws (x ∷ xs)
 unfolding mark_all

@@ -18,15 +18,12 @@ use Rattle.grammar.specs.inner.Pieces.{arrow_of}
 use Rattle.grammar.specs.declared.tokens.Cursor.{Cursor}
 use Rattle.grammar.specs.declared.tokens.TextSpan.{TextSpan}
 use Rattle.grammar.specs.declared.pieces.Arrow.{Arrow}
-use Rattle.grammar.specs.declared.pieces.ArrowPiece.{ArrowPiece}
-use Rattle.grammar.specs.declared.pieces.ArrowPiece.TheVariants.{Read as ArrowRead, Nothing as NoArrow}
 use Rattle.grammar.proofs.Many.{arrows_ended, arrows_more, arrows_less, arrow_drawn}
 use Rattle.labels.specs.Labels.{same_label}
 use Rattle.lists.specs.Lists.{◌∈◌, tabulate}
 use Rattle.lists.proofs.Index.{same_decides}
 use Rattle.lists.proofs.Tests.{test}
-use Rattle.name_table.specs.declared.Added.{Added}
-use Rattle.name_table.specs.declared.Added.TheVariants.{Kept, Full}
+use Rattle.std.proofs.Common.{Option, Some, None}
 use Rattle.stores.specs.Written.{Written}
 use Rattle.stores.proofs.Written.{written_length}
 use Rattle.output.proofs.Halves.{in_order_length}
@@ -47,7 +44,6 @@ use Rattle.parser.specs.declared.arrows.Begun.{Begun}
 use Rattle.parser.specs.declared.arrows.Begun.TheVariants.{Ended, Stopped}
 use Rattle.parser.specs.declared.arrows.Stop.{Stop}
 use Rattle.parser.specs.declared.arrows.Noted.{Noted}
-use Rattle.parser.specs.declared.arrows.Noted.TheVariants.{At as NotedAt, Full as NotNoted}
 use Rattle.parser.proofs.Entering.{transition_stays}
 use Rattle.parser.proofs.Tables.{table_none, added_table, added_names, added_full}
 
@@ -76,11 +72,11 @@ going_begin text t buf at n k h =
     record { table = k; place = refl; names = refl; held = record { memory = h; room = λ l. r.room }; left = λ l. r; over = λ l. absurd (omega (arith, h.some)) }
 
 -- what the answer of `note_arrow` says
-module _ (text : List ℕ) (m : Move) (ls : List (List ℕ)) (t old : List ℕ) (f : Filled) (new : List ℕ) (r : Noted) (a : ArrowNoting text m ls t old f new r) where
-  noted_at : (n : ℕ) (g : Filled) → r ≡ NotedAt n g → ArrowNoted text m ls t old f new n g
-  noted_at n g e = subst (ArrowNoting text m ls t old f new) e a
+module _ (text : List ℕ) (m : Move) (ls : List (List ℕ)) (t old : List ℕ) (f : Filled) (new : List ℕ) (r : Option Noted) (a : ArrowNoting text m ls t old f new r) where
+  noted_at : (g : Noted) → r ≡ Some g → ArrowNoted text m ls t old f new g.count g.filled
+  noted_at g e = subst (ArrowNoting text m ls t old f new) e a
 
-  noted_full : r ≡ NotNoted → 256 < length (meet same_label (both_names m) ls)
+  noted_full : r ≡ None → 256 < length (meet same_label (both_names m) ls)
   noted_full e = subst (ArrowNoting text m ls t old f new) e a
 
 module _ (text : List ℕ) (start : ℕ) (ls : List (List ℕ)) (t buf : List ℕ) (at n : ℕ) (f : Filled) (g : ReadInvariant text start ls t buf at n f) where
@@ -91,8 +87,8 @@ module _ (text : List ℕ) (start : ℕ) (ls : List (List ℕ)) (t buf : List �
   going_held = g.held
 
   -- p is what is read at the place
-  module _ (p : ArrowPiece) (told : arrow_of p ≡ transition text (space text at)) where
-    module _ (h : p ≡ NoArrow) where
+  module _ (p : Option (Arrow × Cursor)) (told : arrow_of p ≡ transition text (space text at)) where
+    module _ (h : p ≡ None) where
       ended : transitions text at ≡ record { items = []; behind = at }
       ended = arrows_ended text at p told h
 
@@ -110,7 +106,7 @@ module _ (text : List ℕ) (start : ℕ) (ls : List (List ℕ)) (t buf : List �
           (λ (l : length buf ≤ f.end). record { held = g.held; same = λ k. absurd (omega arith); over = λ k. g.over k })
           (below_or f.end (length buf))
 
-      pub going_ended : Fitting buf f → ArrowsRead text start ls t buf (record { behind = record { at = at }; added = Kept n; filled = f })
+      pub going_ended : Fitting buf f → ArrowsRead text start ls t buf (record { behind = record { at = at }; added = Some n; filled = f })
       unfolding all_names numbered_transitions
       going_ended u =
           record {
@@ -122,7 +118,7 @@ module _ (text : List ℕ) (start : ℕ) (ls : List (List ℕ)) (t buf : List �
             fitting = λ k e. u;
           }
 
-    module _ (e : Arrow) (next : Cursor) (h : p ≡ ArrowRead e next) (m new : List ℕ) (r : Noted)
+    module _ (e : Arrow) (next : Cursor) (h : p ≡ Some (e, next)) (m new : List ℕ) (r : Option Noted)
         (a : ArrowNoting text (spell_move text e) (names_in text t n) m buf f new r) where
       moved : transitions text at ≡ record { items = e ∷ (transitions text next.at).items; behind = (transitions text next.at).behind }
       moved = arrows_more text at p told e next h
@@ -136,7 +132,7 @@ module _ (text : List ℕ) (start : ℕ) (ls : List (List ℕ)) (t buf : List �
       moved_place : (transitions text next.at).behind ≡ (transitions text start).behind
       moved_place = sym (ap (λ (i : Items Arrow). i.behind) moved) ∙ g.place
 
-      pub going_full : r ≡ NotNoted → (c : Cursor) → c.at ≡ (transitions text next.at).behind → ArrowsRead text start ls m new (record { behind = c; added = Full; filled = f })
+      pub going_full : r ≡ None → (c : Cursor) → c.at ≡ (transitions text next.at).behind → ArrowsRead text start ls m new (record { behind = c; added = None; filled = f })
       unfolding all_names
       going_full q c b =
           let l = noted_full _ _ _ _ _ _ _ r a q in
@@ -148,21 +144,21 @@ module _ (text : List ℕ) (start : ℕ) (ls : List (List ℕ)) (t buf : List �
             fitting = λ k z. let y : ◌≡◌ {A = ℕ} 0 1 = cc in absurd (omega arith);
           }
 
-      module _ (u : ℕ) (d : Filled) (q : r ≡ NotedAt u d) where
-        noted : ArrowNoted text (spell_move text e) (names_in text t n) m buf f new u d
-        noted = noted_at _ _ _ _ _ _ _ r a u d q
+      module _ (d : Noted) (q : r ≡ Some d) where
+        noted : ArrowNoted text (spell_move text e) (names_in text t n) m buf f new d.count d.filled
+        noted = noted_at _ _ _ _ _ _ _ r a d q
 
-        next_names_lem : all_names text next.at (names_in text m u) ≡ all_names text start ls
+        next_names_lem : all_names text next.at (names_in text m d.count) ≡ all_names text start ls
         next_names_lem = ap (all_names text next.at) noted.names ∙ sym moved_names
 
         -- the record is that between the final numbers
         abbrev e' : Transition
         e' = transition_of_move (all_names text start ls) (spell_move text e)
 
-        final : transition_of_move (names_in text m u) (spell_move text e) ≡ e'
+        final : transition_of_move (names_in text m d.count) (spell_move text e) ≡ e'
         unfolding all_names
         final =
-            transition_stays (spell_move text e) (names_of (moves_at text next.at)) (names_in text m u)
+            transition_stays (spell_move text e) (names_of (moves_at text next.at)) (names_in text m d.count)
             (subst (λ (T : List (List ℕ)). spelled text e.from ∈ T) (sym noted.names) (meet_in same_label same_decides (both_names (spell_move text e)) (names_in text t n) _ (Memᴰ.head refl)))
             (subst (λ (T : List (List ℕ)). spelled text e.to ∈ T) (sym noted.names) (meet_in same_label same_decides (both_names (spell_move text e)) (names_in text t n) _ (Memᴰ.tail (Memᴰ.head refl))))
             ∙ ap (λ (T : List (List ℕ)). transition_of_move T (spell_move text e)) next_names_lem
@@ -174,27 +170,27 @@ module _ (text : List ℕ) (start : ℕ) (ls : List (List ℕ)) (t buf : List �
             subst (λ (i : Items Arrow). Rest buf f.sorted f.end (map (transition_of_move (all_names text start ls)) (map (spell_move text) i.items)) (numbered_transitions text start (all_names text start ls))) moved
             (g.left l)
 
-        put : f.end < length buf → Gathered new d.sorted d.end (records_in buf 0 f.end ++ e' ∷ [])
-        put l = subst (λ (x : Transition). Gathered new d.sorted d.end (records_in buf 0 f.end ++ x ∷ [])) final (noted.noting.more l)
+        put : f.end < length buf → Gathered new d.filled.sorted d.filled.end (records_in buf 0 f.end ++ e' ∷ [])
+        put l = subst (λ (x : Transition). Gathered new d.filled.sorted d.filled.end (records_in buf 0 f.end ++ x ∷ [])) final (noted.noting.more l)
 
-        low : d.end < length new → f.end < length buf
+        low : d.filled.end < length new → f.end < length buf
         low l = ⊎_elim (λ (o : f.end < length buf). o) (λ (o : length buf ≤ f.end). absurd (omega (arith, noted.noting.over o))) (below_or f.end (length buf))
 
-        pub going_next : ReadInvariant text start ls m new next.at u d
+        pub going_next : ReadInvariant text start ls m new next.at d.count d.filled
         going_next =
             record {
               table = noted.table;
               place = moved_place;
               names = next_names_lem;
               held = noted.noting.held;
-              left = λ l. let o = low l in rest_next buf f.sorted f.end _ (e' ∷ []) _ (parts o) new d.sorted d.end (put o) l;
+              left = λ l. let o = low l in rest_next buf f.sorted f.end _ (e' ∷ []) _ (parts o) new d.filled.sorted d.filled.end (put o) l;
               over = λ l.
-                  ⊎_elim (λ (o : f.end < length buf). (rest_over buf f.sorted f.end _ (e' ∷ []) _ (parts o) new d.sorted d.end (put o) l).over l)
+                  ⊎_elim (λ (o : f.end < length buf). (rest_over buf f.sorted f.end _ (e' ∷ []) _ (parts o) new d.filled.sorted d.filled.end (put o) l).over l)
                   (λ (o : length buf ≤ f.end). let z = g.over o in omega (arith, noted.noting.long)) (below_or f.end (length buf));
             }
 
-        pub going_room : f.end < length buf / 9 * 8 → d.end < length new
-        going_room l = note_few buf new f d _ g.held l noted.noting
+        pub going_room : f.end < length buf / 9 * 8 → d.filled.end < length new
+        going_room l = note_few buf new f d.filled _ g.held l noted.noting
 
   pub going_stopped : f.end < length buf → StoppedAt text start ls t buf (record { cursor = record { at = at }; count = n; filled = f })
   going_stopped l = record { going = g; room = l }
@@ -224,23 +220,23 @@ module _ (text t₀ buf₀ : List ℕ) (at₀ n₀ : ℕ) (f₀ : Filled) (t buf
   pub carry_held : Held buf f.sorted f.end
   carry_held = g.held
 
-  module _ (p : ArrowPiece) (told : arrow_of p ≡ transition text (space text at)) where
-    pub carry_ended : p ≡ NoArrow → Continuing text t₀ buf₀ at₀ n₀ f₀ t buf (record { behind = record { at = at }; added = Kept n; filled = f })
+  module _ (p : Option (Arrow × Cursor)) (told : arrow_of p ≡ transition text (space text at)) where
+    pub carry_ended : p ≡ None → Continuing text t₀ buf₀ at₀ n₀ f₀ t buf (record { behind = record { at = at }; added = Some n; filled = f })
     carry_ended h = record { all = λ start ls i. going_ended text start ls t buf at n f (g.all start ls i) p told h (record { short = λ k. absurd (omega (arith, g.large)) }) }
 
-    module _ (e : Arrow) (next : Cursor) (h : p ≡ ArrowRead e next) (m new : List ℕ) (r : Noted)
+    module _ (e : Arrow) (next : Cursor) (h : p ≡ Some (e, next)) (m new : List ℕ) (r : Option Noted)
         (a : ArrowNoting text (spell_move text e) (names_in text t n) m buf f new r) where
-      pub carry_full : r ≡ NotNoted → (c : Cursor) → c.at ≡ (transitions text next.at).behind → Continuing text t₀ buf₀ at₀ n₀ f₀ m new (record { behind = c; added = Full; filled = f })
+      pub carry_full : r ≡ None → (c : Cursor) → c.at ≡ (transitions text next.at).behind → Continuing text t₀ buf₀ at₀ n₀ f₀ m new (record { behind = c; added = None; filled = f })
       carry_full q c b = record { all = λ start ls i. going_full text start ls t buf at n f (g.all start ls i) p told e next h m new r a q c b }
 
-      pub carry_next : (u : ℕ) (d : Filled) → r ≡ NotedAt u d → ReadOnInvariant text t₀ buf₀ at₀ n₀ f₀ m new next.at u d
-      carry_next u d q =
-          let k = noted_at _ _ _ _ _ _ _ r a u d q in
+      pub carry_next : (d : Noted) → r ≡ Some d → ReadOnInvariant text t₀ buf₀ at₀ n₀ f₀ m new next.at d.count d.filled
+      carry_next d q =
+          let k = noted_at _ _ _ _ _ _ _ r a d q in
           record {
             table = k.table;
             held = k.noting.held;
             large = k.noting.long ∙ g.large;
-            all = λ start ls i. going_next text start ls t buf at n f (g.all start ls i) p told e next h m new r a u d q;
+            all = λ start ls i. going_next text start ls t buf at n f (g.all start ls i) p told e next h m new r a d q;
           }
 
 pub ruleset carry_laws = (carry_begin, carry_table, carry_held, carry_ended, carry_full, carry_next, arrows_less, arrow_drawn, rules)
@@ -323,15 +319,15 @@ module _ (text : List ℕ) (at : ℕ) (ls : List (List ℕ)) (t buf : List ℕ) 
   begun_stopped s e = subst (Beginning text at ls t buf) e a
 
 -- the name of the initial state in an empty table
-module _ (text b m : List ℕ) (x : TextSpan) (r : Added) (a : SpeltAddition text (add same_label (spelled text x) (names_in text b 0)) m r) where
+module _ (text b m : List ℕ) (x : TextSpan) (r : Option ℕ) (a : SpeltAddition text (add same_label (spelled text x) (names_in text b 0)) m r) where
   one_name : add same_label (spelled text x) (names_in text b 0) ≡ spelled text x ∷ []
   unfolding add names_in tabulate index
   one_name = refl
 
-  pub start_full : r ≡ Full → (at : ℕ) (buf : List ℕ) (q : Begun) → Beginning text at (spelled text x ∷ []) m buf q
+  pub start_full : r ≡ None → (at : ℕ) (buf : List ℕ) (q : Begun) → Beginning text at (spelled text x ∷ []) m buf q
   start_full e at buf q = let h = added_full _ _ m r a e in absurd (omega (arith, ap length one_name))
 
-  pub start_kept : (n : ℕ) → r ≡ Kept n → (at : ℕ) (o buf : List ℕ) (q : Begun) → Beginning text at (names_in text m n) o buf q → Beginning text at (spelled text x ∷ []) o buf q
+  pub start_kept : (n : ℕ) → r ≡ Some n → (at : ℕ) (o buf : List ℕ) (q : Begun) → Beginning text at (names_in text m n) o buf q → Beginning text at (spelled text x ∷ []) o buf q
   start_kept n e at o buf q h = subst (λ (ls : List (List ℕ)). Beginning text at ls o buf q) (added_names _ _ m r a n e ∙ one_name) h
 
 pub ruleset start_laws = (table_none, start_full, start_kept, added_table, rules)

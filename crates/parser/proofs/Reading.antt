@@ -8,6 +8,7 @@ use native.Mathlib.Omega.{arith}
 use borrow.Author.Rules.{rules}
 use borrow.Author.Tests.{le-ltb, lt-ltb, not-true, not-false}
 use lib.Dec.{ltb}
+use Rattle.std.proofs.Common.{Option, Some, None, Ok, Err}
 use lib.ListN.{length, take, drop, length-map, length-take, length-drop}
 use Rattle.grammar.specs.Grammar.{ReadResult, TextParts, next_names}
 use Rattle.grammar.specs.Places.{spelled}
@@ -16,13 +17,8 @@ use Rattle.grammar.specs.inner.Pieces.{name_of, accepting_of}
 use Rattle.grammar.specs.inner.Places.{Spelt, Laid}
 use Rattle.grammar.specs.declared.tokens.Cursor.{Cursor}
 use Rattle.grammar.specs.declared.tokens.TextSpan.{TextSpan}
-use Rattle.grammar.specs.declared.tokens.NamePiece.{NamePiece}
-use Rattle.grammar.specs.declared.tokens.NamePiece.TheVariants.{Read as NameRead, Nothing as NoName}
-use Rattle.grammar.specs.declared.pieces.AcceptingPiece.{AcceptingPiece}
-use Rattle.grammar.specs.declared.pieces.AcceptingPiece.TheVariants.{Read as AcceptingRead, Nothing as NoAccepting}
 use Rattle.grammar.specs.declared.text.Layout.{Layout}
 use Rattle.grammar.proofs.Parts.{opens_nothing, opens_found, start_spelt, closes_nothing, closes_found, first_spelt}
-use Rattle.name_table.specs.declared.Added.TheVariants.{Kept, Full}
 use Rattle.stores.specs.Written.{Written}
 use Rattle.stores.proofs.Written.{written_append}
 use Rattle.automata.specs.Automaton.{Transition}
@@ -57,7 +53,6 @@ use Rattle.parser.specs.inner.Records.{Recorded}
 use Rattle.parser.specs.Pattern.{names_of, states_of, transition_of_move, accept_word, automaton_of, pattern_of, Reading}
 use Rattle.parser.specs.Pattern.{few_transitions, within_limits, is_among, accepts_first, meant, meaning, reading_answer, parse_answer}
 use Rattle.parser.specs.inner.Places.{said_at, moves_at, transitions_at, pattern_at}
-use Rattle.parser.specs.declared.Parsed.TheVariants.{Read, Refused}
 use Rattle.parser.specs.declared.arrows.Arrows.{Arrows}
 use Rattle.parser.proofs.ReadInvariant.{below_or}
 use Rattle.parser.proofs.Marking.{words_inside, words_counted, words_marked}
@@ -70,7 +65,7 @@ sheet_written l m n o q ws rs i j k r x a b c d =
     written_append l m q (1 ∷ 0 ∷ length ws ∷ []) (ws ++ x ∷ rs) 0 i r a (written_append m n q ws (x ∷ rs) i j r b (written_append n o q (x ∷ []) rs j k r c d))
 
 -- the sheet and the labels at the fronts of the outputs
-parsed_given : (o l o' l' : List ℕ) (n w k : ℕ) (P : Pattern) → Written o 0 (write P.automaton) o' w → Written l 0 (write_labels P.labels) l' k → parsed_of (Read n w k) o' l' ≡ parsed o l (given (record { pattern = P; read = n }))
+parsed_given : (o l o' l' : List ℕ) (n w k : ℕ) (P : Pattern) → Written o 0 (write P.automaton) o' w → Written l 0 (write_labels P.labels) l' k → parsed_of (Ok (record { read = n; words = w; bytes = k })) o' l' ≡ parsed o l (given (record { pattern = P; read = n }))
 unfolding parsed
 parsed_given o l o' l' n w k P p q =
     let a : w ≡ length (write P.automaton) = omega (arith, p.behind) in
@@ -87,7 +82,7 @@ module _ (t : List ℕ) (l : Layout) (b : List ℕ) (i : ℕ) (k : SpeltTable t 
   pub pattern_written : (ws rs o o' n n' : List ℕ) (c w j : ℕ) → ws ≡ map (accept_word (said_at t l).accepts) (names_in t b i)
       → Recorded rs (transitions_at t l (names_in t b i)) → Written o 0 (1 ∷ 0 ∷ length ws ∷ (ws ++ length rs / 5 ∷ rs)) o' w
       → Written n 0 (write_labels (names_in t b i)) n' j
-      → parsed_of (Read c w j) o' n' ≡ parsed o n (given (record { pattern = pattern_at t l (names_in t b i); read = c }))
+      → parsed_of (Ok (record { read = c; words = w; bytes = j })) o' n' ≡ parsed o n (given (record { pattern = pattern_at t l (names_in t b i); read = c }))
   unfolding automaton_of spell
   pattern_written ws rs o o' n n' c w j x g p q =
       let es = transitions_at t l (names_in t b i) in
@@ -101,7 +96,7 @@ module _ (t : List ℕ) (l : Layout) (b : List ℕ) (i : ℕ) (k : SpeltTable t 
 
   -- an accepting name is no state, or all are
   module _ (r : Bool) (e : r ≡ all (is_among (names_in t b i)) (map (spelled t) (l.first ∷ (next_names t l.more.at).items))) where
-    pub over_33 : not r ≡ true → (o n : List ℕ) (a : Answer Reading) → parsed_of (Refused (Input AcceptingName)) o n ≡ parsed o n (accepts_first (said_at t l).accepts (names_in t b i) a)
+    pub over_33 : not r ≡ true → (o n : List ℕ) (a : Answer Reading) → parsed_of (Err (Input AcceptingName)) o n ≡ parsed o n (accepts_first (said_at t l).accepts (names_in t b i) a)
     unfolding parsed accepts_first spell
     over_33 h o n a = sym (rw (sym e ∙ not-true r h))
 
@@ -130,7 +125,7 @@ module _ (t : List ℕ) (l : Layout) (ls : List (List ℕ)) (old : List ℕ) (f 
           omega (arith, a.over h, z, ap length (g.same r), records_count old f.sorted f.end (g.held.room r))
 
   pub over_22 : Fitting old f → length buf ≡ length old → length buf / 9 * 8 < end → (o n : List ℕ) (c : ℕ)
-      → parsed_of (Refused (State Transitions)) o n ≡ parsed o n (few_transitions (pattern_at t l ls) c)
+      → parsed_of (Err (State Transitions)) o n ≡ parsed o n (few_transitions (pattern_at t l ls) c)
   unfolding parsed few_transitions transitions_first automaton_of spell
   over_22 u z h o n c = sym (rw (lt-ltb 2048 (length (transitions_at t l ls)) (many u z h)))
 
@@ -157,12 +152,12 @@ module _ (t : List ℕ) (l : Layout) (r : Bool)
 
 -- 8, 21, or what follows: the initial state is x, the transitions go on from arrows, r is what was read of them and q what closes the text
 module _ (t : List ℕ) (x : TextSpan) (arrows : Cursor) (b buf : List ℕ) (r : Arrows) (a : ArrowsRead t arrows.at (spelled t x ∷ []) b buf r)
-    (q : AcceptingPiece) (told : accepting_of t q ≡ closing t r.behind.at) where
-  pub open_8 : q ≡ NoAccepting → (o n : List ℕ) → parsed_of (Refused (Input Grammar)) o n ≡ parsed o n (meaning t (told_from t x arrows.at))
+    (q : Option (TextSpan × Cursor × Cursor)) (told : accepting_of t q ≡ closing t r.behind.at) where
+  pub open_8 : q ≡ None → (o n : List ℕ) → parsed_of (Err (Input Grammar)) o n ≡ parsed o n (meaning t (told_from t x arrows.at))
   unfolding parsed
   open_8 e o n = sym (ap (λ (f : ReadResult TextParts). parsed o n (meaning t f)) (closes_nothing t x arrows r.behind.at a.behind q told e))
 
-  module _ (first : TextSpan) (more c : Cursor) (e : q ≡ AcceptingRead first more c) where
+  module _ (first : TextSpan) (more c : Cursor) (e : q ≡ Some (first, more, c)) where
     abbrev l : Layout
     l = record { initial = x; arrows = arrows; first = first; more = more }
 
@@ -176,7 +171,7 @@ module _ (t : List ℕ) (x : TextSpan) (arrows : Cursor) (b buf : List ℕ) (r :
     unfolding states_of spell
     said_states = refl
 
-    many_states : r.added ≡ Full → meant (said_at t l) c.at ≡ refused (cond (all (is_among (states_of (said_at t l))) (said_at t l).accepts) 21 33)
+    many_states : r.added ≡ None → meant (said_at t l) c.at ≡ refused (cond (all (is_among (states_of (said_at t l))) (said_at t l).accepts) 21 33)
     unfolding meant accepts_first within_limits states_first pattern_of automaton_of
     many_states f =
         rw (lt-ltb 256 (length (states_of (said_at t l))) (omega (arith, ap length said_states, added_full _ _ b r.added a.names f)))
@@ -186,12 +181,12 @@ module _ (t : List ℕ) (x : TextSpan) (arrows : Cursor) (b buf : List ℕ) (r :
         either true = refl
         either false = refl
 
-    pub over_21 : r.added ≡ Full → (v : Refusal) → number_of v ≡ cond (all (is_among (states_of (said_at t l))) (said_at t l).accepts) 21 33
-        → (o n : List ℕ) → parsed_of (Refused v) o n ≡ parsed o n (meaning t (told_from t x arrows.at))
+    pub over_21 : r.added ≡ None → (v : Refusal) → number_of v ≡ cond (all (is_among (states_of (said_at t l))) (said_at t l).accepts) 21 33
+        → (o n : List ℕ) → parsed_of (Err v) o n ≡ parsed o n (meaning t (told_from t x arrows.at))
     unfolding parsed
     over_21 f v e o n = ap (λ (k : ℕ). parsed o n (refused k)) e ∙ sym (ap (parsed o n) (closed ∙ many_states f))
 
-    module _ (i : ℕ) (f : r.added ≡ Kept i) where
+    module _ (i : ℕ) (f : r.added ≡ Some i) where
       names_states : names_in t b i ≡ states_of (said_at t l)
       names_states = added_names _ _ b r.added a.names i f ∙ sym said_states
 
@@ -215,16 +210,16 @@ module _ (t : List ℕ) (x : TextSpan) (arrows : Cursor) (b buf : List ℕ) (r :
 
 -- 20, 8, or what follows
 module _ (t o n : List ℕ) (f : Bool) (room : f ≡ (ltb (length o) 10500 || ltb (length n) 16642)) where
-  pub over_20 : f ≡ true → parsed_of (Refused (State OutputLength)) o n ≡ parsed o n (parse_answer t o n)
+  pub over_20 : f ≡ true → parsed_of (Err (State OutputLength)) o n ≡ parsed o n (parse_answer t o n)
   unfolding parsed parse_answer
   over_20 h = sym (ap (parsed o n) (room_lacking o n (reading_answer t) f room h))
 
-  module _ (h : f ≡ false) (p : NamePiece) (told : name_of p ≡ opening t) where
-    pub outside_8 : p ≡ NoName → parsed_of (Refused (Input Grammar)) o n ≡ parsed o n (parse_answer t o n)
+  module _ (h : f ≡ false) (p : Option (TextSpan × Cursor)) (told : name_of p ≡ opening t) where
+    pub outside_8 : p ≡ None → parsed_of (Err (Input Grammar)) o n ≡ parsed o n (parse_answer t o n)
     unfolding parsed reading_answer parse_answer
     outside_8 e = sym (ap (parsed o n) (room_enough o n (reading_answer t) f room h ∙ ap (meaning t) (opens_nothing t p told e)))
 
-    pub text_read : (x : TextSpan) (c : Cursor) → p ≡ NameRead x c → (y : Outcome ReadLengths Outputs) → y ≡ parsed o n (meaning t (told_from t x c.at)) → y ≡ parsed o n (parse_answer t o n)
+    pub text_read : (x : TextSpan) (c : Cursor) → p ≡ Some (x, c) → (y : Outcome ReadLengths Outputs) → y ≡ parsed o n (meaning t (told_from t x c.at)) → y ≡ parsed o n (parse_answer t o n)
     unfolding reading_answer parse_answer
     text_read x c e y q = q ∙ sym (ap (parsed o n) (room_enough o n (reading_answer t) f room h ∙ ap (meaning t) (opens_found t p told x c e)))
 

@@ -12,11 +12,8 @@ use Rattle.grammar.specs.Grammar.{Items, space, transition, transitions, next_na
 use Rattle.grammar.specs.Places.{spelled}
 use Rattle.grammar.specs.inner.Pieces.{arrow_of, name_of}
 use Rattle.grammar.specs.declared.pieces.Arrow.{Arrow}
-use Rattle.grammar.specs.declared.pieces.ArrowPiece.{ArrowPiece}
-use Rattle.grammar.specs.declared.pieces.ArrowPiece.TheVariants.{Read as ArrowRead, Nothing as NoArrow}
+use Rattle.grammar.specs.declared.tokens.Cursor.{Cursor}
 use Rattle.grammar.specs.declared.tokens.TextSpan.{TextSpan}
-use Rattle.grammar.specs.declared.tokens.NamePiece.{NamePiece}
-use Rattle.grammar.specs.declared.tokens.NamePiece.TheVariants.{Read as NameRead, Nothing as NoName}
 use Rattle.grammar.proofs.Many.{arrows_ended, arrows_more, arrows_less, arrow_drawn, names_ended, names_more, names_less, name_spelt}
 use Rattle.labels.specs.Labels.{same_label}
 use Rattle.lists.specs.Lists.{any, all, tabulate}
@@ -24,8 +21,7 @@ use Rattle.lists.proofs.Every.{all_ext}
 use Rattle.lists.proofs.Index.{same_decides}
 use Rattle.lists.proofs.Parts.{drop_at}
 use Rattle.search.specs.Search.{add, meet}
-use Rattle.name_table.specs.declared.Added.{Added}
-use Rattle.name_table.specs.declared.Added.TheVariants.{Kept, Full}
+use Rattle.std.proofs.Common.{Option, Some, None}
 use Rattle.name_table.proofs.Finding.{names_count}
 use Rattle.search.proofs.Tables.{add_length, meet_all, meet_any}
 use Rattle.syntax.specs.Spelled.{spell_move}
@@ -46,20 +42,20 @@ pub names_lost : (t : List ℕ) (f : List ℕ → Bool) (at : ℕ) (k total : Bo
 names_lost t f at k total i h next = ap (λ b. b && all f (names_from t next)) h ∙ ap (λ b. b && all f (names_from t at)) (sym h) ∙ i
 
 -- k tells whether f holds of the names up to the place, total whether it holds of all, and p is what is read there
-module _ (t : List ℕ) (f : List ℕ → Bool) (at : ℕ) (p : NamePiece) (told : name_of p ≡ next_name t at) (k total : Bool) (i : (k && all f (names_from t at)) ≡ total) where
-  pub names_done : p ≡ NoName → k ≡ total
+module _ (t : List ℕ) (f : List ℕ → Bool) (at : ℕ) (p : Option (TextSpan × Cursor)) (told : name_of p ≡ next_name t at) (k total : Bool) (i : (k && all f (names_from t at)) ≡ total) where
+  pub names_done : p ≡ None → k ≡ total
   unfolding all
   names_done h = sym (and-true k) ∙ sym (ap (λ (m : Items TextSpan). k && all f (map (spelled t) m.items)) (names_ended t at p told h)) ∙ i
 
-  module _ (x : TextSpan) (next : ℕ) (h : p ≡ NameRead x (record { at = next })) where
-    names_step : ((k && f (spelled t x)) && all f (names_from t next)) ≡ total
+  module _ (x : TextSpan) (next : Cursor) (h : p ≡ Some (x, next)) where
+    names_step : ((k && f (spelled t x)) && all f (names_from t next.at)) ≡ total
     unfolding all
     names_step =
-        and_assoc k (f (spelled t x)) (all f (names_from t next))
-        ∙ sym (ap (λ (m : Items TextSpan). k && all f (map (spelled t) m.items)) (names_more t at p told x (record { at = next }) h)) ∙ i
+        and_assoc k (f (spelled t x)) (all f (names_from t next.at))
+        ∙ sym (ap (λ (m : Items TextSpan). k && all f (map (spelled t) m.items)) (names_more t at p told x next h)) ∙ i
 
-    pub names_kept : k ≡ true → (r : Bool) → r ≡ f (spelled t x) → (r && all f (names_from t next)) ≡ total
-    names_kept e r q = ap (λ b. b && all f (names_from t next)) (q ∙ sym (ap (λ b. b && f (spelled t x)) e)) ∙ names_step
+    pub names_kept : k ≡ true → (r : Bool) → r ≡ f (spelled t x) → (r && all f (names_from t next.at)) ≡ total
+    names_kept e r q = ap (λ b. b && all f (names_from t next.at)) (q ∙ sym (ap (λ b. b && f (spelled t x)) e)) ∙ names_step
 
 -- the first name and the others
 module _ (t : List ℕ) (f : List ℕ → Bool) (x : TextSpan) (at : ℕ) (r : Bool) (e : r ≡ f (spelled t x)) where
@@ -73,25 +69,6 @@ module _ (t : List ℕ) (f : List ℕ → Bool) (x : TextSpan) (at : ℕ) (r : B
 
 pub ruleset known_laws = (names_done, names_kept, marks_ended, names_less, name_spelt, rules)
 
--- whether all words from i on are 1
-module _ (ws : List ℕ) (i : ℕ) (e : all (λ w. eqb w 1) ws ≡ all (λ w. eqb w 1) (drop i ws)) where
-  pub ones_ended : length ws ≤ i → true ≡ all (λ w. eqb w 1) ws
-  unfolding all
-  ones_ended h = sym (e ∙ ap (all (λ w. eqb w 1)) (drop_of_length-le ws {i = i} h))
-
-  module _ (h : i < length ws) where
-    here : all (λ w. eqb w 1) ws ≡ (eqb (get_or ws i 0) 1 && all (λ w. eqb w 1) (drop (i + 1) ws))
-    unfolding all
-    here = e ∙ ap (all (λ w. eqb w 1)) (drop_at ws i h)
-
-    pub ones_other : (get_or ws i 0 ≡ 1 → ⊥) → false ≡ all (λ w. eqb w 1) ws
-    ones_other n = sym (here ∙ ap (λ b. b && all (λ w. eqb w 1) (drop (i + 1) ws)) (ne_eqb (get_or ws i 0) 1 n))
-
-    pub ones_next : get_or ws i 0 ≡ 1 → all (λ w. eqb w 1) ws ≡ all (λ w. eqb w 1) (drop (i + 1) ws)
-    ones_next n = here ∙ ap (λ b. b && all (λ w. eqb w 1) (drop (i + 1) ws)) (eq-eqb (get_or ws i 0) 1 n)
-
-pub ruleset ones_laws = (ones_ended, ones_other, ones_next, rules)
-
 -- the accept words are all 1 where all names are accepted
 accept_ones : (zs ls : List (List ℕ)) → all (λ w. eqb w 1) (map (accept_word zs) ls) ≡ all (is_among zs) ls
 unfolding all accept_word
@@ -103,18 +80,18 @@ accept_ones zs (l ∷ ls) = ap₂ ◌&&◌ (one (is_among zs l)) (accept_ones zs
     one false = refl
 
 -- the words ws are marked up to the place, and p is what is read there
-module _ (t : List ℕ) (at : ℕ) (p : ArrowPiece) (told : arrow_of p ≡ transition t (space t at)) (ls : List (List ℕ)) (ws ends : List ℕ)
+module _ (t : List ℕ) (at : ℕ) (p : Option (Arrow × Cursor)) (told : arrow_of p ≡ transition t (space t at)) (ls : List (List ℕ)) (ws ends : List ℕ)
     (i : mark_all t ls ws (spans_from t at) ≡ ends) where
-  pub states_ended : p ≡ NoArrow → ws ≡ ends
+  pub states_ended : p ≡ None → ws ≡ ends
   unfolding mark_all spans_from flat_map
   states_ended h = sym (sym i ∙ ap (λ (m : Items Arrow). mark_all t ls ws (flat_map both_spans m.items)) (arrows_ended t at p told h))
 
-  pub states_next : (e : Arrow) (next : ℕ) → p ≡ ArrowRead e (record { at = next }) → (m n : List ℕ) → m ≡ mark_one t ls ws e.from → n ≡ mark_one t ls m e.to
-      → mark_all t ls n (spans_from t next) ≡ ends
+  pub states_next : (e : Arrow) (next : Cursor) → p ≡ Some (e, next) → (m n : List ℕ) → m ≡ mark_one t ls ws e.from → n ≡ mark_one t ls m e.to
+      → mark_all t ls n (spans_from t next.at) ≡ ends
   unfolding mark_all spans_from flat_map
   states_next e next h m n q r =
-      sym (sym i ∙ ap (λ (k : Items Arrow). mark_all t ls ws (flat_map both_spans k.items)) (arrows_more t at p told e (record { at = next }) h)
-      ∙ ap (λ (v : List ℕ). mark_all t ls (mark_one t ls v e.to) (spans_from t next)) (sym q) ∙ ap (λ (v : List ℕ). mark_all t ls v (spans_from t next)) (sym r))
+      sym (sym i ∙ ap (λ (k : Items Arrow). mark_all t ls ws (flat_map both_spans k.items)) (arrows_more t at p told e next h)
+      ∙ ap (λ (v : List ℕ). mark_all t ls (mark_one t ls v e.to) (spans_from t next.at)) (sym q) ∙ ap (λ (v : List ℕ). mark_all t ls v (spans_from t next.at)) (sym r))
 
 pub ruleset states_laws = (states_ended, arrows_less, arrow_drawn, from_drawn, to_drawn, rules)
 
@@ -148,27 +125,27 @@ module _ (t b : List ℕ) (n : ℕ) (k : SpeltTable t b n) (x : TextSpan) (at : 
 pub ruleset table_laws = (table_states, words_inside, zeros, rules)
 
 -- one more name in the table b
-module _ (t b : List ℕ) (k : ℕ) (y : TextSpan) (u : List ℕ) (a : Added) (g : SpeltAddition t (add same_label (spelled t y) (names_in t b k)) u a) where
+module _ (t b : List ℕ) (k : ℕ) (y : TextSpan) (u : List ℕ) (a : Option ℕ) (g : SpeltAddition t (add same_label (spelled t y) (names_in t b k)) u a) where
   -- fewer than 256 names leave room for one more
-  added_room : k < 256 → a ≡ Full → ⊥
+  added_room : k < 256 → a ≡ None → ⊥
   added_room l e = omega (arith, added_full t _ u a g e, add_length same_label (spelled t y) (names_in t b k), names_count t b k)
 
-  added_count : (m : ℕ) → a ≡ Kept m → m ≤ k + 1
+  added_count : (m : ℕ) → a ≡ Some m → m ≤ k + 1
   added_count m e =
       omega (arith, ap length (added_names t _ u a g m e), names_count t u m, add_length same_label (spelled t y) (names_in t b k), names_count t b k)
 
-  added_all : (m : ℕ) → a ≡ Kept m → (f : List ℕ → Bool) → all f (names_in t u m) ≡ (all f (names_in t b k) && f (spelled t y))
+  added_all : (m : ℕ) → a ≡ Some m → (f : List ℕ → Bool) → all f (names_in t u m) ≡ (all f (names_in t b k) && f (spelled t y))
   unfolding meet all
   added_all m e f =
       ap (all f) (added_names t _ u a g m e) ∙ meet_all same_label same_decides f (spelled t y ∷ []) (names_in t b k)
       ∙ ap (λ c. all f (names_in t b k) && c) (and-true (f (spelled t y)))
 
 -- the table begins with the first name
-module _ (t b : List ℕ) (x : TextSpan) (u : List ℕ) (a : Added) (g : SpeltAddition t (add same_label (spelled t x) (names_in t b 0)) u a) where
-  pub begun_room : a ≡ Full → (v : Bool) → false ≡ v
+module _ (t b : List ℕ) (x : TextSpan) (u : List ℕ) (a : Option ℕ) (g : SpeltAddition t (add same_label (spelled t x) (names_in t b 0)) u a) where
+  pub begun_room : a ≡ None → (v : Bool) → false ≡ v
   begun_room e v = absurd (added_room t b 0 x u a g (omega arith) e)
 
-  module _ (m : ℕ) (e : a ≡ Kept m) where
+  module _ (m : ℕ) (e : a ≡ Some m) where
     pub begun_few : m < 256
     begun_few = omega (arith, added_count t b 0 x u a g m e)
 
@@ -180,28 +157,28 @@ module _ (t b : List ℕ) (x : TextSpan) (u : List ℕ) (a : Added) (g : SpeltAd
 pub ruleset begun_laws = (table_none, zeros, rules)
 
 -- the names of the table b and those from the place on decide, and p is what is read there
-module _ (t : List ℕ) (f : List ℕ → Bool) (at : ℕ) (p : NamePiece) (told : name_of p ≡ next_name t at) (b : List ℕ) (k : ℕ) (total : Bool)
+module _ (t : List ℕ) (f : List ℕ → Bool) (at : ℕ) (p : Option (TextSpan × Cursor)) (told : name_of p ≡ next_name t at) (b : List ℕ) (k : ℕ) (total : Bool)
     (i : (all f (names_in t b k) && all f (names_from t at)) ≡ total) where
-  pub rest_ended : p ≡ NoName → (r : Bool) → r ≡ all f (names_in t b k) → r ≡ total
+  pub rest_ended : p ≡ None → (r : Bool) → r ≡ all f (names_in t b k) → r ≡ total
   rest_ended h r e = e ∙ names_done t f at p told (all f (names_in t b k)) total i h
 
-  module _ (y : TextSpan) (next : ℕ) (h : p ≡ NameRead y (record { at = next })) (u : List ℕ) (a : Added)
+  module _ (y : TextSpan) (next : Cursor) (h : p ≡ Some (y, next)) (u : List ℕ) (a : Option ℕ)
       (g : SpeltAddition t (add same_label (spelled t y) (names_in t b k)) u a) where
-    pub rest_room : k < 256 → a ≡ Full → false ≡ total
+    pub rest_room : k < 256 → a ≡ None → false ≡ total
     rest_room l e = absurd (added_room t b k y u a g l e)
 
-    module _ (m : ℕ) (e : a ≡ Kept m) where
-      pub rest_added : (all f (names_in t u m) && all f (names_from t next)) ≡ total
+    module _ (m : ℕ) (e : a ≡ Some m) where
+      pub rest_added : (all f (names_in t u m) && all f (names_from t next.at)) ≡ total
       rest_added =
-          ap (λ c. c && all f (names_from t next)) (added_all t b k y u a g m e f) ∙ names_step t f at p told (all f (names_in t b k)) total i y next h
+          ap (λ c. c && all f (names_from t next.at)) (added_all t b k y u a g m e f) ∙ names_step t f at p told (all f (names_in t b k)) total i y next h
 
       -- the names of a full table are asked, and it begins anew
       module _ (r : Bool) (q : r ≡ all f (names_in t u m)) where
         pub rest_not : not r ≡ true → false ≡ total
-        rest_not n = ap (λ c. c && all f (names_from t next)) (sym (not-true r n) ∙ q) ∙ rest_added
+        rest_not n = ap (λ c. c && all f (names_from t next.at)) (sym (not-true r n) ∙ q) ∙ rest_added
 
-        pub rest_anew : not r ≡ false → (all f (names_in t u 0) && all f (names_from t next)) ≡ total
+        pub rest_anew : not r ≡ false → (all f (names_in t u 0) && all f (names_from t next.at)) ≡ total
         unfolding names_in tabulate all
-        rest_anew n = ap (λ c. c && all f (names_from t next)) (sym (not-false r n) ∙ q) ∙ rest_added
+        rest_anew n = ap (λ c. c && all f (names_from t next.at)) (sym (not-false r n) ∙ q) ∙ rest_added
 
 pub ruleset rest_laws = (rest_ended, names_less, name_spelt, table_none, added_table, rules)

@@ -16,8 +16,7 @@ use Rattle.labels.specs.Labels.{Label, same_label}
 use Rattle.lists.specs.Lists.{◌∈◌, tabulate}
 use Rattle.lists.proofs.Every.{tabulate_in, tabulate_out}
 use Rattle.lists.proofs.Index.{index_le}
-use Rattle.name_table.specs.declared.Added.{Added}
-use Rattle.name_table.specs.declared.Added.TheVariants.{Kept, Full}
+use Rattle.std.proofs.Common.{Option, Some, None}
 use Rattle.name_table.specs.inner.Names.{name_at, Inside}
 use Rattle.name_table.specs.inner.Names as Names
 use Rattle.name_table.proofs.Adding as Adding
@@ -79,7 +78,7 @@ pub table_none : (text t : List ℕ) → length t ≡ 1024 → SpeltTable text t
 table_none text t e = labels_table text t 0 (Adding.table_none text t e) (λ x m. absurd (nowhere text t x m))
 
 -- a name is added to a table
-module _ (text t : List ℕ) (n : ℕ) (k : SpeltTable text t n) (x : TextSpan) (p : Spelt text x) (u : List ℕ) (r : Added)
+module _ (text t : List ℕ) (n : ℕ) (k : SpeltTable text t n) (x : TextSpan) (p : Spelt text x) (u : List ℕ) (r : Option ℕ)
     (a : Names.Addition text (add same_label (spelled text x) (names_in text t n)) u r) where
   labels_added : (y : List ℕ) → y ∈ add same_label (spelled text x) (names_in text t n) → Label y
   unfolding meet
@@ -90,7 +89,7 @@ module _ (text t : List ℕ) (n : ℕ) (k : SpeltTable text t n) (x : TextSpan) 
   pub spelt_addition : SpeltAddition text (add same_label (spelled text x) (names_in text t n)) u r
   spelt_addition = by_case a
     where
-      by_case : {v : Added} → Names.Addition text (add same_label (spelled text x) (names_in text t n)) u v → SpeltAddition text (add same_label (spelled text x) (names_in text t n)) u v
+      by_case : {v : Option ℕ} → Names.Addition text (add same_label (spelled text x) (names_in text t n)) u v → SpeltAddition text (add same_label (spelled text x) (names_in text t n)) u v
       by_case (Names.kept {n = m} j h) = kept (labels_table text u m j (λ y l. labels_added y (subst (λ (ls : List (List ℕ)). y ∈ ls) h l))) h
       by_case (Names.full h) = full h
 
@@ -103,24 +102,24 @@ number_fits text t n k x i e = record { fits = omega (arith, e, index_le same_la
 pub ruleset number_laws = (named, number_fits, spelt_order, spelt_inside, rules)
 
 -- what an addition says by its answer
-module _ (text : List ℕ) (ls : List (List ℕ)) (t : List ℕ) (r : Added) (a : SpeltAddition text ls t r) where
-  pub added_table : (n : ℕ) → r ≡ Kept n → SpeltTable text t n
+module _ (text : List ℕ) (ls : List (List ℕ)) (t : List ℕ) (r : Option ℕ) (a : SpeltAddition text ls t r) where
+  pub added_table : (n : ℕ) → r ≡ Some n → SpeltTable text t n
   added_table n e = elim_kept a e
     where
-      elim_kept : {r : Added} → SpeltAddition text ls t r → r ≡ Kept n → SpeltTable text t n
+      elim_kept : {r : Option ℕ} → SpeltAddition text ls t r → r ≡ Some n → SpeltTable text t n
       elim_kept (kept {n = u} k h) e = let q : u ≡ n = cc in subst (SpeltTable text t) q k
       elim_kept (full h) e = let z : ◌≡◌ {A = ℕ} 0 1 = cc in absurd (omega arith)
 
-  pub added_names : (n : ℕ) → r ≡ Kept n → names_in text t n ≡ ls
+  pub added_names : (n : ℕ) → r ≡ Some n → names_in text t n ≡ ls
   added_names n e = elim_kept a e
     where
-      elim_kept : {r : Added} → SpeltAddition text ls t r → r ≡ Kept n → names_in text t n ≡ ls
+      elim_kept : {r : Option ℕ} → SpeltAddition text ls t r → r ≡ Some n → names_in text t n ≡ ls
       elim_kept (kept {n = u} k h) e = let q : u ≡ n = cc in subst (λ (v : ℕ). names_in text t v ≡ ls) q h
       elim_kept (full h) e = let z : ◌≡◌ {A = ℕ} 0 1 = cc in absurd (omega arith)
 
-  pub added_full : r ≡ Full → 256 < length ls
+  pub added_full : r ≡ None → 256 < length ls
   added_full e = elim_full a e
     where
-      elim_full : {r : Added} → SpeltAddition text ls t r → r ≡ Full → 256 < length ls
+      elim_full : {r : Option ℕ} → SpeltAddition text ls t r → r ≡ None → 256 < length ls
       elim_full (kept k h) e = let z : ◌≡◌ {A = ℕ} 0 1 = cc in absurd (omega arith)
       elim_full (full h) e = h

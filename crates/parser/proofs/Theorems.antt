@@ -21,6 +21,7 @@ use mathlib.Core.Logic.{◌↔◌, ◌⊎◌, inl, inr, ⊎_elim}
 use mathlib.Core.Path.{◌≡◌, refl, sym, ◌∙◌, ap, subst}
 use native.Mathlib.Omega.{arith}
 use lib.ListN.{length, get_or, take}
+use Rattle.std.proofs.Common.{Result, Ok}
 use Rattle.automata.specs.Automaton.{Transition}
 use Rattle.automata.specs.Ordered.{in_order}
 use Rattle.automata.proofs.Ordered.{in_order_in}
@@ -35,6 +36,7 @@ use Rattle.output.specs.Made.{output_of}
 use Rattle.output.specs.Output.{Pattern, outputs, room_first}
 use Rattle.output.proofs.Left.{call_given, call_20, call_number, call_refused, call_leaves, room_first_lem}
 use Rattle.refusal.specs.Answer.{Answer, refused}
+use Rattle.refusal.specs.declared.Refusal.{Refusal}
 use Rattle.search.specs.Search.{index}
 use Rattle.search.proofs.Tables.{extends_at, meet_extends}
 use Rattle.syntax.specs.Syntax.{Move, Said, Text, BeginsWith}
@@ -46,7 +48,6 @@ use Rattle.parser.specs.Parsed.{parsed, parsed_of, parsed_number}
 use Rattle.parser.specs.Pattern.{both_names, names_of, states_of, transition_of_move, accept_word, automaton_of, pattern_of, Reading}
 use Rattle.parser.specs.Pattern.{within_limits, accepts_first, meant, text_first, meaning, reading_answer, parse_answer}
 use Rattle.parser.specs.declared.Parsed.{Parsed}
-use Rattle.parser.specs.declared.Parsed.TheVariants.{Read}
 use Rattle.parser.proofs.Appearance.{meet_order}
 use Rattle.parser.proofs.Call.{made_of, patterns_of, made_number_lem, made_call, only_refused, some_reading, bytes_read}
 use Rattle.parser.proofs.Outcomes.{answers_8, answers_20, answers_21, answers_22, answers_33, answers_given, answers_some}
@@ -112,7 +113,7 @@ module _ (s : Said) where
       into i = rw (any_in (same_label x) i (same_decides.same_self x)) (omega arith)
 
 -- the contract of a call: r is its answer, o and l are the outputs before it, o' and l' after it
-module _ (t o l o' l' : List ℕ) (r : Parsed) (call : parsed_of r o' l' ≡ parsed o l (parse_answer t o l)) where
+module _ (t o l o' l' : List ℕ) (r : Result Parsed Refusal) (call : parsed_of r o' l' ≡ parsed o l (parse_answer t o l)) where
   as_made : output_of (made_of r) o' l' ≡ outputs o l (room_first o l (patterns_of (reading_answer t)))
   unfolding parse_answer
   as_made = made_call o l o' l' r (reading_answer t) call
@@ -125,14 +126,14 @@ module _ (t o l o' l' : List ℕ) (r : Parsed) (call : parsed_of r o' l' ≡ par
 
   -- the bytes that were read are a text, its accepting names are states, and the outputs hold what it means: at the front of one the sheet of its
   -- automaton, at the front of the other the labels of its states, and behind them nothing is changed
-  pub parse_left : (n w b : ℕ) → r ≡ Read n w b
+  pub parse_left : (n w b : ℕ) → r ≡ Ok (record { read = n; words = w; bytes = b })
       → (s : Said) × (n ≤ length t) × Text (take n t) s × (Misspelt s → ⊥) × Leaves o l o' l' w b (automaton_of s (states_of s)) (states_of s)
   unfolding pattern_of parse_answer
   parse_left n w b e =
       let g = (call_given o l o' l' (made_of r) (patterns_of (reading_answer t)) as_made).0 (made_number_lem r ∙ ap parsed_number e) in
       let R = some_reading (reading_answer t) g.1.0 g.1.1 in
       let i = answers_given t R.0 R.1 in
-      let c : n ≡ R.0.read = bytes_read o l o' l' n w b R.0 (ap (λ (p : Parsed). parsed_of p o' l') (sym e) ∙ call ∙ ap (parsed o l) (room_first_lem o l (reading_answer t) g.0 ∙ R.1)) in
+      let c : n ≡ R.0.read = bytes_read o l o' l' n w b R.0 (ap (λ (p : Result Parsed Refusal). parsed_of p o' l') (sym e) ∙ call ∙ ap (parsed o l) (room_first_lem o l (reading_answer t) g.0 ∙ R.1)) in
       let v = call_leaves o l o' l' (made_of r) (patterns_of (reading_answer t)) as_made w b (ap made_of e) R.0.pattern (ap patterns_of R.1) i.writable in (
         i.said,
         subst (λ k. k ≤ length t) (sym c) i.inside,

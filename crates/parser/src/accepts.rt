@@ -9,8 +9,7 @@ ghost use Rattle.parser.specs.inner.Accepts.{mark_one, mark_all, names_from, spa
 ghost use Rattle.parser.specs.inner.Arrows.{all_names};
 ghost use Rattle.parser.specs.inner.Names.{SpeltTable, names_in};
 
-use grammar::{ArrowPiece, Cursor, NamePiece, TextSpan};
-use name_table::Added;
+use grammar::{Cursor, TextSpan};
 
 // The word of the name x of a table becomes 1; whether the table has it.
 fn mark(text: &[u8], t: &[usize], n: usize, x: TextSpan, words: &mut [u32]) -> bool
@@ -33,7 +32,7 @@ fn mark_next(text: &[u8], c: Cursor, t: &[usize], n: usize, words: &mut [u32]) -
     let mut at = c.at;
     let mut known = true;
     loop {
-        let NamePiece::Read(x, next) = grammar::next_name(text, Cursor { at }) else {
+        let Some((x, next)) = grammar::next_name(text, Cursor { at }) else {
             return known;
         };
         let found = mark(text, t, n, x, words);
@@ -66,7 +65,7 @@ fn mark_states(text: &[u8], c: Cursor, t: &[usize], n: usize, words: &mut [u32])
 {
     let mut at = c.at;
     loop {
-        let ArrowPiece::Read(e, next) = grammar::spaced_transition(text, Cursor { at }) else {
+        let Some((e, next)) = grammar::spaced_transition(text, Cursor { at }) else {
             return;
         };
         mark(text, t, n, e.from, words);
@@ -79,14 +78,7 @@ fn mark_states(text: &[u8], c: Cursor, t: &[usize], n: usize, words: &mut [u32])
 fn are_ones(words: &[u32]) -> bool
     ensures { result ≡ all (λ w. eqb w 1) words.now }
 {
-    let mut i: usize = 0;
-    while i < words.len() {
-        if words[i] != 1 {
-            return false;
-        }
-        i += 1;
-    }
-    true
+    words.iter().all(|w| *w == 1)
 }
 
 // Whether the names of a table are all states: the initial one is x, and the transitions go on from a cursor. Each name of a state marks its word.
@@ -116,10 +108,10 @@ fn rest_are_states(
     let mut at = c.at;
     let mut k = n;
     loop {
-        let NamePiece::Read(y, next) = grammar::next_name(text, Cursor { at }) else {
+        let Some((y, next)) = grammar::next_name(text, Cursor { at }) else {
             return table_are_states(text, x, arrows, t, k);
         };
-        let Added::Kept(m) = crate::names::add_name(text, t, k, y) else {
+        let Some(m) = crate::names::add_name(text, t, k, y) else {
             return false;
         };
         k = m;
@@ -139,7 +131,7 @@ pub fn are_states(text: &[u8], x: TextSpan, arrows: Cursor, first: TextSpan, mor
     ensures { result ≡ all (is_among (all_names text.now arrows.at (spelled text.now x ∷ []))) (map (spelled text.now) (first ∷ (next_names text.now more.at).items)) }
 {
     let mut t = [0usize; 1024];
-    let Added::Kept(n) = crate::names::add_name(text, &mut t, 0, first) else {
+    let Some(n) = crate::names::add_name(text, &mut t, 0, first) else {
         return false;
     };
     rest_are_states(text, x, arrows, more, &mut t, n)

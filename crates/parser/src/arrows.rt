@@ -8,29 +8,29 @@ ghost use Rattle.syntax.specs.Spelled.{spell_move};
 ghost use Rattle.parser.specs.inner.Arrows.{Entering, Noting, ArrowNoting, Beginning, Continuing};
 ghost use Rattle.parser.specs.inner.Names.{SpeltTable, names_in};
 
-use grammar::{Arrow, ArrowPiece, Cursor, TextSpan};
-use name_table::Added;
+use grammar::{Arrow, Cursor, TextSpan};
 use output::Filled;
 
-// The answer of entering a name: its number and how many names the table has, or that there would be over 256.
+// A name that was entered: its number, and how many names the table has.
 #[derive(Drop)]
-pub enum Entry {
-    At(u32, usize),
-    Full,
+pub struct Entry {
+    pub number: u32,
+    pub count: usize,
 }
 
-// The answer of noting a transition: how many names the table has and how far the memory is filled, or that there would be over 256 names.
+// A transition that was noted: how many names the table has, and how far the memory is filled.
 #[derive(Drop)]
-pub enum Noted {
-    At(usize, Filled),
-    Full,
+pub struct Noted {
+    pub count: usize,
+    pub filled: Filled,
 }
 
-// The transitions that were read: the cursor behind them, the names of their states, and how far the memory is filled with their records.
+// The transitions that were read: the cursor behind them, how many names their states have, unless these are over 256, and how far the memory is filled
+// with their records.
 #[derive(Drop)]
 pub struct Arrows {
     pub behind: Cursor,
-    pub added: Added,
+    pub added: Option<usize>,
     pub filled: Filled,
 }
 
@@ -49,19 +49,23 @@ pub enum Begun {
     Stopped(Stop),
 }
 
-// The number of the name that stands in the text, which goes behind the others unless it is one of them.
-fn enter(text: &[u8], t: &mut [usize], n: usize, x: TextSpan) -> Entry
+// The name that stands in the text goes behind the others unless it is one of them. Nothing is answered where there would be over 256.
+fn enter(text: &[u8], t: &mut [usize], n: usize, x: TextSpan) -> Option<Entry>
     requires { SpeltTable text.now t.old n × Spelt text.now x }
     ensures { Entering text.now (spelled text.now x) (names_in text.now t.old n) t.new result }
 {
     let i = crate::names::number_of(text, t, n, x);
     if (i as usize) < n {
-        return Entry::At(i, n);
+        return Some(Entry {
+            number: i,
+            count: n,
+        });
     }
-    let Added::Kept(m) = crate::names::add_name(text, t, n, x) else {
-        return Entry::Full;
-    };
-    Entry::At(i, m)
+    let m = crate::names::add_name(text, t, n, x)?;
+    Some(Entry {
+        number: i,
+        count: m,
+    })
 }
 
 // One record more, unless there are too many.
@@ -75,19 +79,25 @@ fn note(buf: &mut [u32], f: Filled, from: u32, first: u32, last: u32, to: u32) -
     output::gather_record(buf, f, from, 1, first, last, to)
 }
 
-// The names and the record of a transition.
-fn note_arrow(text: &[u8], e: Arrow, t: &mut [usize], n: usize, buf: &mut [u32], f: Filled) -> Noted
+// The names and the record of a transition, or nothing where the names would be over 256.
+fn note_arrow(
+    text: &[u8],
+    e: Arrow,
+    t: &mut [usize],
+    n: usize,
+    buf: &mut [u32],
+    f: Filled,
+) -> Option<Noted>
     requires { SpeltTable text.now t.old n × Drawn text.now e × Held buf.old f.sorted f.end }
     ensures { ArrowNoting text.now (spell_move text.now e) (names_in text.now t.old n) t.new buf.old f buf.new result }
 {
-    let Entry::At(from, m) = enter(text, t, n, e.from) else {
-        return Noted::Full;
-    };
-    let Entry::At(to, k) = enter(text, t, m, e.to) else {
-        return Noted::Full;
-    };
-    let next = note(buf, f, from, e.first, e.last, to);
-    Noted::At(k, next)
+    let from = enter(text, t, n, e.from)?;
+    let to = enter(text, t, from.count, e.to)?;
+    let filled = note(buf, f, from.number, e.first, e.last, to.number);
+    Some(Noted {
+        count: to.count,
+        filled,
+    })
 }
 
 // The names and the records of the transitions from a cursor on, until all of the memory but the ninth part for those that come is filled. Where the names are too many the others are only
@@ -100,23 +110,23 @@ fn read_first(text: &[u8], c: Cursor, t: &mut [usize], n: usize, buf: &mut [u32]
     let mut count = n;
     let mut filled = Filled { sorted: 0, end: 0 };
     while filled.end < buf.len() / 9 * 8 {
-        let ArrowPiece::Read(e, next) = grammar::spaced_transition(text, Cursor { at }) else {
+        let Some((e, next)) = grammar::spaced_transition(text, Cursor { at }) else {
             return Begun::Ended(Arrows {
                 behind: Cursor { at },
-                added: Added::Kept(count),
+                added: Some(count),
                 filled,
             });
         };
-        let Noted::At(more, last) = note_arrow(text, e, t, count, buf, filled) else {
+        let Some(noted) = note_arrow(text, e, t, count, buf, filled) else {
             let behind = grammar::transitions(text, next);
             return Begun::Ended(Arrows {
                 behind,
-                added: Added::Full,
+                added: None,
                 filled,
             });
         };
-        count = more;
-        filled = last;
+        count = noted.count;
+        filled = noted.filled;
         at = next.at;
     }
     Begun::Stopped(Stop {
@@ -131,10 +141,10 @@ pub fn read_states(text: &[u8], x: TextSpan, c: Cursor, t: &mut [usize], buf: &m
     requires { Spelt text.now x × (length t.old ≡ 1024) × Memory buf.old }
     ensures { Beginning text.now c.at (spelled text.now x ∷ []) t.new buf.new result }
 {
-    let Added::Kept(n) = crate::names::add_name(text, t, 0, x) else {
+    let Some(n) = crate::names::add_name(text, t, 0, x) else {
         return Begun::Ended(Arrows {
             behind: c,
-            added: Added::Full,
+            added: None,
             filled: Filled { sorted: 0, end: 0 },
         });
     };
@@ -157,23 +167,23 @@ pub fn read_rest(
     let mut count = n;
     let mut filled = f;
     loop {
-        let ArrowPiece::Read(e, next) = grammar::spaced_transition(text, Cursor { at }) else {
+        let Some((e, next)) = grammar::spaced_transition(text, Cursor { at }) else {
             return Arrows {
                 behind: Cursor { at },
-                added: Added::Kept(count),
+                added: Some(count),
                 filled,
             };
         };
-        let Noted::At(more, last) = note_arrow(text, e, t, count, buf, filled) else {
+        let Some(noted) = note_arrow(text, e, t, count, buf, filled) else {
             let behind = grammar::transitions(text, next);
             return Arrows {
                 behind,
-                added: Added::Full,
+                added: None,
                 filled,
             };
         };
-        count = more;
-        filled = last;
+        count = noted.count;
+        filled = noted.filled;
         at = next.at;
     }
 }

@@ -21,8 +21,7 @@ ghost use Rattle.parser.specs.inner.Places.{said_at, moves_at, transitions_at, p
 ghost use Rattle.output.specs.Output.{labels_size, sheet_size};
 
 use arrows::{Arrows, Begun, Stop};
-use grammar::{AcceptingPiece, Cursor, Layout, NamePiece, TextSpan};
-use name_table::Added;
+use grammar::{Cursor, Layout, TextSpan};
 use output::Filled;
 use refusal::{InputRefusal, Refusal, StateRefusal};
 
@@ -30,11 +29,12 @@ mod accepts;
 mod arrows;
 mod names;
 
-// How many bytes of the text were read, how many words the sheet takes and how many bytes the labels; or a refusal.
-#[derive(Drop)]
-pub enum Parsed {
-    Read(usize, usize, usize),
-    Refused(Refusal),
+// How many bytes of the text were read, how many words the sheet takes and how many bytes the labels.
+#[derive(Clone, Copy)]
+pub struct Parsed {
+    pub read: usize,
+    pub words: usize,
+    pub bytes: usize,
 }
 
 // The sheet with the start 0, these accept words and these records.
@@ -43,9 +43,9 @@ fn write_sheet(out: &mut [u32], accepts: &[u32], records: &[u32]) -> usize
     ensures { Written out.old 0 (1 ∷ 0 ∷ length accepts.now ∷ (accepts.now ++ length records.now / 5 ∷ records.now)) out.new result }
 {
     let first = output::put_start(out, 0, accepts.len() as u32);
-    let count = stores::put_words(out, first, accepts);
-    let behind = stores::put_word(out, count, (records.len() / 5) as u32);
-    stores::put_words(out, behind, records)
+    let count = stores::put_all(out, first, accepts);
+    let behind = stores::put(out, count, (records.len() / 5) as u32);
+    stores::put_all(out, behind, records)
 }
 
 // Name j of a table after its length.
@@ -64,10 +64,8 @@ fn write_labels(names: &mut [u8], text: &[u8], t: &[usize], n: usize) -> usize
     ensures { Written names.old 0 (write_labels (names_in text.now t.now n)) names.new result }
 {
     let mut at = labels::put_count(names, n);
-    let mut j: usize = 0;
-    while j < n {
+    for j in 0..n {
         at = put_name(names, at, text, t, j);
-        j += 1;
     }
     at
 }
@@ -83,7 +81,7 @@ fn write_pattern(
     words: &[u32],
     out: &mut [u32],
     names: &mut [u8],
-) -> Parsed
+) -> Result<Parsed, Refusal>
     requires spelt_table { SpeltTable text.now t.now n }
     requires recorded { Recorded records.now (transitions_at text.now l (names_in text.now t.now n)) × (words.now ≡ map (accept_word (said_at text.now l).accepts) (names_in text.now t.now n)) }
     requires sheet_size_in_bounds { (sheet_size ≤ length out.old) × (labels_size ≤ length names.old) }
@@ -91,7 +89,11 @@ fn write_pattern(
 {
     let w = write_sheet(out, words, records);
     let k = write_labels(names, text, t, n);
-    Parsed::Read(c.at, w, k)
+    Ok(Parsed {
+        read: c.at,
+        words: w,
+        bytes: k,
+    })
 }
 
 // The outputs of a text whose names are known and whose records are gathered, or 33 or 22.
@@ -106,7 +108,7 @@ fn with_names(
     words: &mut [u32],
     out: &mut [u32],
     names: &mut [u8],
-) -> Parsed
+) -> Result<Parsed, Refusal>
     requires spelt_table { SpeltTable text.now t.now n × Laid text.now l }
     requires fitting { Fitting buf.old f }
     requires gathered { Gathered buf.old f.sorted f.end (map (transition_of_move (names_in text.now t.now n)) (moves_at text.now l.arrows.at)) × Zeros 256 words.old }
@@ -114,11 +116,11 @@ fn with_names(
     ensures { parsed_of result out.new names.new ≡ parsed out.old names.old (accepts_first (said_at text.now l).accepts (names_in text.now t.now n) (few_transitions (pattern_at text.now l (names_in text.now t.now n)) c.at)) }
 {
     if !accepts::mark_names(text, l.first, l.more, t, n, words) {
-        return Parsed::Refused(Refusal::Input(InputRefusal::AcceptingName));
+        return Err(Refusal::Input(InputRefusal::AcceptingName));
     }
     let last = output::collect_records(buf, f);
     if buf.len() / 9 * 8 < last {
-        return Parsed::Refused(Refusal::State(StateRefusal::Transitions));
+        return Err(Refusal::State(StateRefusal::Transitions));
     }
     write_pattern(text, l, c, t, n, &buf[0..last], &words[..n], out, names)
 }
@@ -146,13 +148,13 @@ fn with_read(
     words: &mut [u32],
     out: &mut [u32],
     names: &mut [u8],
-) -> Parsed
+) -> Result<Parsed, Refusal>
     requires spelt { Spelt text.now x × ArrowsRead text.now arrows.at (spelled text.now x ∷ []) t.now buf.old read × Zeros 256 words.old }
     requires sheet_size_in_bounds { (sheet_size ≤ length out.old) × (labels_size ≤ length names.old) }
     ensures { parsed_of result out.new names.new ≡ parsed out.old names.old (meaning text.now (told_from text.now x arrows.at)) }
 {
-    let AcceptingPiece::Read(first, more, c) = grammar::closing(text, read.behind) else {
-        return Parsed::Refused(Refusal::Input(InputRefusal::Grammar));
+    let Some((first, more, c)) = grammar::closing(text, read.behind) else {
+        return Err(Refusal::Input(InputRefusal::Grammar));
     };
     let l = Layout {
         initial: x,
@@ -160,9 +162,8 @@ fn with_read(
         first,
         more,
     };
-    let added = read.added;
-    let Added::Kept(n) = added else {
-        return Parsed::Refused(over_states(text, l));
+    let Some(n) = read.added else {
+        return Err(over_states(text, l));
     };
     with_names(text, l, c, t, n, buf, read.filled, words, out, names)
 }
@@ -178,14 +179,14 @@ fn with_more(
     words: &mut [u32],
     out: &mut [u32],
     names: &mut [u8],
-) -> Parsed
+) -> Result<Parsed, Refusal>
     requires spelt { Spelt text.now x × StoppedAt text.now arrows.at (spelled text.now x ∷ []) t.old small.now s × Zeros 256 words.old }
     requires sheet_size_in_bounds { (sheet_size ≤ length out.old) × (labels_size ≤ length names.old) }
     ensures { parsed_of result out.new names.new ≡ parsed out.old names.old (meaning text.now (told_from text.now x arrows.at)) }
 {
     let mut buf = [0u32; 11520];
     let end = s.filled.end;
-    stores::put_words(&mut buf, 0, &small[0..end]);
+    stores::put_all(&mut buf, 0, &small[0..end]);
     let read = arrows::read_rest(
         text,
         s.cursor,
@@ -207,7 +208,7 @@ fn with_tables(
     words: &mut [u32],
     out: &mut [u32],
     names: &mut [u8],
-) -> Parsed
+) -> Result<Parsed, Refusal>
     requires spelt { Spelt text.now x × (length t.old ≡ 1024) × Memory buf.old × Zeros 256 words.old }
     requires sheet_size_in_bounds { (sheet_size ≤ length out.old) × (labels_size ≤ length names.old) }
     ensures { parsed_of result out.new names.new ≡ parsed out.old names.old (meaning text.now (told_from text.now x arrows.at)) }
@@ -220,7 +221,13 @@ fn with_tables(
 }
 
 // The same by tables of its own.
-fn from_start(text: &[u8], x: TextSpan, arrows: Cursor, out: &mut [u32], names: &mut [u8]) -> Parsed
+fn from_start(
+    text: &[u8],
+    x: TextSpan,
+    arrows: Cursor,
+    out: &mut [u32],
+    names: &mut [u8],
+) -> Result<Parsed, Refusal>
     requires spelt { Spelt text.now x }
     requires sheet_size_in_bounds { (sheet_size ≤ length out.old) × (labels_size ≤ length names.old) }
     ensures { parsed_of result out.new names.new ≡ parsed out.old names.old (meaning text.now (told_from text.now x arrows.at)) }
@@ -232,14 +239,14 @@ fn from_start(text: &[u8], x: TextSpan, arrows: Cursor, out: &mut [u32], names: 
 }
 
 // The pattern at the front of a text: its sheet and its labels into the lent outputs, and how many bytes were read.
-pub fn parse_automaton(text: &[u8], out: &mut [u32], names: &mut [u8]) -> Parsed
+pub fn parse_automaton(text: &[u8], out: &mut [u32], names: &mut [u8]) -> Result<Parsed, Refusal>
     ensures { parsed_of result out.new names.new ≡ parsed out.old names.old (parse_answer text.now out.old names.old) }
 {
     if output::lacks_room(out, names) {
-        return Parsed::Refused(Refusal::State(StateRefusal::OutputLength));
+        return Err(Refusal::State(StateRefusal::OutputLength));
     }
-    let NamePiece::Read(x, arrows) = grammar::opening(text) else {
-        return Parsed::Refused(Refusal::Input(InputRefusal::Grammar));
+    let Some((x, arrows)) = grammar::opening(text) else {
+        return Err(Refusal::Input(InputRefusal::Grammar));
     };
     from_start(text, x, arrows, out, names)
 }

@@ -7,7 +7,6 @@ ghost use Rattle.search.specs.Search.{index, add};
 ghost use Rattle.parser.specs.inner.Names.{names_in, SpeltTable, SpeltAddition};
 
 use grammar::TextSpan;
-use name_table::Added;
 
 // The number of the state that the text names.
 pub fn number_of(text: &[u8], t: &[usize], n: usize, x: TextSpan) -> u32
@@ -19,8 +18,9 @@ pub fn number_of(text: &[u8], t: &[usize], n: usize, x: TextSpan) -> u32
     name_table::find(text, t, n, &text[first..last]) as u32
 }
 
-// The name that stands in the text behind the others, unless it is one of them.
-pub fn add_name(text: &[u8], t: &mut [usize], n: usize, x: TextSpan) -> Added
+// The name that stands in the text behind the others, unless it is one of them: how many names the table has, or nothing
+// where there would be over 256.
+pub fn add_name(text: &[u8], t: &mut [usize], n: usize, x: TextSpan) -> Option<usize>
     requires { SpeltTable text.now t.old n × Spelt text.now x }
     ensures { SpeltAddition text.now (add same_label (spelled text.now x) (names_in text.now t.old n)) t.new result }
 {

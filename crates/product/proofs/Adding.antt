@@ -1,23 +1,17 @@
 -- Gathering the transitions of the pairs: the laws by which these loops are proved.
-use Prim.Native.Nat.{ℕ, suc, ◌+◌, ◌-◌, ◌/◌, ◌%◌, ◌≤◌, ◌<◌}
-use mathlib.Core.List.{List, [], ◌∷◌, ◌++◌, map, map-append}
-use mathlib.Core.Path.{◌≡◌, sym, ◌∙◌, ap, ap₂, subst}
-use native.Mathlib.Numerals.{add-one}
-use native.Mathlib.Omega.{arith}
-use borrow.Author.Rules.{rules}
-use lib.ListN.{get_or, length, take, drop, drop_of_length-le}
-use lib.Seq.{drop-cons}
+use Rattle.std.proofs.Common.{ℕ, suc, ◌+◌, ◌-◌, ◌/◌, ◌%◌, ◌≤◌, ◌<◌, None, Some, List, [], ◌∷◌, ◌++◌, map, ◌≡◌, sym, ◌∙◌, ap, ap₂, subst, add-one, arith, rules, get_or, length, take, drop, drop_of_length-le, drop-cons}
+use mathlib.Core.List.{map-append}
 use Rattle.lists.proofs.Parts.{part_all}
 use Rattle.automata.specs.Automaton.{Transition, Automaton, leaving}
 use Rattle.automata.specs.Records.{read_records, write_records}
+use Rattle.automata.specs.inner.Chunks.{records_of}
 use Rattle.automata.specs.inner.Records.{record_at}
-use Rattle.automata.proofs.Records.{read_write, records_at_lem, records_end, part_record}
+use Rattle.automata.proofs.Chunks.{records_next, records_done}
+use Rattle.automata.proofs.Records.{read_write}
 use Rattle.output.specs.inner.Gathering.{Memory, Open, Gathered, Rest}
 use Rattle.output.specs.inner.Ordered.{records_in}
-use Rattle.output.proofs.Collecting.{gathered_same, rest_none, rest_begin, rest_end, rest_next, rest_over}
-use Rattle.ranges.specs.Span.{intersect_ranges, span_of}
-use Rattle.ranges.specs.declared.Common.{Common}
-use Rattle.ranges.specs.declared.Common.TheVariants.{Range, Nothing}
+use Rattle.output.proofs.Collecting.{gathered_same, rest_none, rest_end, rest_next, rest_over}
+use Rattle.ranges.specs.Span.{intersect_ranges}
 use Rattle.sheets.specs.Sheet.{read}
 use Rattle.automata.specs.Pairs.{Pair}
 use Rattle.product.specs.Product.{joint_of, joints_of, joints_from, transition_of_joint, transitions_from, place_in}
@@ -39,19 +33,20 @@ module _ (buf : List ℕ) (sorted end : ℕ) (k : Open buf sorted end) (T : List
   pub joint_other_right : (get_or e 1 0 ≡ 1 → ⊥) → Gathered buf sorted end (records_in buf 0 end ++ links T i (record_at d 0 ∷ []) (record_at e 0 ∷ []))
   joint_other_right h = none_added (joints_other_right (record_at d 0) (record_at e 0) h)
 
-  module _ (x : Common) (told : span_of x ≡ intersect_ranges (record { first = get_or d 2 0; last = get_or d 3 0 }) (record { first = get_or e 2 0; last = get_or e 3 0 }))
-      (hd : get_or d 1 0 ≡ 1) (he : get_or e 1 0 ≡ 1) where
-    pub joint_apart : x ≡ Nothing → Gathered buf sorted end (records_in buf 0 end ++ links T i (record_at d 0 ∷ []) (record_at e 0 ∷ []))
+  module _ (hd : get_or d 1 0 ≡ 1) (he : get_or e 1 0 ≡ 1) where
+    pub joint_apart : None ≡ intersect_ranges (record { first = get_or d 2 0; last = get_or d 3 0 }) (record { first = get_or e 2 0; last = get_or e 3 0 })
+        → Gathered buf sorted end (records_in buf 0 end ++ links T i (record_at d 0 ∷ []) (record_at e 0 ∷ []))
     unfolding joint_of
     joint_apart h =
-        none_added (joints_two (record_at d 0) (record_at e 0) hd he ∙ ap (λ o. joint_of o (record { left = get_or d 4 0; right = get_or e 4 0 })) (sym told ∙ ap span_of h))
+        none_added (joints_two (record_at d 0) (record_at e 0) hd he ∙ ap (λ o. joint_of o (record { left = get_or d 4 0; right = get_or e 4 0 })) (sym h))
 
-    pub joint_put : (a b : ℕ) → x ≡ Range a b → (to : ℕ) → to ≡ place_in T (record { left = get_or d 4 0; right = get_or e 4 0 }) → (m : List ℕ) (ahead next : ℕ)
+    pub joint_put : (a b : ℕ) → Some (record { first = a; last = b }) ≡ intersect_ranges (record { first = get_or d 2 0; last = get_or d 3 0 }) (record { first = get_or e 2 0; last = get_or e 3 0 })
+        → (to : ℕ) → to ≡ place_in T (record { left = get_or d 4 0; right = get_or e 4 0 }) → (m : List ℕ) (ahead next : ℕ)
         → Gathered m ahead next (records_in buf 0 end ++ record { from = i; kind = 1; first = a; last = b; to = to } ∷ []) → Gathered m ahead next (records_in buf 0 end ++ links T i (record_at d 0 ∷ []) (record_at e 0 ∷ []))
     unfolding links joint_of transition_of_joint
     joint_put a b h to q m ahead next g =
         let j : joints_of (record_at d 0 ∷ []) (record_at e 0 ∷ []) ≡ record { span = record { first = a; last = b }; to = record { left = get_or d 4 0; right = get_or e 4 0 } } ∷ [] =
-        joints_two (record_at d 0) (record_at e 0) hd he ∙ ap (λ o. joint_of o (record { left = get_or d 4 0; right = get_or e 4 0 })) (sym told ∙ ap span_of h) in
+        joints_two (record_at d 0) (record_at e 0) hd he ∙ ap (λ o. joint_of o (record { left = get_or d 4 0; right = get_or e 4 0 })) (sym h) in
         rw (j, ← q) g
 
 pub ruleset joint_laws = (joint_other_left, joint_other_right, joint_apart, joint_put, rules)
@@ -75,72 +70,63 @@ module _ (T : List Pair) (i : ℕ) where
   unfolding links
   links_right d e es = ap (map (transition_of_joint (place_in T) i)) (joints_right d e es) ∙ map-append (transition_of_joint (place_in T) i) (joints_of (d ∷ []) (e ∷ [])) (joints_of (d ∷ []) es)
 
--- a record with those of a run, which are left from a place on
-pub run_begins : (buf : List ℕ) (sorted end : ℕ) (T : List Pair) (i : ℕ) (d run : List ℕ) → Open buf sorted end
-    → Rest buf sorted end (links T i (record_at d 0 ∷ []) (read_records (drop 0 run))) (records_in buf 0 end ++ links T i (record_at d 0 ∷ []) (read_records run))
-run_begins buf sorted end T i d run r = rest_begin buf sorted end _ r
-
-module _ (buf : List ℕ) (sorted end : ℕ) (T : List Pair) (i : ℕ) (d run : List ℕ) (at : ℕ) (es : List Transition)
-    (l : Rest buf sorted end (links T i (record_at d 0 ∷ []) (read_records (drop at run))) es) where
-  none_left : links T i (record_at d 0 ∷ []) (read_records (drop at run)) ≡ [] → Gathered buf sorted end es
+-- a record with those of a run, which are left from an index on
+module _ (buf : List ℕ) (sorted end : ℕ) (T : List Pair) (i : ℕ) (d : List ℕ) (rs : List (List ℕ)) (j : ℕ) (es : List Transition)
+    (l : Rest buf sorted end (links T i (record_at d 0 ∷ []) (records_of (drop j rs))) es) where
+  none_left : links T i (record_at d 0 ∷ []) (records_of (drop j rs)) ≡ [] → Gathered buf sorted end es
   none_left h = rest_end buf sorted end es (subst (λ (x : List Transition). Rest buf sorted end x es) h l)
 
-  pub run_ended : length run - at < 5 → Gathered buf sorted end es
-  run_ended h = none_left (ap (links T i (record_at d 0 ∷ [])) (records_end run at h) ∙ links_none_right T i (record_at d 0 ∷ []))
+  pub run_ended : length rs ≤ j → Gathered buf sorted end es
+  run_ended h = none_left (ap (links T i (record_at d 0 ∷ [])) (records_done rs j h) ∙ links_none_right T i (record_at d 0 ∷ []))
 
-  module _ (h : 5 ≤ length run - at) where
-    pub run_behind : RunTo 256 (read_records (drop at run)) → get_or d 3 0 < get_or run (at + 2) 0 → Gathered buf sorted end es
-    run_behind r p = none_left (links_none T i (record_at d 0 ∷ []) (read_records (drop at run)) (joints_left_behind 256 d run at r h p))
+  module _ (h : j < length rs) where
+    pub run_behind : RunTo 256 (records_of (drop j rs)) → get_or d 3 0 < get_or (get_or rs j []) 2 0 → Gathered buf sorted end es
+    run_behind r p = none_left (links_none T i (record_at d 0 ∷ []) (records_of (drop j rs)) (joints_left_behind 256 d rs j r h p))
 
-    module _ (m : List ℕ) (ahead next : ℕ) (s : Gathered m ahead next (records_in buf 0 end ++ links T i (record_at d 0 ∷ []) (record_at (take (at + 5 - at) (drop at run)) 0 ∷ []))) where
-      run_parts : Rest buf sorted end (links T i (record_at d 0 ∷ []) (record_at (take (at + 5 - at) (drop at run)) 0 ∷ []) ++ links T i (record_at d 0 ∷ []) (read_records (drop (at + 5) run))) es
+    module _ (m : List ℕ) (ahead next : ℕ) (s : Gathered m ahead next (records_in buf 0 end ++ links T i (record_at d 0 ∷ []) (record_at (get_or rs j []) 0 ∷ []))) where
+      run_parts : Rest buf sorted end (links T i (record_at d 0 ∷ []) (record_at (get_or rs j []) 0 ∷ []) ++ links T i (record_at d 0 ∷ []) (records_of (drop (j + 1) rs))) es
       run_parts =
           subst (λ (x : List Transition). Rest buf sorted end x es)
-          (ap (links T i (record_at d 0 ∷ [])) (records_at_lem run at h) ∙ links_right T i (record_at d 0) (record_at run at) (read_records (drop (at + 5) run))
-          ∙ ap (λ x. links T i (record_at d 0 ∷ []) (x ∷ []) ++ links T i (record_at d 0 ∷ []) (read_records (drop (at + 5) run))) (sym (part_record run at))) l
+          (ap (links T i (record_at d 0 ∷ [])) (records_next rs j h) ∙ links_right T i (record_at d 0) (record_at (get_or rs j []) 0) (records_of (drop (j + 1) rs))) l
 
       pub run_over : length m ≤ next → Gathered m ahead next es
       run_over o = rest_over buf sorted end es _ _ run_parts m ahead next s o
 
-      pub run_next : next < length m → Rest m ahead next (links T i (record_at d 0 ∷ []) (read_records (drop (at + 5) run))) es
+      pub run_next : next < length m → Rest m ahead next (links T i (record_at d 0 ∷ []) (records_of (drop (j + 1) rs))) es
       run_next o = rest_next buf sorted end es _ _ run_parts m ahead next s o
 
-pub ruleset run_laws = (run_begins, run_ended, run_behind, run_to, run_rest, rules)
+pub ruleset run_laws = (run_ended, run_behind, run_to, run_rest, rules)
 
--- the records of two runs, of which those of the first are left from a place on, and of the second those that the first may still meet
-pub runs_begins : (buf : List ℕ) (sorted end : ℕ) (T : List Pair) (i : ℕ) (first second : List ℕ) → Open buf sorted end
-    → Rest buf sorted end (links T i (read_records (drop 0 first)) (read_records (drop 0 second))) (records_in buf 0 end ++ links T i (read_records first) (read_records second))
-runs_begins buf sorted end T i first second r = rest_begin buf sorted end _ r
-
-module _ (buf : List ℕ) (sorted end : ℕ) (T : List Pair) (i : ℕ) (first second : List ℕ) (from at : ℕ) (es : List Transition)
-    (l : Rest buf sorted end (links T i (read_records (drop at first)) (read_records (drop from second))) es) where
-  pub runs_ended : length first - at < 5 → Gathered buf sorted end es
+-- the records of two runs, of which those of the first are left from an index on, and of the second those that the first may still meet
+module _ (buf : List ℕ) (sorted end : ℕ) (T : List Pair) (i : ℕ) (second : List ℕ) (from : ℕ) (rs : List (List ℕ)) (j : ℕ) (es : List Transition)
+    (l : Rest buf sorted end (links T i (records_of (drop j rs)) (read_records (drop from second))) es) where
+  pub runs_ended : length rs ≤ j → Gathered buf sorted end es
   runs_ended h =
       rest_end buf sorted end es
-      (subst (λ (x : List Transition). Rest buf sorted end x es) (ap (λ x. links T i x (read_records (drop from second))) (records_end first at h) ∙ links_none_left T i (read_records (drop from second))) l)
+      (subst (λ (x : List Transition). Rest buf sorted end x es) (ap (λ x. links T i x (read_records (drop from second))) (records_done rs j h) ∙ links_none_left T i (read_records (drop from second))) l)
 
-  module _ (q : ℕ) (r : RunTo q (read_records (drop at first))) (h : 5 ≤ length first - at) (past : ℕ)
-      (p : read_records (drop past second) ≡ not_ended (get_or first (at + 2) 0) (read_records (drop from second))) (m : List ℕ) (ahead next : ℕ)
-      (s : Gathered m ahead next (records_in buf 0 end ++ links T i (record_at (take (at + 5 - at) (drop at first)) 0 ∷ []) (read_records (take (length second - past) (drop past second))))) where
-    passed : links T i (read_records (drop at first)) (read_records (drop from second)) ≡ links T i (read_records (drop at first)) (read_records (drop past second))
+  module _ (q : ℕ) (r : RunTo q (records_of (drop j rs))) (h : j < length rs) (past : ℕ)
+      (p : read_records (drop past second) ≡ not_ended (get_or (get_or rs j []) 2 0) (read_records (drop from second))) (m : List ℕ) (ahead next : ℕ)
+      (s : Gathered m ahead next (records_in buf 0 end ++ links T i (record_at (get_or rs j []) 0 ∷ []) (read_records (take (length second - past) (drop past second))))) where
+    passed : links T i (records_of (drop j rs)) (read_records (drop from second)) ≡ links T i (records_of (drop j rs)) (read_records (drop past second))
     unfolding links
-    passed = ap (map (transition_of_joint (place_in T) i)) (joints_left_passed q first at r h (read_records (drop from second)) ∙ ap (joints_of (read_records (drop at first))) (sym p))
+    passed = ap (map (transition_of_joint (place_in T) i)) (joints_left_passed q rs j r h (read_records (drop from second)) ∙ ap (joints_of (records_of (drop j rs))) (sym p))
 
     runs_parts : Rest buf sorted end
-        (links T i (record_at (take (at + 5 - at) (drop at first)) 0 ∷ []) (read_records (take (length second - past) (drop past second))) ++ links T i (read_records (drop (at + 5) first)) (read_records (drop past second))) es
+        (links T i (record_at (get_or rs j []) 0 ∷ []) (read_records (take (length second - past) (drop past second))) ++ links T i (records_of (drop (j + 1) rs)) (read_records (drop past second))) es
     runs_parts =
         subst (λ (x : List Transition). Rest buf sorted end x es)
-        (passed ∙ ap (λ x. links T i x (read_records (drop past second))) (records_at_lem first at h)
-        ∙ links_left T i (record_at first at) (read_records (drop (at + 5) first)) (read_records (drop past second))
-        ∙ ap₂ (λ x y. links T i (x ∷ []) (read_records y) ++ links T i (read_records (drop (at + 5) first)) (read_records (drop past second))) (sym (part_record first at)) (sym (part_all past second))) l
+        (passed ∙ ap (λ x. links T i x (read_records (drop past second))) (records_next rs j h)
+        ∙ links_left T i (record_at (get_or rs j []) 0) (records_of (drop (j + 1) rs)) (read_records (drop past second))
+        ∙ ap (λ x. links T i (record_at (get_or rs j []) 0 ∷ []) (read_records x) ++ links T i (records_of (drop (j + 1) rs)) (read_records (drop past second))) (sym (part_all past second))) l
 
     pub runs_over : length m ≤ next → Gathered m ahead next es
     runs_over o = rest_over buf sorted end es _ _ runs_parts m ahead next s o
 
-    pub runs_next : next < length m → Rest m ahead next (links T i (read_records (drop (at + 5) first)) (read_records (drop past second))) es
+    pub runs_next : next < length m → Rest m ahead next (links T i (records_of (drop (j + 1) rs)) (read_records (drop past second))) es
     runs_next o = rest_next buf sorted end es _ _ runs_parts m ahead next s o
 
-pub ruleset runs_laws = (runs_begins, runs_ended, run_to, run_rest, rules)
+pub ruleset runs_laws = (runs_ended, run_to, run_rest, rules)
 
 -- the transitions of a pair
 pub pair_links : (a b : List ℕ) (c : ℕ) (first second : List ℕ) → first ≡ write_records (leaving (read a) (c / 256)) → second ≡ write_records (leaving (read b) (c % 256))

@@ -1,20 +1,20 @@
 -- Epsilons in a product: the laws by which the search for 7 is proved.
-use Prim.Native.Nat.{ℕ, ◌+◌, ◌/◌, ◌%◌, ◌≤◌, ◌<◌}
+use Prim.Native.Nat.{ℕ, ◌/◌, ◌%◌, ◌≤◌, ◌<◌}
 use mathlib.Core.Bool.{Bool, true, false, ◌||◌, false≢true, or-true}
 use mathlib.Core.List.Memᴰ
 use mathlib.Core.List.{List, ◌∷◌}
 use mathlib.Core.Logic.{⊎_elim}
-use mathlib.Core.Path.{◌≡◌, refl, sym, ◌∙◌, ap, ap₂}
-use native.Mathlib.Numerals.{add-one}
+use mathlib.Core.Path.{◌≡◌, refl, sym, ◌∙◌, ap, ap₂, subst}
 use native.Mathlib.Omega.{arith}
 use borrow.Author.Rules.{rules}
 use borrow.Author.Tests.{eq-eqb, ne_eqb, eqb-true}
 use lib.Dec.{eqb}
-use lib.ListN.{get_or, length, take, drop, drop_of_length-le}
-use lib.Seq.{drop-cons}
+use lib.ListN.{get_or, length, take, drop}
 use Rattle.lists.specs.Lists.{◌∈◌, any, Ascending}
 use Rattle.lists.proofs.Lists.{any_out, filter_out}
-use Rattle.lists.proofs.Members.{ascending_filter}
+use Rattle.lists.proofs.Members.{ascending_filter, at_in, map_in}
+use Rattle.lists.proofs.Chains.{any_mapped}
+use Rattle.std.specs.List.{list_any}
 use Rattle.lists.proofs.Tests.{test, or_left}
 use Rattle.automata.specs.Automaton.{Transition, leaving, has_epsilon}
 use Rattle.automata.specs.Records.{read_records, write_records}
@@ -25,10 +25,9 @@ use Rattle.sheets.specs.inner.Runs.{IndexedSheet}
 use Rattle.sheets.specs.Sheet.{state_count, read}
 use Rattle.sheets.proofs.Meaning.{read_well}
 use Rattle.sheets.proofs.Named.{ready_run}
-use Rattle.automata.specs.Pairs.{Pair}
 use Rattle.product.specs.Product.{is_none, blocked, blocked_at}
 use Rattle.product.specs.inner.Tables.{pair_of, table_of, PairsBelow, EpsilonFirst}
-use Rattle.product.proofs.Queueing.{length_table, entry_at, entry_in}
+use Rattle.product.proofs.Queueing.{entry_in}
 
 -- in a run an epsilon comes before the ranges
 before_epsilon : (q : ℕ) (d e : Transition) → d.from ≡ q → e.from ≡ q → Before d e → e.kind ≡ 0 → d.kind ≡ 0
@@ -99,30 +98,12 @@ pair_blocked a b c first second r e f h =
 
 pub ruleset pair_blocked_laws = (ready_run, run_first, pair_blocked, rules)
 
--- the pairs from i on decide
-module _ (a b words : List ℕ) (n i : ℕ) (l : n ≤ length words) (e : any (blocked_at (read a) (read b)) (drop i (table_of words n)) ≡ any (blocked_at (read a) (read b)) (table_of words n)) where
-  pub search_ended : n ≤ i → false ≡ any (blocked_at (read a) (read b)) (table_of words n)
-  unfolding any
-  search_ended h = sym (ap (any (blocked_at (read a) (read b))) (drop_of_length-le (table_of words n) {i = i} (omega (arith, length_table words n l)))) ∙ e
+-- whether a pair of the table is blocked
+pub any_blocked : (a b words : List ℕ) (n : ℕ) → list_any (λ c. blocked_at (read a) (read b) (pair_of c)) (take n words) ≡ any (blocked_at (read a) (read b)) (table_of words n)
+unfolding table_of
+any_blocked a b words n = any_mapped (blocked_at (read a) (read b)) pair_of (take n words)
 
-  module _ (h : i < n) (r : Bool) (o : r ≡ blocked_at (read a) (read b) (pair_of (get_or words i 0))) where
-    here_and_later : any (blocked_at (read a) (read b)) (drop i (table_of words n)) ≡ (r || any (blocked_at (read a) (read b)) (drop (i + 1) (table_of words n)))
-    unfolding any
-    here_and_later =
-        let d : Pair = pair_of (get_or words i 0) in
-        ap (any (blocked_at (read a) (read b))) (drop-cons (table_of words n) i d (omega (arith, length_table words n l)))
-        ∙ ap₂ (λ p k. blocked_at (read a) (read b) p || any (blocked_at (read a) (read b)) (drop k (table_of words n))) (entry_at words n i d l h) (sym (add-one i))
-        ∙ ap (λ x. x || any (blocked_at (read a) (read b)) (drop (i + 1) (table_of words n))) (sym o)
-
-    pub search_found : r ≡ true → true ≡ any (blocked_at (read a) (read b)) (table_of words n)
-    search_found t = ap (λ x. x || any (blocked_at (read a) (read b)) (drop (i + 1) (table_of words n))) (sym t) ∙ sym here_and_later ∙ e
-
-    pub search_next : r ≡ false → any (blocked_at (read a) (read b)) (drop (i + 1) (table_of words n)) ≡ any (blocked_at (read a) (read b)) (table_of words n)
-    search_next t = ap (λ x. x || any (blocked_at (read a) (read b)) (drop (i + 1) (table_of words n))) (sym t) ∙ sym here_and_later ∙ e
-
-pub search_begins : (a b words : List ℕ) (n : ℕ) → any (blocked_at (read a) (read b)) (drop 0 (table_of words n)) ≡ any (blocked_at (read a) (read b)) (table_of words n)
-search_begins a b words n = refl
-
+-- a pair of the table has states of both sheets
 module _ (a b words : List ℕ) (n i : ℕ) (w : PairsBelow (state_count a) (state_count b) (table_of words n)) (l : n ≤ length words) (h : i < n) where
   pub within_left : (pair_of (get_or words i 0)).left < state_count a
   within_left = (w.states (pair_of (get_or words i 0)) (entry_in words n i l h)).0
@@ -130,4 +111,15 @@ module _ (a b words : List ℕ) (n i : ℕ) (w : PairsBelow (state_count a) (sta
   pub within_right : (pair_of (get_or words i 0)).right < state_count b
   within_right = (w.states (pair_of (get_or words i 0)) (entry_in words n i l h)).1
 
-pub ruleset search_laws = (search_begins, search_ended, search_found, search_next, within_left, within_right, rules)
+module _ (a b words : List ℕ) (n k c : ℕ) (w : PairsBelow (state_count a) (state_count b) (table_of words n)) (h : k < length (take n words)) (e : c ≡ get_or (take n words) k c) where
+  word_in : pair_of c ∈ table_of words n
+  unfolding table_of
+  word_in = map_in pair_of (subst (λ (x : ℕ). x ∈ take n words) (sym e) (at_in (take n words) k c h))
+
+  pub word_left : c / 256 < state_count a
+  word_left = (w.states (pair_of c) word_in).0
+
+  pub word_right : c % 256 < state_count b
+  word_right = (w.states (pair_of c) word_in).1
+
+pub ruleset word_laws = (word_left, word_right, rules)

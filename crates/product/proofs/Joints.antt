@@ -1,15 +1,7 @@
 -- The ranges that leave a pair and meet: each joint comes from two of them, and each two that share a symbol make one.
-use Prim.Native.Nat.{ℕ, ◌≤◌, ◌<◌, min, max}
-use mathlib.Core.Bool.{Bool, true, false, cond, not, ◌||◌}
+use Rattle.std.proofs.Common.{ℕ, ◌≤◌, ◌<◌, min, max, Bool, true, false, cond, not, ◌||◌, List, [], ◌∷◌, ◌++◌, append_assoc, append-nil, ⊎_elim, None, Some, ◌≡◌, refl, sym, ◌∙◌, ap, subst, arith, le-leb, leb-true, ltb-true, eq-eqb, ne_eqb, leb, ltb, eqb, length}
 use mathlib.Core.List.Memᴰ
-use mathlib.Core.List.{List, [], ◌∷◌, ◌++◌, append_assoc, append-nil}
-use mathlib.Core.Logic.{⊎_elim}
-use mathlib.Core.Option.{none, some}
-use mathlib.Core.Path.{◌≡◌, refl, sym, ◌∙◌, ap, subst}
-use native.Mathlib.Omega.{arith}
-use borrow.Author.Tests.{le-leb, lt-leb, leb-true, ltb-true, eq-eqb, ne_eqb}
-use lib.Dec.{leb, ltb, eqb}
-use lib.ListN.{length}
+use borrow.Author.Tests.{lt-leb}
 use Rattle.lists.specs.Lists.{◌∈◌, filter}
 use Rattle.lists.proofs.Lists.{filter_in, filter_out, filter_append, length_filter}
 use Rattle.automata.specs.Automaton.{Transition, Automaton, leaving, ranges_of}
@@ -49,7 +41,7 @@ joint_out d e j m = go (leb greater_first lesser_last) refl m
     to : Pair
     to = record { left = d.to; right = e.to }
 
-    go : (b : Bool) → leb greater_first lesser_last ≡ b → j ∈ joint_of (cond b (some (record { first = greater_first; last = lesser_last })) none) to → Of d e j
+    go : (b : Bool) → leb greater_first lesser_last ≡ b → j ∈ joint_of (cond b (Some (record { first = greater_first; last = lesser_last })) None) to → Of d e j
     go true h m = record { meets = leb-true greater_first lesser_last h; is = Memᴰ.eq_of_singleton m }
     go false h m = elim m [ ]
 

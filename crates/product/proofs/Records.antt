@@ -4,7 +4,7 @@ use mathlib.Core.Bool.{Bool, true, false, cond, not}
 use mathlib.Core.List.Memᴰ
 use mathlib.Core.List.{List, [], ◌∷◌}
 use mathlib.Core.Logic.{⊎_elim}
-use mathlib.Core.Path.{◌≡◌, sym, ◌∙◌, ap, ap₂, subst}
+use mathlib.Core.Path.{◌≡◌, refl, sym, ◌∙◌, ap, ap₂, subst}
 use native.Mathlib.Nat.{le_refl}
 use native.Mathlib.Omega.{arith}
 use borrow.Author.Rules.{rules}
@@ -15,10 +15,12 @@ use Rattle.lists.proofs.Parts.{part_all}
 use Rattle.lists.proofs.Members.{ascending_first, ascending_rest}
 use Rattle.automata.specs.Automaton.{Transition, Automaton, leaving}
 use Rattle.automata.specs.Records.{read_records, write_records}
+use Rattle.automata.specs.inner.Chunks.{records_of}
 use Rattle.automata.specs.inner.Records.{record_at}
+use Rattle.automata.proofs.Chunks.{records_next}
 use Rattle.automata.specs.WellFormed.{WellFormed}
 use Rattle.automata.proofs.Leaving.{leaves, leaving_rises}
-use Rattle.automata.proofs.Records.{read_write, records_at_lem, records_end, part_record, part_in}
+use Rattle.automata.proofs.Records.{read_write, records_at_lem, records_end, part_record}
 use Rattle.sheets.specs.Sheet.{state_count, read}
 use Rattle.sheets.specs.inner.Runs.{IndexedSheet}
 use Rattle.sheets.proofs.Meaning.{read_well}
@@ -30,34 +32,34 @@ use Rattle.product.specs.inner.Tables.{RunTo, ends_before, not_ended}
 rest_to : (k : ℕ) {e : Transition} {es : List Transition} → RunTo k (e ∷ es) → RunTo k es
 rest_to k r = record { tos = λ e m. r.tos e (Memᴰ.tail m); rises = ascending_rest r.rises }
 
--- the record at a place, as it is handed on, and the records behind it
-module _ (k : ℕ) (t : List ℕ) (at : ℕ) (n : RunTo k (read_records (drop at t))) (h : 5 ≤ length t - at) where
-  pub run_to : get_or (take (at + 5 - at) (drop at t)) 4 0 < k
-  run_to = n.tos _ (part_in t at h)
+-- the record at an index, and the records behind it
+module _ (k : ℕ) (rs : List (List ℕ)) (i : ℕ) (n : RunTo k (records_of (drop i rs))) (h : i < length rs) where
+  pub run_to : get_or (get_or rs i []) 4 0 < k
+  run_to = (rw (records_next rs i h) at n).tos _ (Memᴰ.head refl)
 
-  pub run_rest : RunTo k (read_records (drop (at + 5) t))
-  run_rest = rest_to k (rw (records_at_lem t at h) at n)
+  pub run_rest : RunTo k (records_of (drop (i + 1) rs))
+  run_rest = rest_to k (rw (records_next rs i h) at n)
 
 -- where k is told by the length of a table that is kept
-pub run_left : (u v t : List ℕ) (at : ℕ) → length u ≡ length v → RunTo (length v / 256) (read_records (drop at t)) → 5 ≤ length t - at
-    → get_or (take (at + 5 - at) (drop at t)) 4 0 < length u / 256
-run_left u v t at e n h = let z = run_to (length v / 256) t at n h in omega arith
+pub run_left : (u v : List ℕ) (rs : List (List ℕ)) (i : ℕ) → length u ≡ length v → RunTo (length v / 256) (records_of (drop i rs)) → i < length rs
+    → get_or (get_or rs i []) 4 0 < length u / 256
+run_left u v rs i e n h = let z = run_to (length v / 256) rs i n h in omega arith
 
--- none of the records from a place on starts before the one there
-pub starts_from : (k : ℕ) (t : List ℕ) (at : ℕ) → RunTo k (read_records (drop at t)) → 5 ≤ length t - at → (d : Transition) → d ∈ read_records (drop at t) → get_or t (at + 2) 0 ≤ d.first
-starts_from k t at n h d m =
-    let r = rw (records_at_lem t at h) at n in
-    ⊎_elim (λ (e : d ≡ record_at t at). rw e (le_refl _)) (λ l. ascending_first r.rises d l) (Memᴰ.cases_cons (rw (records_at_lem t at h) at m))
+-- none of the records from an index on starts before the one there
+pub starts_from : (k : ℕ) (rs : List (List ℕ)) (i : ℕ) → RunTo k (records_of (drop i rs)) → i < length rs → (d : Transition) → d ∈ records_of (drop i rs) → get_or (get_or rs i []) 2 0 ≤ d.first
+starts_from k rs i n h d m =
+    let r = rw (records_next rs i h) at n in
+    ⊎_elim (λ (e : d ≡ record_at (get_or rs i []) 0). rw e (le_refl _)) (λ l. ascending_first r.rises d l) (Memᴰ.cases_cons (rw (records_next rs i h) at m))
 
 -- where the record there starts behind the last symbol of d, no record from there on meets d
-pub joints_left_behind : (k : ℕ) (d t : List ℕ) (at : ℕ) → RunTo k (read_records (drop at t)) → 5 ≤ length t - at → get_or d 3 0 < get_or t (at + 2) 0
-    → joints_of (record_at d 0 ∷ []) (read_records (drop at t)) ≡ []
-joints_left_behind k d t at n h l = joints_behind (record_at d 0) (read_records (drop at t)) (λ e m. let z = starts_from k t at n h e m in omega arith)
+pub joints_left_behind : (k : ℕ) (d : List ℕ) (rs : List (List ℕ)) (i : ℕ) → RunTo k (records_of (drop i rs)) → i < length rs → get_or d 3 0 < get_or (get_or rs i []) 2 0
+    → joints_of (record_at d 0 ∷ []) (records_of (drop i rs)) ≡ []
+joints_left_behind k d rs i n h l = joints_behind (record_at d 0) (records_of (drop i rs)) (λ e m. let z = starts_from k rs i n h e m in omega arith)
 
--- the ranges from a place on give nothing with those records of es that end before the first of them starts
-pub joints_left_passed : (k : ℕ) (t : List ℕ) (at : ℕ) → RunTo k (read_records (drop at t)) → 5 ≤ length t - at → (es : List Transition)
-    → joints_of (read_records (drop at t)) es ≡ joints_of (read_records (drop at t)) (not_ended (get_or t (at + 2) 0) es)
-joints_left_passed k t at n h es = joints_passed (get_or t (at + 2) 0) (read_records (drop at t)) es (starts_from k t at n h)
+-- the ranges from an index on give nothing with those records of es that end before the first of them starts
+pub joints_left_passed : (k : ℕ) (rs : List (List ℕ)) (i : ℕ) → RunTo k (records_of (drop i rs)) → i < length rs → (es : List Transition)
+    → joints_of (records_of (drop i rs)) es ≡ joints_of (records_of (drop i rs)) (not_ended (get_or (get_or rs i []) 2 0) es)
+joints_left_passed k rs i n h es = joints_passed (get_or (get_or rs i []) 2 0) (records_of (drop i rs)) es (starts_from k rs i n h)
 
 -- the records that are left when those at the front are passed over
 pub passed_to : (k a : ℕ) (es : List Transition) → RunTo k es → RunTo k (not_ended a es)

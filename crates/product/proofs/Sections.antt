@@ -61,7 +61,7 @@ module _ (a b words : List ℕ) (n : ℕ) (l : n ≤ length words) (out m : List
     long : length o ≡ length out
     long = written_length m o _ states counts q ∙ written_length out m _ 0 states p
 
-    pub sheet_count : n ≤ 256 → 10500 ≤ length out → counts + 1 ≤ length o
+    pub sheet_count : n ≤ 256 → 10500 ≤ length out → counts < length o
     sheet_count f r = omega (arith, place, long)
 
     module _ (x : ℕ) (s : List ℕ) (first : ℕ) (v : Written o counts (x ∷ []) s first) where

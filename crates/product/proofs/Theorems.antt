@@ -17,6 +17,7 @@
 --   intersection_20, intersection_fault, intersection_21, intersection_7, intersection_22
 --                            where each number is answered, exactly
 --   intersection_unchanged   a refusal leaves both outputs as they were
+use Rattle.std.proofs.Common.{Result, Ok}
 use Prim.Native.Nat.{ℕ, ◌≤◌, ◌<◌}
 use mathlib.Core.Bool.{false, false≢true}
 use mathlib.Core.List.{List, map}
@@ -30,7 +31,7 @@ use Rattle.automata.specs.Pairs.{Pair}
 use Rattle.automata.specs.WellFormed.{most_states, most_transitions, WellFormed}
 use Rattle.labels.specs.Labels.{read_labels}
 use Rattle.output.specs.declared.Made.{Made}
-use Rattle.output.specs.declared.Made.TheVariants.{Lengths}
+use Rattle.refusal.specs.declared.Refusal.{Refusal}
 use Rattle.output.specs.Left.{made_number, Room, Leaves, Unchanged}
 use Rattle.output.specs.Made.{output_of}
 use Rattle.output.specs.Output.{Pattern, outputs, room_first}
@@ -137,7 +138,7 @@ module _ (A B : Automaton) where
       go (made T e b h q) = (record { automaton = product_automaton A B T; labels = map pair_label_of T }, q)
 
 -- the call on the sheets a and b: r is its answer, o and l are the outputs before it, o' and l' after it
-module _ (a b o l o' l' : List ℕ) (r : Made) (call : output_of r o' l' ≡ outputs o l (intersection_answer a b o l)) where
+module _ (a b o l o' l' : List ℕ) (r : Result Made Refusal) (call : output_of r o' l' ≡ outputs o l (intersection_answer a b o l)) where
   -- the answer behind 20
   abbrev answer : Answer Pattern
   answer = sheet_first a (sheet_first b (product (read a) (read b)))
@@ -146,7 +147,7 @@ module _ (a b o l o' l' : List ℕ) (r : Made) (call : output_of r o' l' ≡ out
   unfolding intersection_answer
   contract = call
 
-  module _ (w n : ℕ) (lengths : r ≡ Lengths w n) where
+  module _ (w n : ℕ) (lengths : r ≡ Ok (record { words = w; bytes = n })) where
     answered : (P : Pattern) × (fault a ≡ 0) × (fault b ≡ 0) × (product (read a) (read b) ≡ given P)
     answered =
         let (k, x) = (call_given o l o' l' r answer contract).0 (ap made_number lengths) in

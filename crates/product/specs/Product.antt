@@ -1,7 +1,6 @@
 -- The product of two automata (document 01, "Product, totality, complement, emptiness"): the table of the pairs of states that ranges reach, and the
 -- automaton made from it.
-use Rattle.std.specs.Prelude.{ℕ, suc, Bool, true, false, cond, ◌&&◌, ◌||◌, not, List, [], ◌∷◌, ◌++◌, map, eqb, length}
-use Rattle.std.proofs.Math.Option.{Option, none, some}
+use Rattle.std.specs.Prelude.{ℕ, suc, Bool, true, false, cond, ◌&&◌, ◌||◌, not, Option, Some, None, List, [], ◌∷◌, ◌++◌, map, eqb, length}
 use Rattle.lists.specs.Lists.{any}
 use Rattle.automata.specs.Automaton.{Transition, Automaton, leaving, ranges_of, has_epsilon, accept_of}
 use Rattle.automata.specs.Ordered.{in_order}
@@ -24,8 +23,8 @@ abbrev pub symbols_of : Transition → Span
 symbols_of e = record { first = e.first; last = e.last }
 
 unfoldable pub joint_of : Option Span → Pair → List Joint
-joint_of none p = []
-joint_of (some s) p = record { span = s; to = p } ∷ []
+joint_of None p = []
+joint_of (Some s) p = record { span = s; to = p } ∷ []
 
 -- two ranges, if they meet
 unfoldable pub joint : Transition → Transition → List Joint

@@ -10,7 +10,6 @@ ghost use Rattle.sheets.specs.inner.Runs.{IndexedSheet};
 ghost use Rattle.product.specs.inner.Tables.{pair_of, table_of, Queued, RunTo, PairsBelow, links};
 
 use output::Filled;
-use ranges::Common;
 
 // The number of the pair of p and q among the first n of the queue, or n.
 fn number_of(queue: &[u32], t: &[u8], n: usize, p: u32, q: u32) -> u32
@@ -22,6 +21,7 @@ fn number_of(queue: &[u32], t: &[u8], n: usize, p: u32, q: u32) -> u32
 
 // The transition of pair i by the records d and e behind the others, if they are ranges that meet. Like the functions below it answers how far
 // the memory is filled.
+#[tactic(auto, using(crate::proofs::Adding::joint_laws))]
 fn add_joint(
     d: &[u32],
     e: &[u32],
@@ -42,11 +42,11 @@ fn add_joint(
         return f;
     }
     match ranges::intersect_ranges(d[2], d[3], e[2], e[3]) {
-        Common::Range(first, last) => {
+        Some((first, last)) => {
             let to = number_of(queue, t, n, d[4], e[4]);
             output::gather_record(buf, f, i, 1, first, last, to)
         }
-        Common::Nothing => f,
+        None => f,
     }
 }
 
@@ -65,17 +65,16 @@ fn add_run(
     requires { (length d.now ≡ 5) × ((record_at d.now 0).to < length t.now / 256) × RunTo 256 (read_records run.now) × Queued queue.now t.now n × (n ≤ 256) × Open buf.old f.sorted f.end }
     ensures { Gathered buf.new result.sorted result.end (records_in buf.old 0 f.end ++ links (table_of queue.now n) i (record_at d.now 0 ∷ []) (read_records run.now)) }
 {
+    let (records, _) = run.as_chunks::<5>();
     let mut k = f;
-    let mut at: usize = 0;
-    while 5 <= run.len() - at {
-        if d[3] < run[at + 2] {
+    for e in records {
+        if d[3] < e[2] {
             return k;
         }
-        k = add_joint(d, &run[at..at + 5], i, queue, t, n, buf, k);
+        k = add_joint(d, e, i, queue, t, n, buf, k);
         if buf.len() <= k.end {
             return k;
         }
-        at += 5;
     }
     k
 }
@@ -95,16 +94,15 @@ fn add_runs(
     requires { RunTo (length t.now / 256) (read_records first.now) × RunTo 256 (read_records second.now) × Queued queue.now t.now n × (n ≤ 256) × Open buf.old f.sorted f.end }
     ensures { Gathered buf.new result.sorted result.end (records_in buf.old 0 f.end ++ links (table_of queue.now n) i (read_records first.now) (read_records second.now)) }
 {
+    let (records, _) = first.as_chunks::<5>();
     let mut k = f;
     let mut from: usize = 0;
-    let mut at: usize = 0;
-    while 5 <= first.len() - at {
-        from = crate::passing::pass_ended(second, from, first[at + 2]);
-        k = add_run(&first[at..at + 5], &second[from..], i, queue, t, n, buf, k);
+    for d in records {
+        from = crate::passing::pass_ended(second, from, d[2]);
+        k = add_run(d, &second[from..], i, queue, t, n, buf, k);
         if buf.len() <= k.end {
             return k;
         }
-        at += 5;
     }
     k
 }
@@ -153,13 +151,11 @@ fn add_pairs(
     ensures { Gathered buf.new result.sorted result.end (transitions_from (place_in (table_of queue.now n)) (read a.now) (read b.now) 0 (table_of queue.now n)) }
 {
     let mut f = Filled { sorted: 0, end: 0 };
-    let mut i: usize = 0;
-    while i < n {
+    for i in 0..n {
         f = add_pair(a, aruns, b, bruns, queue, t, n, i, buf, f);
         if buf.len() <= f.end {
             return f;
         }
-        i += 1;
     }
     f
 }

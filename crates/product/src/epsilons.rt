@@ -50,12 +50,7 @@ pub fn has_blocked_pair(
     requires { IndexedSheet a.now aruns.now × IndexedSheet b.now bruns.now × (n ≤ length queue.now) × PairsBelow (state_count a.now) (state_count b.now) (table_of queue.now n) }
     ensures { result ≡ any (blocked_at (read a.now) (read b.now)) (table_of queue.now n) }
 {
-    let mut i: usize = 0;
-    while i < n {
-        if is_pair_blocked(a, aruns, b, bruns, queue[i]) {
-            return true;
-        }
-        i += 1;
-    }
-    false
+    queue[..n]
+        .iter()
+        .any(|c| is_pair_blocked(a, aruns, b, bruns, *c))
 }

@@ -9,8 +9,6 @@ ghost use Rattle.product.specs.Product.{meeting_pairs};
 ghost use Rattle.sheets.specs.inner.Runs.{IndexedSheet};
 ghost use Rattle.product.specs.inner.Tables.{pair_of, table_of, Queued, PairsMet, RunTo, joint_targets, PairsBelow, found_in};
 
-use ranges::Common;
-
 // The pair of p and q gets the next number, if it has none and there is room. The number of pairs afterwards.
 fn meet_pair(queue: &mut [u32], t: &mut [u8], n: usize, p: u32, q: u32) -> usize
     requires { Queued queue.old t.old n × (p < length t.old / 256) × (q < 256) }
@@ -33,6 +31,7 @@ fn meet_pair(queue: &mut [u32], t: &mut [u8], n: usize, p: u32, q: u32) -> usize
 }
 
 // The pair to which the records d and e lead is met, if they are ranges that meet.
+#[tactic(auto, using(crate::proofs::Meeting::record_laws))]
 fn meet_record(d: &[u32], e: &[u32], queue: &mut [u32], t: &mut [u8], n: usize) -> usize
     requires { Queued queue.old t.old n × (length d.now ≡ 5) × (length e.now ≡ 5) × ((record_at d.now 0).to < length t.old / 256) × ((record_at e.now 0).to < 256) }
     ensures { PairsMet (table_of queue.old n) (joint_targets (record_at d.now 0 ∷ []) (record_at e.now 0 ∷ [])) queue.new t.new result }
@@ -44,8 +43,8 @@ fn meet_record(d: &[u32], e: &[u32], queue: &mut [u32], t: &mut [u8], n: usize) 
         return n;
     }
     match ranges::intersect_ranges(d[2], d[3], e[2], e[3]) {
-        Common::Range(_, _) => meet_pair(queue, t, n, d[4], e[4]),
-        Common::Nothing => n,
+        Some(_) => meet_pair(queue, t, n, d[4], e[4]),
+        None => n,
     }
 }
 
@@ -54,14 +53,13 @@ fn meet_run(d: &[u32], run: &[u32], queue: &mut [u32], t: &mut [u8], n: usize) -
     requires { Queued queue.old t.old n × (length d.now ≡ 5) × ((record_at d.now 0).to < length t.old / 256) × RunTo 256 (read_records run.now) }
     ensures { PairsMet (table_of queue.old n) (joint_targets (record_at d.now 0 ∷ []) (read_records run.now)) queue.new t.new result }
 {
+    let (records, _) = run.as_chunks::<5>();
     let mut m = n;
-    let mut at: usize = 0;
-    while 5 <= run.len() - at {
-        if d[3] < run[at + 2] {
+    for e in records {
+        if d[3] < e[2] {
             return m;
         }
-        m = meet_record(d, &run[at..at + 5], queue, t, m);
-        at += 5;
+        m = meet_record(d, e, queue, t, m);
     }
     m
 }
@@ -72,16 +70,15 @@ fn meet_runs(first: &[u32], second: &[u32], queue: &mut [u32], t: &mut [u8], n: 
     requires { Queued queue.old t.old n × RunTo (length t.old / 256) (read_records first.now) × RunTo 256 (read_records second.now) }
     ensures { PairsMet (table_of queue.old n) (joint_targets (read_records first.now) (read_records second.now)) queue.new t.new result }
 {
+    let (records, _) = first.as_chunks::<5>();
     let mut m = n;
     let mut from: usize = 0;
-    let mut at: usize = 0;
-    while 5 <= first.len() - at {
+    for d in records {
         if 256 < m {
             return m;
         }
-        from = crate::passing::pass_ended(second, from, first[at + 2]);
-        m = meet_run(&first[at..at + 5], &second[from..], queue, t, m);
-        at += 5;
+        from = crate::passing::pass_ended(second, from, d[2]);
+        m = meet_run(d, &second[from..], queue, t, m);
     }
     m
 }

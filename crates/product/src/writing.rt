@@ -47,11 +47,9 @@ fn put_accept_words(
     ensures { Written out.old at (map (pair_accept (read a.now) (read b.now)) (table_of queue.now n)) out.new result }
 {
     let mut end = at;
-    let mut i: usize = 0;
-    while i < n {
+    for i in 0..n {
         out[end] = accept_word(a, b, queue[i]);
         end += 1;
-        i += 1;
     }
     end
 }
@@ -70,8 +68,8 @@ fn write_sheet(
 {
     let states = output::put_start(out, 0, n as u32);
     let counts = put_accept_words(a, b, queue, n, out, states);
-    let first = stores::put_word(out, counts, (records.len() / 5) as u32);
-    stores::put_words(out, first, records)
+    let first = stores::put(out, counts, (records.len() / 5) as u32);
+    stores::put_all(out, first, records)
 }
 
 // The labels of the first n pairs of the queue; how many bytes they take.
@@ -80,11 +78,9 @@ fn write_labels(queue: &[u32], n: usize, names: &mut [u8]) -> usize
     ensures { Written names.old 0 (write_labels (map pair_label_of (table_of queue.now n))) names.new result }
 {
     let mut at = labels::put_count(names, n);
-    let mut i: usize = 0;
-    while i < n {
+    for i in 0..n {
         let c = queue[i];
         at = labels::put_pair(names, at, c / 256, c % 256);
-        i += 1;
     }
     at
 }
@@ -98,13 +94,13 @@ fn write_outputs(
     records: &[u32],
     out: &mut [u32],
     names: &mut [u8],
-) -> Made
+) -> Result<Made, Refusal>
     requires { Accepted a.now × Accepted b.now × (n ≤ length queue.now) × (n ≤ 256) × PairsBelow (state_count a.now) (state_count b.now) (table_of queue.now n) × Whole (read a.now) (read b.now) (table_of queue.now n) × (records.now ≡ write_records (product_automaton (read a.now) (read b.now) (table_of queue.now n)).transitions) × (length records.now ≤ 10240) × (sheet_size ≤ length out.old) × (labels_size ≤ length names.old) }
     ensures { output_of result out.new names.new ≡ outputs out.old names.old (product (read a.now) (read b.now)) }
 {
     let words = write_sheet(a, b, queue, n, records, out);
     let bytes = write_labels(queue, n, names);
-    Made::Lengths(words, bytes)
+    Ok(Made { words, bytes })
 }
 
 // The outputs from the finished table, with a memory for as many transitions as a sheet may have.
@@ -118,14 +114,14 @@ fn write_large(
     n: usize,
     out: &mut [u32],
     names: &mut [u8],
-) -> Made
+) -> Result<Made, Refusal>
     requires { IndexedSheet a.now aruns.now × IndexedSheet b.now bruns.now × (256 * state_count a.now ≤ length t.now) × Queued queue.now t.now n × (n ≤ 256) × PairsBelow (state_count a.now) (state_count b.now) (table_of queue.now n) × Whole (read a.now) (read b.now) (table_of queue.now n) × (sheet_size ≤ length out.old) × (labels_size ≤ length names.old) }
     ensures { output_of result out.new names.new ≡ outputs out.old names.old (product (read a.now) (read b.now)) }
 {
     let mut buf = [0u32; 11520];
     let behind = crate::collecting::collect_pairs(a, aruns, b, bruns, queue, t, n, &mut buf);
     if 10240 < behind {
-        return Made::Refused(Refusal::State(StateRefusal::Transitions));
+        return Err(Refusal::State(StateRefusal::Transitions));
     }
     write_outputs(a, b, queue, n, &buf[..behind], out, names)
 }
@@ -141,7 +137,7 @@ pub fn write_product(
     n: usize,
     out: &mut [u32],
     names: &mut [u8],
-) -> Made
+) -> Result<Made, Refusal>
     requires { IndexedSheet a.now aruns.now × IndexedSheet b.now bruns.now × (256 * state_count a.now ≤ length t.now) × Queued queue.now t.now n × (n ≤ 256) × PairsBelow (state_count a.now) (state_count b.now) (table_of queue.now n) × Whole (read a.now) (read b.now) (table_of queue.now n) × (sheet_size ≤ length out.old) × (labels_size ≤ length names.old) }
     ensures { output_of result out.new names.new ≡ outputs out.old names.old (product (read a.now) (read b.now)) }
 {

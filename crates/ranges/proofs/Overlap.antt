@@ -1,15 +1,7 @@
 -- What two ranges share, when ranges overlap, and when every symbol has exactly one transition.
-use Prim.Native.Nat.{ℕ, suc, ◌≤◌, ◌<◌, min, max}
-use mathlib.Core.Bool.{Bool, true, false, cond, false≢true}
+use Rattle.std.proofs.Common.{ℕ, suc, ◌≤◌, ◌<◌, min, max, Bool, true, false, cond, List, [], ◌∷◌, ◌⊎◌, inl, inr, ⊎_elim, ◌↔◌, None, Some, ◌≡◌, refl, sym, ◌∙◌, ap, arith, le-leb, leb-true, leb-false, leb, length}
+use mathlib.Core.Bool.{false≢true}
 use mathlib.Core.List.Memᴰ
-use mathlib.Core.List.{List, [], ◌∷◌}
-use mathlib.Core.Logic.{◌⊎◌, inl, inr, ⊎_elim, ◌↔◌}
-use mathlib.Core.Option.{none, some}
-use mathlib.Core.Path.{◌≡◌, refl, sym, ◌∙◌, ap}
-use native.Mathlib.Omega.{arith}
-use borrow.Author.Tests.{le-leb, leb-true, leb-false}
-use lib.Dec.{leb}
-use lib.ListN.{length}
 use Rattle.lists.specs.Lists.{◌∈◌, any, filter}
 use Rattle.lists.proofs.Tests.{test, or_right}
 use Rattle.lists.proofs.Lists.{filter_in, filter_none}
@@ -32,7 +24,7 @@ intersect_exact s t x = go (leb greater_first lesser_last) refl
     lesser_last : ℕ
     lesser_last = min s.last t.last
 
-    go : (b : Bool) → leb greater_first lesser_last ≡ b → (InSpan x s × InSpan x t) ↔ InOptionalSpan x (cond b (some (record { first = greater_first; last = lesser_last })) none)
+    go : (b : Bool) → leb greater_first lesser_last ≡ b → (InSpan x s × InSpan x t) ↔ InOptionalSpan x (cond b (Some (record { first = greater_first; last = lesser_last })) None)
     go true e = (
       λ (i, j). record { above = omega (arith, i.above, j.above); below = omega (arith, i.below, j.below) },
       λ i. (record { above = omega (arith, i.above); below = omega (arith, i.below) }, record { above = omega (arith, i.above); below = omega (arith, i.below) }),

@@ -1,66 +1,59 @@
--- The laws by which the functions on a run of records are proved: each says what one more record does.
-use Prim.Native.Nat.{ℕ, ◌+◌, ◌-◌, ◌≤◌, ◌<◌, max}
-use mathlib.Core.Bool.{Bool, true, false}
-use mathlib.Core.List.{List, [], ◌∷◌}
-use mathlib.Core.Path.{◌≡◌, sym, ◌∙◌, ap}
-use borrow.Author.Tests.{le-leb, lt-leb, eq-eqb, ne_eqb}
-use lib.ListN.{length, get_or, take, drop}
+-- The laws by which the functions on a run of records are proved: what one more record does to what those from it on give.
+use Rattle.std.proofs.Common.{ℕ, ◌≡◌, ◌+◌, ◌≤◌, ◌<◌, max, Bool, true, false, cond, ◌||◌, eqb, leb, List, [], ◌∷◌, length, get_or, drop, refl, eq-eqb}
+use Rattle.std.proofs.lemmas.Bool.{ne_eqb}
 use Rattle.lists.specs.Lists.{filter}
-use Rattle.lists.proofs.Parts.{part_all}
 use Rattle.automata.specs.Automaton.{Transition, ranges_of}
-use Rattle.automata.specs.Records.{read_records}
+use Rattle.automata.specs.inner.Chunks.{records_of}
 use Rattle.automata.specs.inner.Records.{record_at}
-use Rattle.automata.proofs.Records.{records_at_lem, records_end}
+use Rattle.automata.proofs.Chunks.{records_next, records_done}
 use Rattle.ranges.specs.Span.{overlaps_from, overlapping}
 
--- the ranges among the records of a run
-abbrev pub ranges_in : List ℕ → List Transition
-ranges_in s = ranges_of (read_records s)
+-- the ranges among records
+abbrev pub ranges_in : List (List ℕ) → List Transition
+ranges_in rs = ranges_of (records_of rs)
 
-module _ (s : List ℕ) (at : ℕ) where
-  pub ranges_end : length s - at < 5 → ranges_in (drop at s) ≡ []
+-- whether ranges overlap, where e is one of them or not
+from_first : (b : Bool) (end : ℕ) (e : Transition) (es : List Transition)
+    → overlaps_from end (cond b (e ∷ es) es) ≡ cond b (leb e.first end || overlaps_from (max end e.last) es) (overlaps_from end es)
+unfolding overlaps_from
+from_first true end e es = refl
+from_first false end e es = refl
+
+with_first : (b : Bool) (e : Transition) (es : List Transition) → overlapping (cond b (e ∷ es) es) ≡ cond b (overlaps_from e.last es) (overlapping es)
+unfolding overlapping
+with_first true e es = refl
+with_first false e es = refl
+
+module _ (rs : List (List ℕ)) (i : ℕ) where
+  pub ranges_end : length rs ≤ i → ranges_in (drop i rs) ≡ []
   unfolding ranges_of filter
-  ranges_end h = rw (records_end s at h)
+  ranges_end h = rw (records_done rs i h)
 
-  module _ (h : 5 ≤ length s - at) where
-    pub ranges_at : get_or s (at + 1) 0 ≡ 1 → ranges_in (drop at s) ≡ record_at s at ∷ ranges_in (drop (at + 5) s)
+  module _ (h : i < length rs) where
+    pub ranges_at : get_or (get_or rs i []) 1 0 ≡ 1 → ranges_in (drop i rs) ≡ record_at (get_or rs i []) 0 ∷ ranges_in (drop (i + 1) rs)
     unfolding ranges_of filter
-    ranges_at k = rw (records_at_lem s at h, eq-eqb _ _ k)
+    ranges_at k = rw (records_next rs i h, eq-eqb _ _ k)
 
-    pub ranges_skip : (get_or s (at + 1) 0 ≡ 1 → ⊥) → ranges_in (drop at s) ≡ ranges_in (drop (at + 5) s)
+    pub ranges_skip : (get_or (get_or rs i []) 1 0 ≡ 1 → ⊥) → ranges_in (drop i rs) ≡ ranges_in (drop (i + 1) rs)
     unfolding ranges_of filter
-    ranges_skip k = rw (records_at_lem s at h, ne_eqb _ _ k)
+    ranges_skip k = rw (records_next rs i h, ne_eqb _ _ k)
 
--- whether a range starts below: those from `at` on decide
-module _ (s : List ℕ) (end largest at : ℕ) (e : overlaps_from end (ranges_in s) ≡ overlaps_from largest (ranges_in (drop at s))) where
-  pub below_ended : length s - at < 5 → false ≡ overlaps_from end (ranges_in s)
-  unfolding overlaps_from
-  below_ended h = sym (e ∙ rw (ranges_end s at h))
+    pub overlap_next : overlapping (ranges_in (drop i rs))
+        ≡ cond (eqb (get_or (get_or rs i []) 1 0) 1) (overlaps_from (get_or (get_or rs i []) 3 0) (ranges_in (drop (i + 1) rs))) (overlapping (ranges_in (drop (i + 1) rs)))
+    unfolding ranges_of filter
+    overlap_next = rw (records_next rs i h) (with_first (eqb (get_or (get_or rs i []) 1 0) 1) (record_at (get_or rs i []) 0) (ranges_in (drop (i + 1) rs)))
 
-  module _ (h : 5 ≤ length s - at) where
-    pub below_skip : (get_or s (at + 1) 0 ≡ 1 → ⊥) → overlaps_from end (ranges_in s) ≡ overlaps_from largest (ranges_in (drop (at + 5) s))
-    below_skip k = e ∙ ap (overlaps_from largest) (ranges_skip s at h k)
-
-    pub below_stopped : get_or s (at + 1) 0 ≡ 1 → get_or s (at + 2) 0 ≤ largest → true ≡ overlaps_from end (ranges_in s)
-    unfolding overlaps_from
-    below_stopped k p = sym (e ∙ rw (ranges_at s at h k, le-leb _ _ p))
-
-    pub below_next : get_or s (at + 1) 0 ≡ 1 → largest < get_or s (at + 2) 0 → (r : ℕ) → r ≡ max largest (get_or s (at + 3) 0)
-        → overlaps_from end (ranges_in s) ≡ overlaps_from r (ranges_in (drop (at + 5) s))
-    unfolding overlaps_from
-    below_next k p r q = e ∙ rw (ranges_at s at h k, lt-leb _ _ p, q)
-
--- whether ranges overlap: up to `at` there is none
-module _ (s : List ℕ) (at : ℕ) (e : overlapping (ranges_in s) ≡ overlapping (ranges_in (drop at s))) where
-  pub overlap_ended : length s - at < 5 → false ≡ overlapping (ranges_in s)
+  pub overlap_done : length rs ≤ i → overlapping (ranges_in (drop i rs)) ≡ false
   unfolding overlapping
-  overlap_ended h = sym (e ∙ rw (ranges_end s at h))
+  overlap_done h = rw (ranges_end h)
 
-  module _ (h : 5 ≤ length s - at) where
-    pub overlap_skip : (get_or s (at + 1) 0 ≡ 1 → ⊥) → overlapping (ranges_in s) ≡ overlapping (ranges_in (drop (at + 5) s))
-    overlap_skip k = e ∙ ap overlapping (ranges_skip s at h k)
+pub below_next : (end : ℕ) (rs : List (List ℕ)) (i : ℕ) → i < length rs
+    → overlaps_from end (ranges_in (drop i rs))
+    ≡ cond (eqb (get_or (get_or rs i []) 1 0) 1) (leb (get_or (get_or rs i []) 2 0) end || overlaps_from (max end (get_or (get_or rs i []) 3 0)) (ranges_in (drop (i + 1) rs)))
+    (overlaps_from end (ranges_in (drop (i + 1) rs)))
+unfolding ranges_of filter
+below_next end rs i h = rw (records_next rs i h) (from_first (eqb (get_or (get_or rs i []) 1 0) 1) end (record_at (get_or rs i []) 0) (ranges_in (drop (i + 1) rs)))
 
-    pub overlap_first : get_or s (at + 1) 0 ≡ 1 → (r : Bool)
-        → r ≡ overlaps_from (get_or s (at + 3) 0) (ranges_in (take (length s - (at + 5)) (drop (at + 5) s))) → r ≡ overlapping (ranges_in s)
-    unfolding overlapping
-    overlap_first k r q = q ∙ rw (part_all (at + 5) s) (sym (e ∙ rw (ranges_at s at h k)))
+pub below_done : (end : ℕ) (rs : List (List ℕ)) (i : ℕ) → length rs ≤ i → overlaps_from end (ranges_in (drop i rs)) ≡ false
+unfolding overlaps_from
+below_done end rs i h = rw (ranges_end rs i h)

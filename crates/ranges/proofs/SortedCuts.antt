@@ -1,5 +1,5 @@
 -- The next cut among sorted ranges: a range that starts above a symbol ends the search for it, and what each record of a run does to the cut found so far.
-use Prim.Native.Nat.{ℕ, suc, ◌+◌, ◌-◌, ◌≤◌, ◌<◌, min}
+use Prim.Native.Nat.{ℕ, suc, ◌+◌, ◌≤◌, ◌<◌, min}
 use mathlib.Core.Bool.{Bool, true, false, cond}
 use mathlib.Core.List.Memᴰ
 use mathlib.Core.List.{List, [], ◌∷◌}
@@ -73,36 +73,36 @@ pub sorted_above : (a : ℕ) (e : Transition) (es : List Transition) → SortedR
 sorted_above a e es s h d m = ⊎_elim (λ (q : d ≡ e). rw q h) (λ m. let f = ascending_first s.rises d m in omega arith) (Memᴰ.cases_cons m)
 
 -- the ranges of a run from the record at a place on
-module _ (s : List ℕ) (at : ℕ) (o : SortedRanges (ranges_in (drop at s))) (h : 5 ≤ length s - at) where
-  pub sorted_skip : (get_or s (at + 1) 0 ≡ 1 → ⊥) → SortedRanges (ranges_in (drop (at + 5) s))
-  sorted_skip k = subst SortedRanges (ranges_skip s at h k) o
+module _ (rs : List (List ℕ)) (i : ℕ) (o : SortedRanges (ranges_in (drop i rs))) (h : i < length rs) where
+  pub sorted_skip : (get_or (get_or rs i []) 1 0 ≡ 1 → ⊥) → SortedRanges (ranges_in (drop (i + 1) rs))
+  sorted_skip k = subst SortedRanges (ranges_skip rs i h k) o
 
-  pub sorted_next : get_or s (at + 1) 0 ≡ 1 → SortedRanges (ranges_in (drop (at + 5) s))
-  sorted_next k = rest_sorted (subst SortedRanges (ranges_at s at h k) o)
+  pub sorted_next : get_or (get_or rs i []) 1 0 ≡ 1 → SortedRanges (ranges_in (drop (i + 1) rs))
+  sorted_next k = rest_sorted (subst SortedRanges (ranges_at rs i h k) o)
 
 -- the next cut: what is found among the ranges before `at`, and the ranges from there on
-module _ (s : List ℕ) (a top found at : ℕ) (e : next_cut a found (ranges_in (drop at s)) ≡ next_cut a top (ranges_in s)) where
-  pub cut_ended : length s - at < 5 → found ≡ next_cut a top (ranges_in s)
+module _ (rs : List (List ℕ)) (a top found i : ℕ) (c : ℕ) (e : next_cut a found (ranges_in (drop i rs)) ≡ c) where
+  pub cut_ended : length rs ≤ i → found ≡ c
   unfolding next_cut
-  cut_ended h = sym (ap (next_cut a found) (ranges_end s at h)) ∙ e
+  cut_ended h = sym (ap (next_cut a found) (ranges_end rs i h)) ∙ e
 
-  module _ (h : 5 ≤ length s - at) where
-    pub cut_skip : (get_or s (at + 1) 0 ≡ 1 → ⊥) → next_cut a found (ranges_in (drop (at + 5) s)) ≡ next_cut a top (ranges_in s)
-    cut_skip k = sym (ap (next_cut a found) (ranges_skip s at h k)) ∙ e
+  module _ (h : i < length rs) where
+    pub cut_skip : (get_or (get_or rs i []) 1 0 ≡ 1 → ⊥) → next_cut a found (ranges_in (drop (i + 1) rs)) ≡ c
+    cut_skip k = sym (ap (next_cut a found) (ranges_skip rs i h k)) ∙ e
 
-    module _ (k : get_or s (at + 1) 0 ≡ 1) where
-      here : next_cut a found (record_at s at ∷ ranges_in (drop (at + 5) s)) ≡ next_cut a top (ranges_in s)
-      here = sym (ap (next_cut a found) (ranges_at s at h k)) ∙ e
+    module _ (k : get_or (get_or rs i []) 1 0 ≡ 1) where
+      here : next_cut a found (record_at (get_or rs i []) 0 ∷ ranges_in (drop (i + 1) rs)) ≡ c
+      here = sym (ap (next_cut a found) (ranges_at rs i h k)) ∙ e
 
-      pub cut_below : get_or s (at + 2) 0 ≤ a → get_or s (at + 3) 0 < a → next_cut a found (ranges_in (drop (at + 5) s)) ≡ next_cut a top (ranges_in s)
-      cut_below f l = sym (next_below a found (record_at s at) (ranges_in (drop (at + 5) s)) f l) ∙ here
+      pub cut_below : get_or (get_or rs i []) 2 0 ≤ a → get_or (get_or rs i []) 3 0 < a → next_cut a found (ranges_in (drop (i + 1) rs)) ≡ c
+      cut_below f l = sym (next_below a found (record_at (get_or rs i []) 0) (ranges_in (drop (i + 1) rs)) f l) ∙ here
 
-      pub cut_holds : get_or s (at + 2) 0 ≤ a → a ≤ get_or s (at + 3) 0 → (r : ℕ) → r ≡ min (get_or s (at + 3) 0 + 1) found
-          → next_cut a r (ranges_in (drop (at + 5) s)) ≡ next_cut a top (ranges_in s)
+      pub cut_holds : get_or (get_or rs i []) 2 0 ≤ a → a ≤ get_or (get_or rs i []) 3 0 → (r : ℕ) → r ≡ min (get_or (get_or rs i []) 3 0 + 1) found
+          → next_cut a r (ranges_in (drop (i + 1) rs)) ≡ c
       cut_holds f l r q =
-          ap (λ t. next_cut a t (ranges_in (drop (at + 5) s))) (q ∙ ap (λ x. min x found) (add-one (get_or s (at + 3) 0)))
-          ∙ sym (next_holds a found (record_at s at) (ranges_in (drop (at + 5) s)) f l)
+          ap (λ t. next_cut a t (ranges_in (drop (i + 1) rs))) (q ∙ ap (λ x. min x found) (add-one (get_or (get_or rs i []) 3 0)))
+          ∙ sym (next_holds a found (record_at (get_or rs i []) 0) (ranges_in (drop (i + 1) rs)) f l)
           ∙ here
 
-      pub cut_above : SortedRanges (ranges_in (drop at s)) → a < get_or s (at + 2) 0 → (r : ℕ) → r ≡ min (get_or s (at + 2) 0) found → r ≡ next_cut a top (ranges_in s)
-      cut_above o l r q = q ∙ sym (next_above a found (record_at s at) (ranges_in (drop (at + 5) s)) (subst SortedRanges (ranges_at s at h k) o) l) ∙ here
+      pub cut_above : SortedRanges (ranges_in (drop i rs)) → a < get_or (get_or rs i []) 2 0 → (r : ℕ) → r ≡ min (get_or (get_or rs i []) 2 0) found → r ≡ c
+      cut_above o l r q = q ∙ sym (next_above a found (record_at (get_or rs i []) 0) (ranges_in (drop (i + 1) rs)) (subst SortedRanges (ranges_at rs i h k) o) l) ∙ here

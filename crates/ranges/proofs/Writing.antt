@@ -1,5 +1,5 @@
 -- The laws by which `missing_ranges` is proved: holes as words at the front of a list, written one after the other.
-use Prim.Native.Nat.{ℕ, suc, ◌+◌, ◌-◌, ◌*◌, ◌≤◌, ◌<◌, min, max}
+use Prim.Native.Nat.{ℕ, suc, ◌+◌, ◌-◌, ◌*◌, ◌/◌, ◌≤◌, ◌<◌, min, max}
 use mathlib.Core.Bool.{Bool, true, false, cond}
 use mathlib.Core.List.{List, [], ◌∷◌, ◌++◌}
 use mathlib.Core.Path.{◌≡◌, refl, ◌∙◌, ap}
@@ -14,6 +14,10 @@ use Rattle.ranges.specs.Span.{Span}
 use Rattle.ranges.specs.Missing.{missing, SortedRanges}
 use Rattle.ranges.specs.inner.Missing.{gap, scan, span_words}
 use Rattle.ranges.proofs.Missing.{missing_scan}
+use Rattle.automata.specs.Automaton.{ranges_of}
+use Rattle.automata.specs.Records.{read_records}
+use Rattle.automata.proofs.Chunks.{records_are}
+use Rattle.std.specs.Simd.{first_chunks}
 use Rattle.ranges.proofs.Runs.{ranges_in, ranges_at, ranges_skip, ranges_end}
 
 words_append : (gs hs : List Span) → span_words (gs ++ hs) ≡ span_words gs ++ span_words hs
@@ -65,41 +69,41 @@ left_more {h₀} {h} {all} {n} gs hs l h' n' p q =
     place = omega (arith, words_length gs)
 
 -- a gap more takes at most two words
-pub holes_room : (s h h' : List ℕ) (n n' a b at : ℕ) → 5 ≤ length s - at → n' ≡ n + length (gap a b) → h' ≡ sets h (2 * n) (span_words (gap a b))
-    → 10 * n + 2 * (length s - at) + 10 ≤ 5 * length h → 10 * n' + 2 * (length s - (at + 5)) + 10 ≤ 5 * length h'
-holes_room s h h' n n' a b at p r w m = omega (arith, gap_short a b, ap length w ∙ length-sets h (2 * n) (span_words (gap a b)))
+pub holes_room : (rs : List (List ℕ)) (h h' : List ℕ) (n n' a b i : ℕ) → i < length rs → n' ≡ n + length (gap a b) → h' ≡ sets h (2 * n) (span_words (gap a b))
+    → n + (length rs - i) + 1 ≤ length h / 2 → n' + (length rs - (i + 1)) + 1 ≤ length h' / 2
+holes_room rs h h' n n' a b i p r w m = omega (arith, gap_short a b, ap length w ∙ length-sets h (2 * n) (span_words (gap a b)))
 
--- the holes: those from `cursor` on in the ranges from `at` on are left
-module _ (s h₀ : List ℕ) (lower upper : ℕ) where
+-- the holes: those from `cursor` on in the ranges from the record at an index on are left
+module _ (rs : List (List ℕ)) (h₀ : List ℕ) (upper : ℕ) (all : List Span) where
   abbrev pub HolesLeft : List ℕ → ℕ → ℕ → ℕ → Type 0
-  HolesLeft h cursor n at = SpansLeft h₀ (scan lower upper (ranges_in s)) h n (scan cursor upper (ranges_in (drop at s)))
+  HolesLeft h cursor n i = SpansLeft h₀ all h n (scan cursor upper (ranges_in (drop i rs)))
 
-  pub holes_start : HolesLeft h₀ lower 0 0
-  holes_start = left_start h₀ (scan lower upper (ranges_in s))
-
-  module _ (h : List ℕ) (cursor n at : ℕ) (l : HolesLeft h cursor n at) where
-    pub holes_skip : 5 ≤ length s - at → (get_or s (at + 1) 0 ≡ 1 → ⊥) → HolesLeft h cursor n (at + 5)
-    holes_skip p k = rw (ranges_skip s at p k) at l
+  module _ (h : List ℕ) (cursor n i : ℕ) (l : HolesLeft h cursor n i) where
+    pub holes_skip : i < length rs → (get_or (get_or rs i []) 1 0 ≡ 1 → ⊥) → HolesLeft h cursor n (i + 1)
+    holes_skip p k = rw (ranges_skip rs i p k) at l
 
     module _ (b n' : ℕ) (h' : List ℕ) (r : n' ≡ n + length (gap cursor b)) (w : h' ≡ sets h (2 * n) (span_words (gap cursor b))) where
-      pub holes_next : 5 ≤ length s - at → get_or s (at + 1) 0 ≡ 1 → b ≡ min (get_or s (at + 2) 0) (upper + 1) → (cursor' : ℕ) → cursor' ≡ max cursor (get_or s (at + 3) 0 + 1)
-          → HolesLeft h' cursor' n' (at + 5)
+      pub holes_next : i < length rs → get_or (get_or rs i []) 1 0 ≡ 1 → b ≡ min (get_or (get_or rs i []) 2 0) (upper + 1) → (cursor' : ℕ) → cursor' ≡ max cursor (get_or (get_or rs i []) 3 0 + 1)
+          → HolesLeft h' cursor' n' (i + 1)
       unfolding scan
-      holes_next p k e cursor' f = left_more (gap cursor b) (scan cursor' upper (ranges_in (drop (at + 5) s))) (rw step at l) h' n' r w
+      holes_next p k e cursor' f = left_more (gap cursor b) (scan cursor' upper (ranges_in (drop (i + 1) rs))) (rw step at l) h' n' r w
         where
-          step : scan cursor upper (ranges_in (drop at s)) ≡ gap cursor b ++ scan cursor' upper (ranges_in (drop (at + 5) s))
-          step = rw (ranges_at s at p k, e, f, add-one upper, add-one (get_or s (at + 3) 0))
+          step : scan cursor upper (ranges_in (drop i rs)) ≡ gap cursor b ++ scan cursor' upper (ranges_in (drop (i + 1) rs))
+          step = rw (ranges_at rs i p k, e, f, add-one upper, add-one (get_or (get_or rs i []) 3 0))
 
-      pub holes_length : length h' ≡ length h₀
-      holes_length = simp length-sets at (ap length w) ∙ (simp length-sets at (ap length l.words))
-
-      module _ (p : length s - at < 5) (e : b ≡ upper + 1) (d : SortedRanges (ranges_in s)) where
-        last_left : SpansLeft h₀ (missing lower upper (ranges_in s)) h n (gap cursor b)
+      module _ (p : length rs ≤ i) (e : b ≡ upper + 1) where
+        last_left : SpansLeft h₀ all h n (gap cursor b)
         unfolding scan
-        last_left = rw (missing_scan lower upper (ranges_in s) d, e, add-one upper) (rw (ranges_end s at p) at l)
+        last_left = rw (e, add-one upper) (rw (ranges_end rs i p) at l)
 
-        pub holes_count : n' ≡ length (missing lower upper (ranges_in s))
+        pub holes_count : n' ≡ length all
         holes_count = r ∙ last_left.count
 
-        pub holes_words : h' ≡ sets h₀ 0 (span_words (missing lower upper (ranges_in s)))
+        pub holes_words : h' ≡ sets h₀ 0 (span_words all)
         holes_words = w ∙ last_left.words
+
+-- all holes of the records that a run of words is
+pub holes_start : (s h : List ℕ) (lower upper : ℕ) (rs : List (List ℕ)) → rs ≡ first_chunks 5 (length s / 5) s → SortedRanges (ranges_of (read_records s))
+    → HolesLeft rs h upper (missing lower upper (ranges_of (read_records s))) h lower 0 0
+holes_start s h lower upper rs e o =
+    rw (records_are s rs e, missing_scan lower upper (ranges_of (read_records s)) o) (left_start h (scan lower upper (ranges_of (read_records s))))

@@ -1,10 +1,7 @@
 -- Spans of symbols: what two share, and whether ranges overlap (document 01, "Ranges").
-use Rattle.std.specs.Prelude.{ℕ, ◌≤◌, ◌<◌, min, max, Bool, true, false, cond, ◌||◌, List, [], ◌∷◌, ◌≡◌, leb}
-use Rattle.std.proofs.Math.Option.{Option, none, some}
+use Rattle.std.specs.Prelude.{ℕ, ◌≤◌, ◌<◌, min, max, Bool, true, false, cond, ◌||◌, Option, Some, None, List, [], ◌∷◌, ◌≡◌, leb}
 use Rattle.lists.specs.Lists.{◌∈◌}
 use Rattle.automata.specs.Automaton.{Transition, Automaton, holds, leaving, ranges_of}
-use Rattle.ranges.specs.declared.Common.{Common}
-use Rattle.ranges.specs.declared.Common.TheVariants.{Range, Nothing}
 
 -- the symbols from first to last
 pub record Span : Type 0 where
@@ -18,20 +15,20 @@ pub record InSpan (x : ℕ) (s : Span) : Type 0 where
 
 -- the symbol x lies in the span that there may be
 abbrev pub InOptionalSpan : ℕ → Option Span → Type 0
-InOptionalSpan x none = ⊥
-InOptionalSpan x (some s) = InSpan x s
+InOptionalSpan x None = ⊥
+InOptionalSpan x (Some s) = InSpan x s
 
 -- the common symbols of two ranges, or none
 unfoldable pub intersect_ranges : Span → Span → Option Span
 intersect_ranges s t =
     cond (leb (max s.first t.first) (min s.last t.last))
-    (some (record { first = max s.first t.first; last = min s.last t.last }))
-    none
+    (Some (record { first = max s.first t.first; last = min s.last t.last }))
+    None
 
 -- the answer of `intersect_ranges`
-abbrev pub span_of : Common → Option Span
-span_of (Range first last) = some (record { first = first; last = last })
-span_of Nothing = none
+abbrev pub span_of : Option (ℕ × ℕ) → Option Span
+span_of (Some (first, last)) = Some (record { first = first; last = last })
+span_of None = None
 
 -- some entry starts at or below `end` or the end of an entry before it
 unfoldable pub overlaps_from : ℕ → List Transition → Bool

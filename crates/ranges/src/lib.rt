@@ -6,6 +6,7 @@ ghost use Rattle.std.specs.Prelude.{◌≡◌, ◌+◌, ◌*◌, ◌≤◌, min,
 ghost use Rattle.std.proofs.lemmas.List.Edits.{sets};
 ghost use Rattle.automata.specs.Automaton.{ranges_of};
 ghost use Rattle.automata.specs.Records.{read_records};
+ghost use Rattle.automata.specs.inner.Chunks.{records_of};
 ghost use Rattle.ranges.specs.Span.{intersect_ranges, span_of, overlaps_from, overlapping};
 ghost use Rattle.ranges.specs.Missing.{SortedRanges, missing};
 ghost use Rattle.ranges.specs.inner.Missing.{gap, span_words};
@@ -15,13 +16,6 @@ ghost use Rattle.ranges.specs.inner.Missing.{gap, span_words};
 pub struct Ends {
     pub lower: u32,
     pub upper: u32,
-}
-
-// The common symbols of two ranges.
-#[derive(Drop)]
-pub enum Common {
-    Range(u32, u32),
-    Nothing,
 }
 
 fn larger(a: u32, b: u32) -> u32
@@ -36,51 +30,46 @@ fn smaller(a: u32, b: u32) -> u32
     if a < b { a } else { b }
 }
 
-// The common symbols of two ranges, or none.
-pub fn intersect_ranges(first1: u32, last1: u32, first2: u32, last2: u32) -> Common
+// The first and the last common symbol of two ranges, or None where there is no common symbol.
+#[tactic(auto, unfolding(crate::specs::Span::intersect_ranges))]
+pub fn intersect_ranges(first1: u32, last1: u32, first2: u32, last2: u32) -> Option<(u32, u32)>
     ensures { span_of result ≡ intersect_ranges (record { first = first1; last = last1 }) (record { first = first2; last = last2 }) }
 {
     let first = larger(first1, first2);
     let last = smaller(last1, last2);
     if first <= last {
-        Common::Range(first, last)
+        Some((first, last))
     } else {
-        Common::Nothing
+        None
     }
 }
 
-// Whether a range of the run starts at or below `end` or the end of a range before it.
-fn overlaps_from(run: &[u32], end: u32) -> bool
-    ensures { result ≡ overlaps_from end (ranges_of (read_records run.now)) }
+// Whether a range among the records starts at or below `end` or the end of a range before it.
+#[tactic(auto, using(crate::proofs::Runs::below_next, crate::proofs::Runs::below_done))]
+fn overlaps_from(records: &[[u32; 5]], end: u32) -> bool
+    ensures { result ≡ overlaps_from end (ranges_of (records_of records.now)) }
 {
     let mut largest = end;
-    let mut at: usize = 0;
-    while 5 <= run.len() - at {
-        let kind = run[at + 1];
-        let first = run[at + 2];
-        let last = run[at + 3];
-        at += 5;
-        if kind == 1 {
-            if first <= largest {
+    for r in records {
+        if r[1] == 1 {
+            if r[2] <= largest {
                 return true;
             }
-            largest = larger(largest, last);
+            largest = larger(largest, r[3]);
         }
     }
     false
 }
 
 // Whether a range of the run starts at or below the largest end before it.
+#[tactic(auto, using(automata::proofs::Chunks::records_chunks, std::proofs::lemmas::List::take_rest, crate::proofs::Runs::overlap_next, crate::proofs::Runs::overlap_done))]
 pub fn has_overlapping_ranges(run: &[u32]) -> bool
     ensures { result ≡ overlapping (ranges_of (read_records run.now)) }
 {
-    let mut at: usize = 0;
-    while 5 <= run.len() - at {
-        let kind = run[at + 1];
-        let last = run[at + 3];
-        at += 5;
-        if kind == 1 {
-            return overlaps_from(&run[at..], last);
+    let (records, _) = run.as_chunks::<5>();
+    for (k, r) in records.iter().enumerate() {
+        if r[1] == 1 {
+            return overlaps_from(&records[k + 1..], r[3]);
         }
     }
     false
@@ -141,15 +130,11 @@ pub fn missing_ranges(run: &[u32], lower: u32, upper: u32, holes: &mut [u32]) ->
     let top = upper as u64 + 1;
     let mut cursor = lower as u64;
     let mut n: usize = 0;
-    let mut at: usize = 0;
-    while 5 <= run.len() - at {
-        let kind = run[at + 1];
-        let first = run[at + 2];
-        let last = run[at + 3];
-        at += 5;
-        if kind == 1 {
-            n = add_gap(holes, n, cursor, until(first, top));
-            cursor = past(cursor, last);
+    let (records, _) = run.as_chunks::<5>();
+    for r in records {
+        if r[1] == 1 {
+            n = add_gap(holes, n, cursor, until(r[2], top));
+            cursor = past(cursor, r[3]);
         }
     }
     add_gap(holes, n, cursor, top)

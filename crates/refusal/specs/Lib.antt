@@ -4,3 +4,4 @@ pub mod Answer
 pub mod Outcome
 pub mod Reply
 pub mod Decision
+pub mod Checked

@@ -4,8 +4,9 @@
 
 ghost use Rattle.std.specs.Prelude.{◌≡◌};
 ghost use Rattle.refusal.specs.Number.{input_number, state_number, number_of};
+ghost use Rattle.refusal.specs.declared.Refusal.TheVariants.{Input, State};
 
-#[derive(Drop)]
+#[derive(Clone, Copy, PartialEq, Eq)]
 pub enum InputRefusal {
     // 1: a sheet too short for its counts, or with words left over.
     SheetLength,
@@ -39,7 +40,7 @@ pub enum InputRefusal {
     OuterMark,
 }
 
-#[derive(Drop)]
+#[derive(Clone, Copy, PartialEq, Eq)]
 pub enum StateRefusal {
     // 20: an output shorter than its fixed size.
     OutputLength,
@@ -53,17 +54,27 @@ pub enum StateRefusal {
     JoinSets,
 }
 
-#[derive(Drop)]
+#[derive(Clone, Copy, PartialEq, Eq)]
 pub enum Refusal {
     Input(InputRefusal),
     State(StateRefusal),
 }
 
-// The answer to a question about sheets and labels.
-#[derive(Drop)]
-pub enum Decision {
-    Is(bool),
-    Refused(InputRefusal),
+// With these two `?` passes on either kind as a `Refusal`.
+impl From<InputRefusal> for Refusal {
+    ghost from_gives = { λ i r. r ≡ Input i };
+
+    fn from(i: InputRefusal) -> Refusal {
+        Refusal::Input(i)
+    }
+}
+
+impl From<StateRefusal> for Refusal {
+    ghost from_gives = { λ s r. r ≡ State s };
+
+    fn from(s: StateRefusal) -> Refusal {
+        Refusal::State(s)
+    }
 }
 
 // The number of a refusal that comes from the input.

@@ -1,13 +1,12 @@
 -- Laws of the parts of a case, as the functions that take it apart ask them.
 use Prim.Native.Nat.{ℕ, suc, ◌+◌, ◌-◌, ◌≤◌, ◌<◌}
-use mathlib.Core.Bool.{true, false, false≢true}
-use mathlib.Core.List.{List, [], ◌∷◌, ◌++◌}
-use mathlib.Core.Path.{◌≡◌, sym, ◌∙◌, ap, ap₂}
+use mathlib.Core.List.{List, [], ◌∷◌}
+use mathlib.Core.Path.{◌≡◌, sym, ◌∙◌, ap}
 use native.Mathlib.Omega.{arith}
 use borrow.Author.Rules.{rules}
 use borrow.Author.Tests.{le-leb, lt-leb, lt-ltb, le-ltb}
 use lib.ListN.{length, get_or, take, drop, set, length-take, drop_of_length-le}
-use lib.Seq.{take_all, length-take-le, get_or-take}
+use lib.Seq.{length-take-le, get_or-take}
 use Rattle.stores.specs.Written.{Written}
 use Rattle.lists.proofs.Parts.{take_more, drop_at}
 use Rattle.stores.proofs.Written.{written_none, written_more}
@@ -31,26 +30,6 @@ module _ (s : List ℕ) (at : ℕ) where
 
 pub ruleset list_laws = (list_outside, list_long, list_part, rules)
 
--- lists of which something differs
-pub same_no : (a b : List ℕ) → false ≡ true → a ≡ b
-same_no a b e = absurd (false≢true e)
-
-pub same_length_differs : (a b : List ℕ) → (length a ≡ length b → ⊥) → a ≡ b → false ≡ true
-same_length_differs a b h e = absurd (h (ap length e))
-
-pub same_differs : (a b : List ℕ) (i : ℕ) → (get_or a i 0 ≡ get_or b i 0 → ⊥) → a ≡ b → false ≡ true
-same_differs a b i h e = absurd (h (ap (λ (l : List ℕ). get_or l i 0) e))
-
--- lists of one length that are the same up to i
-module _ (a b : List ℕ) (i : ℕ) (l : length a ≡ length b) (e : take i a ≡ take i b) where
-  pub same_next : i < length a → get_or a i 0 ≡ get_or b i 0 → take (i + 1) a ≡ take (i + 1) b
-  same_next h p = let g : i < length b = omega arith in take_more a i h ∙ ap₂ (λ (v : List ℕ) (x : ℕ). v ++ x ∷ []) e p ∙ sym (take_more b i g)
-
-  pub same_all : length a ≤ i → true ≡ true → a ≡ b
-  same_all h t = let g : length b ≤ i = omega arith in sym (take_all i a h) ∙ e ∙ take_all i b g
-
-pub ruleset same_laws = (same_no, same_length_differs, same_next, same_all, rules)
-
 -- bytes of a list, of which i are stored
 pub bytes_none : (out s : List ℕ) → Written out 0 (take 0 s) out 0
 bytes_none out s = written_none out 0
@@ -71,8 +50,8 @@ module _ (s : List ℕ) (n i : ℕ) (e : i + bytes_before (drop i (take n s)) �
   unfolding bytes_before
   before_end h = let z : bytes_before (drop i (take n s)) ≡ 0 = ap bytes_before (drop_of_length-le (take n s) h) in omega arith
 
-  pub before_ended : length s ≤ i → i ≡ bytes_before (take n s)
-  before_ended h = before_end (simp length-take (omega arith))
+  pub before_ended : length s ≤ i → i ≤ length s → length s ≡ bytes_before (take n s)
+  before_ended h g = omega (arith, before_end (simp length-take (omega arith)))
 
   pub before_full : (m : List ℕ) → length m ≡ n → length m ≤ i → i ≡ bytes_before (take n s)
   before_full m l h = before_end (simp length-take (omega arith))

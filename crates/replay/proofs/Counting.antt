@@ -1,34 +1,23 @@
 -- Laws of the cases of a list and of their counts, as the functions that read and count them ask them.
-use Prim.Native.Nat.{ℕ, suc, ◌+◌, ◌-◌}
-use mathlib.Core.Bool.{Bool, true, false}
-use mathlib.Core.List.{List, [], ◌∷◌}
-use mathlib.Core.Path.{◌≡◌, refl, sym, ◌∙◌, ap, ap₂}
-use borrow.Author.Rules.{rules}
-use lib.ListN.{get_or}
+use Rattle.std.proofs.Common.{Ok, Err, ℕ, suc, ◌+◌, ◌-◌, Bool, true, false, List, [], ◌∷◌, ◌≡◌, refl, sym, ◌∙◌, ap, ap₂, rules, get_or}
 use lib.Seq.{sets}
 use Rattle.replay.specs.declared.Case.{Case}
-use Rattle.replay.specs.declared.Numbers.{Numbers}
-use Rattle.replay.specs.declared.Numbers.TheVariants.{Stored, TooMany, Malformed}
+use Rattle.replay.specs.declared.LineFault.{LineFault}
 use Rattle.replay.specs.declared.Tally.{Tally}
 use Rattle.replay.specs.Lines.{answer, line_at}
 use Rattle.replay.specs.Counting.{case_of, case_at, fresh_tally, begun, tallied}
-use Rattle.replay.proofs.Lines.{case_within, case_counted}
 
 -- a line by the answer of the reader
-module _ (r : Numbers) (at room : ℕ) (s : List ℕ) (e : r ≡ answer room at (line_at s at)) where
-  pub case_stored : (n to : ℕ) → r ≡ Stored n to → ◌≡◌ {A = Case} (record { count = n; to = to }) (case_at room s at)
+module _ (at room : ℕ) (s : List ℕ) where
+  pub case_stored : (n to : ℕ) → Ok (record { count = n; to = to }) ≡ answer room at (line_at s at) → ◌≡◌ {A = Case} (record { count = n; to = to }) (case_at room s at)
   unfolding case_at
-  case_stored n to f = ap (case_of at) (sym f ∙ e)
+  case_stored n to e = ap (case_of at) e
 
-  pub case_many : r ≡ TooMany → ◌≡◌ {A = Case} (record { count = 0; to = at }) (case_at room s at)
+  pub case_fault : (f : LineFault) → Err f ≡ answer room at (line_at s at) → ◌≡◌ {A = Case} (record { count = 0; to = at }) (case_at room s at)
   unfolding case_at
-  case_many f = ap (case_of at) (sym f ∙ e)
+  case_fault f e = ap (case_of at) e
 
-  pub case_malformed : r ≡ Malformed → ◌≡◌ {A = Case} (record { count = 0; to = at }) (case_at room s at)
-  unfolding case_at
-  case_malformed f = ap (case_of at) (sym f ∙ e)
-
-pub ruleset case_laws = (case_within, case_counted, case_stored, case_many, case_malformed, rules)
+pub ruleset case_laws = (case_fault, rules)
 
 -- memory for one number has the first number of the line
 kept : (ns : List ℕ) (x k : ℕ) → get_or (sets (x ∷ []) (suc k) ns) 0 0 ≡ x

@@ -1,18 +1,12 @@
 -- Laws of lines of numbers, as the functions that read them ask them.
-use Prim.Native.Nat.{ℕ, suc, ◌+◌, ◌-◌, ◌≤◌, ◌<◌}
-use mathlib.Core.Bool.{Bool, true, false, not, cond, ◌&&◌}
-use mathlib.Core.List.{List, []}
-use mathlib.Core.Path.{◌≡◌, refl, sym, ◌∙◌, ap, subst}
-use native.Mathlib.Omega.{arith}
-use borrow.Author.Rules.{rules}
-use borrow.Author.Tests.{not-true, not-false, lt-leb, le-leb, eq-eqb, ne_eqb, ltb-false}
-use lib.Dec.{leb, ltb}
-use lib.ListN.{length, get_or, take, drop, set, drop_of_length-le}
-use lib.Seq.{sets, set_out, sets-eq, take_at, length-take-le}
+use Rattle.std.proofs.Common.{Result, Ok, Err, ℕ, suc, ◌+◌, ◌-◌, ◌≤◌, ◌<◌, Bool, true, false, not, cond, ◌&&◌, List, [], ◌≡◌, refl, sym, ◌∙◌, ap, subst, arith, rules, le-leb, eq-eqb, ne_eqb, ltb-false, leb, ltb, length, get_or, take, drop, set, drop_of_length-le, take_at, length-take-le}
+use borrow.Author.Tests.{not-true, not-false, lt-leb}
+use lib.Seq.{sets, set_out, sets-eq}
 use Rattle.lists.proofs.Parts.{drop_at}
 use Rattle.decimal.specs.Decimal.{is_digit, with_digit}
 use Rattle.replay.specs.declared.Numbers.{Numbers}
-use Rattle.replay.specs.declared.Numbers.TheVariants.{Stored, TooMany, Malformed}
+use Rattle.replay.specs.declared.LineFault.{LineFault}
+use Rattle.replay.specs.declared.LineFault.TheVariants.{TooMany, Malformed}
 use Rattle.replay.specs.Lines.{NumberLine, ended, behind, line_from, line_at, told, answer}
 
 -- a number that no digits say, one for which there is no room, and one that is stored
@@ -78,8 +72,8 @@ module _ (s : List ℕ) (i v : ℕ) (b : Bool) where
       from_other p q = ap (line_from b v) (drop_at s i h) ∙ rw (ne_eqb (get_or s i 0) 10 other, ne_eqb (get_or s i 0) 32 p, q)
 
 -- the answer for an outcome
-reply : ℕ → Outcome → Numbers
-reply room o = cond o.whole (told room o.count o.place) Malformed
+reply : ℕ → Outcome → Result Numbers LineFault
+reply room o = cond o.whole (told room o.count o.place) (Err Malformed)
 
 answer_reply : (room at : ℕ) (out : List ℕ) (l : NumberLine) → reply room (outcome out 0 at l) ≡ answer room at l
 unfolding reply answer outcome
@@ -99,7 +93,7 @@ module _ (out₀ s out : List ℕ) (at n v i : ℕ) (b : Bool) (e : outcome out 
     unfolding outcome
     last_stored = r ∙ ap (λ (x : NumberLine). sets out n x.numbers) (sym l) ∙ ap (λ (o : Outcome). o.memory) e
 
-    last_answer : (t : Numbers) (room to : ℕ) → t ≡ told room k to → to ≡ i + z → t ≡ answer room at (line_at s at)
+    last_answer : (t : Result Numbers LineFault) (room to : ℕ) → t ≡ told room k to → to ≡ i + z → t ≡ answer room at (line_at s at)
     unfolding reply outcome
     last_answer t room to f g =
         f ∙ ap (told room k) g ∙ ap (λ (j : ℕ). told room j (i + z)) q ∙ ap (λ (x : NumberLine). reply room (outcome out n i x)) (sym l) ∙ ap (reply room) e
@@ -110,8 +104,8 @@ module _ (out₀ s out : List ℕ) (at n v i : ℕ) (b : Bool) (e : outcome out 
     pub end_stored : m ≡ sets out₀ 0 (line_at s at).numbers
     end_stored = last_stored m k q r 0 (from_end s i v b h)
 
-    pub end_answer : (t : Numbers) → t ≡ told (length m) k i → t ≡ answer (length out₀) at (line_at s at)
-    end_answer t f = rw (p ∙ p₀) at (last_answer m k q r 0 (from_end s i v b h) t (length m) i f (omega arith))
+    pub end_answer : (t : Result Numbers LineFault) (to : ℕ) → t ≡ told (length m) k to → to ≡ i → t ≡ answer (length out₀) at (line_at s at)
+    end_answer t to f g = rw (p ∙ p₀) at (last_answer m k q r 0 (from_end s i v b h) t (length m) to f (omega arith))
 
   module _ (h : i < length s) where
     -- a line feed
@@ -119,7 +113,7 @@ module _ (out₀ s out : List ℕ) (at n v i : ℕ) (b : Bool) (e : outcome out 
       pub feed_stored : m ≡ sets out₀ 0 (line_at s at).numbers
       feed_stored = last_stored m k q r 1 (from_feed s i v b h w)
 
-      pub feed_answer : (t : Numbers) → t ≡ told (length m) k (i + 1) → t ≡ answer (length out₀) at (line_at s at)
+      pub feed_answer : (t : Result Numbers LineFault) → t ≡ told (length m) k (i + 1) → t ≡ answer (length out₀) at (line_at s at)
       feed_answer t f = rw (p ∙ p₀) at (last_answer m k q r 1 (from_feed s i v b h w) t (length m) (i + 1) f refl)
 
     module _ (other : get_or s i 0 ≡ 10 → ⊥) where
@@ -135,7 +129,7 @@ module _ (out₀ s out : List ℕ) (at n v i : ℕ) (b : Bool) (e : outcome out 
         unfolding outcome
         stopped_stored r = ap (λ (l : NumberLine). sets out n l.numbers) (sym (from_other s i v b h other p r)) ∙ ap (λ (o : Outcome). o.memory) e
 
-        stopped_answer : (is_digit (get_or s i 0) && leb (with_digit v (get_or s i 0)) 4294967295) ≡ false → (room : ℕ) → Malformed ≡ answer room at (line_at s at)
+        stopped_answer : (is_digit (get_or s i 0) && leb (with_digit v (get_or s i 0)) 4294967295) ≡ false → (room : ℕ) → Err Malformed ≡ answer room at (line_at s at)
         unfolding reply outcome
         stopped_answer r room =
             ap (λ (l : NumberLine). reply room (outcome out n i l)) (sym (from_other s i v b h other p r)) ∙ ap (reply room) e ∙ answer_reply room at out₀ (line_at s at)
@@ -147,7 +141,7 @@ module _ (out₀ s out : List ℕ) (at n v i : ℕ) (b : Bool) (e : outcome out 
           pub other_stored : not x ≡ true → out ≡ sets out₀ 0 (line_at s at).numbers
           other_stored r = stopped_stored (no_digit r)
 
-          pub other_answer : not x ≡ true → (room : ℕ) → Malformed ≡ answer room at (line_at s at)
+          pub other_answer : not x ≡ true → (room : ℕ) → Err Malformed ≡ answer room at (line_at s at)
           other_answer r = stopped_answer (no_digit r)
 
           module _ (r : not x ≡ false) where
@@ -161,7 +155,7 @@ module _ (out₀ s out : List ℕ) (at n v i : ℕ) (b : Bool) (e : outcome out 
               pub over_stored : 4294967295 < w → out ≡ sets out₀ 0 (line_at s at).numbers
               over_stored m = stopped_stored (over m)
 
-              pub over_answer : 4294967295 < w → (room : ℕ) → Malformed ≡ answer room at (line_at s at)
+              pub over_answer : 4294967295 < w → (room : ℕ) → Err Malformed ≡ answer room at (line_at s at)
               over_answer m = stopped_answer (over m)
 
               pub line_digit : w ≤ 4294967295 → outcome out n (i + 1) (line_from true w (drop (i + 1) s)) ≡ outcome out₀ 0 at (line_at s at)
@@ -191,17 +185,18 @@ pub record LineStored (room at : ℕ) (l : NumberLine) (n to : ℕ) : Type 0 whe
   pub place : to ≡ at + l.size
   pub fits : n ≤ room
 
-pub line_told : (room at n to : ℕ) (l : NumberLine) (r : Numbers) → r ≡ answer room at l → r ≡ Stored n to → LineStored room at l n to
+pub line_told : (room at n to : ℕ) (l : NumberLine) → Ok (record { count = n; to = to }) ≡ answer room at l → LineStored room at l n to
 unfolding answer
-line_told room at n to l r e f = go l.whole (ltb room (length l.numbers)) refl refl (sym e ∙ f)
+line_told room at n to l e = go l.whole (ltb room (length l.numbers)) refl refl (sym e)
   where
-    go : (w t : Bool) → l.whole ≡ w → ltb room (length l.numbers) ≡ t → cond w (cond t TooMany (Stored (length l.numbers) (at + l.size))) Malformed ≡ Stored n to
+    go : (w t : Bool) → l.whole ≡ w → ltb room (length l.numbers) ≡ t → cond {A = Result Numbers LineFault} w (cond t (Err TooMany) (Ok (record { count = length l.numbers; to = at + l.size }))) (Err Malformed) ≡ Ok (record { count = n; to = to })
         → LineStored room at l n to
     go true false p q g =
-        let c : n ≡ length l.numbers = cc in
-        record { whole = p; count = c; place = cc; fits = omega (arith, ltb-false room (length l.numbers) q) }
-    go true true p q g = let z : ◌≡◌ {A = ℕ} 0 1 = cc in absurd (omega arith)
-    go false t p q g = let z : ◌≡◌ {A = ℕ} 0 1 = cc in absurd (omega arith)
+        let s : ◌≡◌ {A = Numbers} (record { count = length l.numbers; to = at + l.size }) (record { count = n; to = to }) = cc in
+        let c : n ≡ length l.numbers = sym (ap (λ (x : Numbers). x.count) s) in
+        record { whole = p; count = c; place = sym (ap (λ (x : Numbers). x.to) s); fits = omega (arith, ltb-false room (length l.numbers) q) }
+    go true true p q g = absurd (cc)
+    go false t p q g = absurd (cc)
 
 -- the numbers of such a line are the first part of the memory
 pub line_part : (room at n to : ℕ) (out : List ℕ) (l : NumberLine) → LineStored room at l n to → length out ≡ room → take n (sets out 0 l.numbers) ≡ l.numbers
@@ -209,9 +204,9 @@ line_part room at n to out l t e =
     ap (take n) (sets-eq l.numbers out 0 (omega (arith, t.count, t.fits))) ∙ take_at l.numbers (drop (0 + length l.numbers) out) n (sym t.count)
 
 -- so many of them stand at the front of memory of that length
-module _ (r : Numbers) (at n to : ℕ) (out m : List ℕ) (l : NumberLine) (e : r ≡ answer (length out) at l) (f : r ≡ Stored n to) (k : length m ≡ length out) where
+module _ (at n to : ℕ) (out m : List ℕ) (l : NumberLine) (e : Ok (record { count = n; to = to }) ≡ answer (length out) at l) (k : length m ≡ length out) where
   pub case_within : n ≤ length m
-  case_within = omega (arith, (line_told (length out) at n to l r e f).fits)
+  case_within = omega (arith, (line_told (length out) at n to l e).fits)
 
   pub case_counted : n ≡ length (take n m)
   case_counted = sym (length-take-le n m case_within)

@@ -1,16 +1,15 @@
 -- The cases of a list, read one after the other and counted.
-use Rattle.std.specs.Prelude.{ℕ, ◌+◌, ◌-◌, ◌^◌, ◌<◌, Bool, cond, List, get_or}
+use Rattle.std.specs.Prelude.{ℕ, ◌+◌, ◌-◌, ◌^◌, ◌<◌, Bool, cond, Result, Ok, Err, List, get_or}
 use Rattle.replay.specs.declared.Case.{Case}
 use Rattle.replay.specs.declared.Numbers.{Numbers}
-use Rattle.replay.specs.declared.Numbers.TheVariants.{Stored, TooMany, Malformed}
+use Rattle.replay.specs.declared.LineFault.{LineFault}
 use Rattle.replay.specs.declared.Tally.{Tally}
 use Rattle.replay.specs.Lines.{answer, line_at}
 
 -- the case that the line at a place gives: as many numbers as it has, and the place behind it; or 0, and the place itself
-abbrev pub case_of : ℕ → Numbers → Case
-case_of at (Stored n to) = record { count = n; to = to }
-case_of at TooMany = record { count = 0; to = at }
-case_of at Malformed = record { count = 0; to = at }
+abbrev pub case_of : ℕ → Result Numbers LineFault → Case
+case_of at (Ok l) = record { count = l.count; to = l.to }
+case_of at (Err f) = record { count = 0; to = at }
 
 -- the case at a place of a text, where there is room for so many numbers
 unfoldable pub case_at : ℕ → List ℕ → ℕ → Case

@@ -1,8 +1,9 @@
 -- Lines of decimal numbers: digits, separated by blanks, ended by a line feed or by the end of the text.
-use Rattle.std.specs.Prelude.{ℕ, suc, ◌+◌, Bool, true, false, cond, ◌&&◌, List, [], ◌∷◌, leb, ltb, eqb, length, drop}
+use Rattle.std.specs.Prelude.{ℕ, suc, ◌+◌, Bool, true, false, cond, ◌&&◌, Result, Ok, Err, List, [], ◌∷◌, leb, ltb, eqb, length, drop}
 use Rattle.decimal.specs.Decimal.{is_digit, with_digit}
 use Rattle.replay.specs.declared.Numbers.{Numbers}
-use Rattle.replay.specs.declared.Numbers.TheVariants.{Stored, TooMany, Malformed}
+use Rattle.replay.specs.declared.LineFault.{LineFault}
+use Rattle.replay.specs.declared.LineFault.TheVariants.{TooMany, Malformed}
 
 -- the numbers of a line, how many bytes it takes with its line feed, and whether it could be read
 pub record NumberLine : Type 0 where
@@ -33,9 +34,9 @@ unfoldable pub line_at : List ℕ → ℕ → NumberLine
 line_at s at = line_from false 0 (drop at s)
 
 -- the answer for n numbers up to a place, where there is room for some
-abbrev pub told : ℕ → ℕ → ℕ → Numbers
-told room n to = cond (ltb room n) TooMany (Stored n to)
+abbrev pub told : ℕ → ℕ → ℕ → Result Numbers LineFault
+told room n to = cond (ltb room n) (Err TooMany) (Ok (record { count = n; to = to }))
 
 -- the answer for a line
-unfoldable pub answer : ℕ → ℕ → NumberLine → Numbers
-answer room at l = cond l.whole (told room (length l.numbers) (at + l.size)) Malformed
+unfoldable pub answer : ℕ → ℕ → NumberLine → Result Numbers LineFault
+answer room at l = cond l.whole (told room (length l.numbers) (at + l.size)) (Err Malformed)

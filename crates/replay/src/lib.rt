@@ -12,13 +12,6 @@ ghost use Rattle.replay.specs.Counting.{case_at, fresh_tally, begun, Bounded, ta
 // Standard output.
 const STDOUT: i32 = 1;
 
-// A 32-bit word as a size or an index.
-pub fn wide(x: u32) -> usize
-    ensures { result ≡ x }
-{
-    x as usize
-}
-
 // Stores v behind n numbers, if digits say it and there is room; answers how many numbers there are then.
 fn put(out: &mut [u32], n: usize, begun: bool, v: u32) -> usize
     requires { n + 1 < 2 ^ 64 }
@@ -35,37 +28,41 @@ fn put(out: &mut [u32], n: usize, begun: bool, v: u32) -> usize
     n
 }
 
-// What a line gives.
+// How many numbers of a line were stored, and the place behind the line.
 #[derive(Drop)]
-pub enum Numbers {
-    // How many numbers were stored, and the place behind the line.
-    Stored(usize, usize),
-    // There was no room for all of them.
+pub struct Numbers {
+    pub count: usize,
+    pub to: usize,
+}
+
+// Why a line could not be read.
+#[derive(Drop)]
+pub enum LineFault {
+    // There was no room for all of its numbers.
     TooMany,
     // A byte was no digit and no blank, or a number was over 4294967295.
     Malformed,
 }
 
 // The answer for a line of n numbers that ends before the place to.
-fn tell(room: usize, n: usize, to: usize) -> Numbers
+fn tell(room: usize, n: usize, to: usize) -> Result<Numbers, LineFault>
     ensures { result ≡ told room n to }
 {
     if room < n {
-        return Numbers::TooMany;
+        return Err(LineFault::TooMany);
     }
-    Numbers::Stored(n, to)
+    Ok(Numbers { count: n, to })
 }
 
 // Stores the numbers of the line at the place at, as many as there is room for.
-pub fn read_line(text: &[u8], at: usize, out: &mut [u32]) -> Numbers
+pub fn read_line(text: &[u8], at: usize, out: &mut [u32]) -> Result<Numbers, LineFault>
     ensures answer { result ≡ answer (length out.old) at (line_at text.now at) }
     ensures stored { out.new ≡ sets out.old 0 (line_at text.now at).numbers }
 {
     let mut n: usize = 0;
     let mut begun = false;
     let mut v: u32 = 0;
-    let mut i = at;
-    while i < text.len() {
+    for i in at..text.len() {
         let b = text[i];
         if b == 10 {
             let count = put(out, n, begun, v);
@@ -75,22 +72,20 @@ pub fn read_line(text: &[u8], at: usize, out: &mut [u32]) -> Numbers
             n = put(out, n, begun, v);
             begun = false;
             v = 0;
-            i += 1;
         } else {
             if !decimal::is_digit(b) {
-                return Numbers::Malformed;
+                return Err(LineFault::Malformed);
             }
             let w = decimal::with_digit(v as u64, b);
             if 4294967295 < w {
-                return Numbers::Malformed;
+                return Err(LineFault::Malformed);
             }
             begun = true;
             v = w as u32;
-            i += 1;
         }
     }
     let count = put(out, n, begun, v);
-    tell(out.len(), count, i)
+    tell(out.len(), count, at.max(text.len()))
 }
 
 // A case: how many numbers it has, or 0 where it could not be read, and the place behind it.
@@ -101,15 +96,15 @@ pub struct Case {
 }
 
 // Stores the numbers of the case at the place at.
+#[tactic(auto, using(crate::proofs::Counting::case_laws))]
 pub fn read_case(text: &[u8], at: usize, out: &mut [u32]) -> Case
     ensures within { IsPrefixLen result.count out.new }
     ensures case { result ≡ case_at (length out.old) text.now at }
     ensures stored { out.new ≡ sets out.old 0 (line_at text.now at).numbers }
 {
     match read_line(text, at, out) {
-        Numbers::Stored(count, to) => Case { count, to },
-        Numbers::TooMany => Case { count: 0, to: at },
-        Numbers::Malformed => Case { count: 0, to: at },
+        Ok(Numbers { count, to }) => Case { count, to },
+        Err(_) => Case { count: 0, to: at },
     }
 }
 
@@ -120,7 +115,7 @@ pub fn list(case: &[u32], at: usize) -> &[u32]
     if case.len() <= at {
         return &case[..0];
     }
-    let n = wide(case[at]);
+    let n = case[at] as usize;
     let first = at + 1;
     if case.len() - first < n {
         return &case[..0];
@@ -145,17 +140,7 @@ pub fn is_last(case: &[u32], at: usize, x: u32) -> bool
 pub fn same(a: &[u32], b: &[u32]) -> bool
     ensures { (result ≡ true → a.now ≡ b.now) × (a.now ≡ b.now → result ≡ true) }
 {
-    if a.len() != b.len() {
-        return false;
-    }
-    let mut i = 0;
-    while i < a.len() {
-        if a[i] != b[i] {
-            return false;
-        }
-        i += 1;
-    }
-    true
+    a == b
 }
 
 // Stores the elements of a list as bytes, up to the first that is over 255 or has no room; answers how many were stored.
@@ -164,19 +149,16 @@ pub fn bytes(list: &[u32], out: &mut [u8]) -> usize
     ensures stored { Written out.old 0 (take result list.now) out.new result }
     ensures count { result ≡ bytes_before (take (length out.old) list.now) }
 {
-    let mut i = 0;
-    while i < list.len() {
+    for (i, x) in list.iter().enumerate() {
         if out.len() <= i {
             return i;
         }
-        let x = list[i];
-        if 255 < x {
+        if 255 < *x {
             return i;
         }
-        out[i] = x as u8;
-        i += 1;
+        out[i] = *x as u8;
     }
-    i
+    list.len()
 }
 
 // How many cases are left, where the next one begins, and how many before it agreed and differed.

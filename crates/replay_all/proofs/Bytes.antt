@@ -9,9 +9,8 @@ use borrow.Author.Tests.{eq-eqb, ne_eqb}
 use lib.Dec.{eqb}
 use lib.ListN.{length, get_or, take, drop}
 use lib.Seq.{sets, sets-eq, take_at, take_all}
+use Rattle.std.specs.Prelude.{Result, Ok, Err}
 use Rattle.labels.specs.Checked.{checked_number}
-use Rattle.labels.specs.declared.Checked.{Checked}
-use Rattle.labels.specs.declared.Checked.TheVariants as checked
 use Rattle.labels.specs.Labels.{labels_fault}
 use Rattle.stores.specs.Written.{Written}
 use Rattle.stores.proofs.Written.{written_length}
@@ -19,7 +18,6 @@ use Rattle.refusal.specs.declared.InputRefusal.{InputRefusal}
 use Rattle.refusal.specs.Number.{input_number}
 use Rattle.replay.specs.Cases.{list_at, is_last, bytes_before}
 use Rattle.words.specs.Acceptance.{accepts_text_answer, acceptance_of}
-use Rattle.words.specs.declared.Acceptance.{Acceptance}
 use Rattle.replay_all.specs.Decided.{labels_case, accepted, text_case}
 
 -- a list that was stored whole
@@ -37,15 +35,15 @@ module _ (s x : List ℕ) (l : x ≡ list_at s 1) (some : length s ≡ 0 → ⊥
   pub labels_other : (n ≡ length x → ⊥) → false ≡ labels_case s
   labels_other h = sym (labels_by ∙ rw (ne_eqb n (length x) h))
 
-  module _ (h : n ≡ length x) (z m : List ℕ) (w : Written z 0 (take n x) m n) (g : n ≤ length m) (k : ℕ) (e : k ≡ get_or s 0 0) (c : Checked)
+  module _ (h : n ≡ length x) (z m : List ℕ) (w : Written z 0 (take n x) m n) (g : n ≤ length m) (k : ℕ) (e : k ≡ get_or s 0 0) (c : Result (Unit {0}) InputRefusal)
       (d : checked_number c ≡ labels_fault k (take n m)) (b : Bool) where
     labels_fault_lem : labels_fault (get_or s 0 0) x ≡ checked_number c
     labels_fault_lem = sym (d ∙ rw (bytes_all z m x n w h g, e))
 
-    pub labels_accepted : c ≡ checked.Accepted → b ≡ is_last s (2 + length x) 0 → b ≡ labels_case s
+    pub labels_accepted : c ≡ Ok tt → b ≡ is_last s (2 + length x) 0 → b ≡ labels_case s
     labels_accepted f p = p ∙ sym (labels_by ∙ rw (eq-eqb n (length x) h) (ap (is_last s (2 + length x)) (labels_fault_lem ∙ ap checked_number f)))
 
-    pub labels_refused : (i : InputRefusal) (r : ℕ) → c ≡ checked.Refused i → r ≡ input_number i → b ≡ is_last s (2 + length x) r → b ≡ labels_case s
+    pub labels_refused : (i : InputRefusal) (r : ℕ) → c ≡ Err i → r ≡ input_number i → b ≡ is_last s (2 + length x) r → b ≡ labels_case s
     labels_refused i r f u p =
         p ∙ sym (labels_by ∙ rw (eq-eqb n (length x) h) (ap (is_last s (2 + length x)) (labels_fault_lem ∙ ap checked_number f ∙ sym u)))
 
@@ -62,7 +60,7 @@ module _ (s x y : List ℕ) (l : x ≡ list_at s 0) (k : y ≡ list_at s (1 + le
   pub text_other : (n ≡ length y → ⊥) → false ≡ text_case s
   text_other h = sym (text_by ∙ rw (ne_eqb n (length y) h))
 
-  pub text_told : n ≡ length y → (z m : List ℕ) → Written z 0 (take n y) m n → n ≤ length m → (a : Acceptance) (b : Bool)
+  pub text_told : n ≡ length y → (z m : List ℕ) → Written z 0 (take n y) m n → n ≤ length m → (a : Result ℕ InputRefusal) (b : Bool)
       → b ≡ accepted s (1 + length x + 1 + length y) (acceptance_of a) → acceptance_of a ≡ accepts_text_answer x (take n m) → b ≡ text_case s
   text_told h z m w g a b p e =
       p ∙ ap (accepted s (1 + length x + 1 + length y)) (e ∙ ap (accepts_text_answer x) (bytes_all z m y n w h g)) ∙ sym (text_by ∙ rw (eq-eqb n (length y) h))

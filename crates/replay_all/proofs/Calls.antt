@@ -1,9 +1,8 @@
 -- Laws of cases of operations, of the pattern reader and of subautomata: the calls get the lists of the case.
-use Prim.Native.Nat.{ℕ, ◌+◌, ◌-◌, ◌≤◌, ◌<◌}
+use Prim.Native.Nat.{ℕ, ◌+◌, ◌≤◌}
 use mathlib.Core.Bool.{Bool, false, cond}
 use mathlib.Core.List.{List}
 use mathlib.Core.Path.{◌≡◌, sym, ◌∙◌, ap, ap₂}
-use native.Mathlib.Omega.{arith}
 use borrow.Author.Rules.{rules}
 use borrow.Author.Tests.{eq-eqb, ne_eqb, lt-ltb, le-ltb, le-leb, lt-leb}
 use lib.Dec.{eqb, ltb, leb}
@@ -15,26 +14,25 @@ use Rattle.output.specs.declared.Made.{Made}
 use Rattle.output.specs.Made.{output_of}
 use Rattle.output.specs.Output.{Lengths, Outputs, outputs}
 use Rattle.parser.specs.declared.Parsed.{Parsed}
-use Rattle.parser.specs.declared.Parsed.TheVariants as parsing
+use Rattle.std.proofs.Common.{Result, Ok, Err}
 use Rattle.parser.specs.Parsed.{parsed, parsed_of}
 use Rattle.parser.specs.Pattern.{parse_answer}
 use Rattle.product.specs.Product.{intersection_answer}
-use Rattle.refusal.specs.declared.Decision.{Decision}
+use Rattle.refusal.specs.declared.InputRefusal.{InputRefusal}
 use Rattle.refusal.specs.Decision.{decision_of}
 use Rattle.refusal.specs.declared.Refusal.{Refusal}
-use Rattle.refusal.specs.Number.{number_of}
 use Rattle.refusal.specs.Outcome.{Outcome}
-use Rattle.replay.specs.Cases.{list_at, is_last, bytes_before}
+use Rattle.replay.specs.Cases.{list_at, bytes_before}
 use Rattle.subautomaton.specs.Answer.{subautomaton_answer}
 use Rattle.totality.specs.Answers.{totalize_answer, complement_answer}
 use Rattle.replay_all.specs.Decided.{decided, subautomaton_of, subautomaton_case}
-use Rattle.replay_all.specs.Outcomes.{words, bytes, is_listed, is_outcome, determinize_case, product_case, operation, operation_case, is_read, is_reading, parse_case}
+use Rattle.replay_all.specs.Outcomes.{words, bytes, is_outcome, determinize_case, product_case, operation, operation_case, is_reading, parse_case}
 use Rattle.replay_all.specs.declared.operations.Operation.{Operation}
 use Rattle.replay_all.specs.declared.operations.Operation.TheVariants.{Totalize, Complement, EpsilonEliminate}
 use Rattle.replay_all.proofs.Bytes.{bytes_all}
 
 -- one sheet, or two
-module _ (s x : List ℕ) (lx : x ≡ list_at s 0) (o l : List ℕ) (a : Made) (b : Bool) where
+module _ (s x : List ℕ) (lx : x ≡ list_at s 0) (o l : List ℕ) (a : Result Made Refusal) (b : Bool) where
   pub determinize_told : output_of a o l ≡ outputs words bytes (determinize_answer x words bytes) → b ≡ is_outcome s (1 + length x) (output_of a o l) → b ≡ determinize_case s
   unfolding determinize_case
   determinize_told e p = p ∙ ap (is_outcome s (1 + length x)) e ∙ rw lx
@@ -74,54 +72,6 @@ module _ (k : Operation) (s x y : List ℕ) (lx : x ≡ list_at s 0) (ly : y ≡
       p ∙ ap (is_outcome s (1 + length x + 1 + length y)) (e ∙ ap (λ (v : List ℕ). outputs words bytes (operation k x v words bytes)) (bytes_all z m y n w h g))
       ∙ sym (operation_by ∙ rw (eq-eqb n (length y) h))
 
--- the outcome of the pattern reader
-module _ (s : List ℕ) (at : ℕ) (a : Parsed) (o l : List ℕ) where
-  module _ (n w b : ℕ) (e : a ≡ parsing.Read n w b) where
-    reading_by : is_reading s at (parsed_of a o l)
-        ≡ cond (leb (length s) (at + 1)) false
-        (cond (eqb (get_or s at 0) 0)
-        (cond (eqb (get_or s (at + 1) 0) n)
-        (cond (ltb (length o) w) false (cond (ltb (length l) b) false (is_listed s (at + 2) (take w o) (take b l))))
-        false)
-        false)
-    unfolding is_read
-    reading_by = ap (λ (x : Parsed). is_reading s at (parsed_of x o l)) e
-
-    pub reading_outside : length s ≤ at → false ≡ is_reading s at (parsed_of a o l)
-    reading_outside h = sym (reading_by ∙ rw (le-leb (length s) (at + 1) (omega arith)))
-
-    pub reading_short : length s ≤ at + 1 → false ≡ is_reading s at (parsed_of a o l)
-    reading_short h = sym (reading_by ∙ rw (le-leb (length s) (at + 1) h))
-
-    module _ (h : at + 1 < length s) where
-      pub reading_refusal : (get_or s at 0 ≡ 0 → ⊥) → false ≡ is_reading s at (parsed_of a o l)
-      reading_refusal p = sym (reading_by ∙ rw (lt-leb (length s) (at + 1) h, ne_eqb (get_or s at 0) 0 p))
-
-      module _ (p : get_or s at 0 ≡ 0) (k : ℕ) (u : k ≡ get_or s (at + 1) 0) where
-        pub reading_other : (k ≡ n → ⊥) → false ≡ is_reading s at (parsed_of a o l)
-        reading_other q = sym (reading_by ∙ rw (lt-leb (length s) (at + 1) h, eq-eqb (get_or s at 0) 0 p, ← u, ne_eqb k n q))
-
-        module _ (q : k ≡ n) where
-          reading_then : is_reading s at (parsed_of a o l) ≡ cond (ltb (length o) w) false (cond (ltb (length l) b) false (is_listed s (at + 2) (take w o) (take b l)))
-          reading_then = reading_by ∙ rw (lt-leb (length s) (at + 1) h, eq-eqb (get_or s at 0) 0 p, ← u, eq-eqb k n q)
-
-          pub reading_words : length o < w → false ≡ is_reading s at (parsed_of a o l)
-          reading_words v = sym (reading_then ∙ rw (lt-ltb (length o) w v))
-
-          module _ (v : w ≤ length o) where
-            pub reading_bytes : length l < b → false ≡ is_reading s at (parsed_of a o l)
-            reading_bytes d = sym (reading_then ∙ rw (le-ltb (length o) w v, lt-ltb (length l) b d))
-
-            pub reading_listed : b ≤ length l → (r : Bool) → r ≡ is_listed s (at + 2) (take (w - 0) o) (take (b - 0) l) → r ≡ is_reading s at (parsed_of a o l)
-            reading_listed d r c =
-                let y : w - 0 ≡ w = omega arith in
-                let z : b - 0 ≡ b = omega arith in
-                rw (y, z) at c ∙ sym (reading_then ∙ rw (le-ltb (length o) w v, le-ltb (length l) b d))
-
-  pub reading_refused : (i : Refusal) (k : ℕ) (r : Bool) → a ≡ parsing.Refused i → k ≡ number_of i → r ≡ is_last s at k → r ≡ is_reading s at (parsed_of a o l)
-  unfolding is_read
-  reading_refused i k r e q p = p ∙ ap (is_last s at) q ∙ sym (ap (λ (x : Parsed). is_reading s at (parsed_of x o l)) e)
-
 -- a text
 module _ (s x : List ℕ) (lx : x ≡ list_at s 0) (n : ℕ) (q : n ≡ bytes_before (take 4096 x)) where
   parse_by : parse_case s ≡ cond (eqb n (length x)) (is_reading s (1 + length x) (parsed words bytes (parse_answer x words bytes))) false
@@ -131,7 +81,7 @@ module _ (s x : List ℕ) (lx : x ≡ list_at s 0) (n : ℕ) (q : n ≡ bytes_be
   pub parse_other : (n ≡ length x → ⊥) → false ≡ parse_case s
   parse_other h = sym (parse_by ∙ rw (ne_eqb n (length x) h))
 
-  pub parse_told : n ≡ length x → (z m : List ℕ) → Written z 0 (take n x) m n → n ≤ length m → (o l : List ℕ) (a : Parsed) (b : Bool)
+  pub parse_told : n ≡ length x → (z m : List ℕ) → Written z 0 (take n x) m n → n ≤ length m → (o l : List ℕ) (a : Result Parsed Refusal) (b : Bool)
       → parsed_of a o l ≡ parsed words bytes (parse_answer (take n m) words bytes) → b ≡ is_reading s (1 + length x) (parsed_of a o l) → b ≡ parse_case s
   parse_told h z m w g o l a b e p =
       p ∙ ap (is_reading s (1 + length x)) (e ∙ ap (λ (v : List ℕ). parsed words bytes (parse_answer v words bytes)) (bytes_all z m x n w h g))
@@ -154,7 +104,7 @@ module _ (s x f y g : List ℕ) (lx : x ≡ list_at s 0) (lf : f ≡ list_at s (
     pub sub_second : (k ≡ length g → ⊥) → false ≡ subautomaton_case s
     sub_second i = sym (sub_by ∙ rw (eq-eqb n (length f) h, ← t, ne_eqb k (length g) i))
 
-    pub sub_told : k ≡ length g → (z m : List ℕ) → Written z 0 (take n f) m n → n ≤ length m → (z' m' : List ℕ) → Written z' 0 (take k g) m' k → k ≤ length m' → (a : Decision) (b : Bool)
+    pub sub_told : k ≡ length g → (z m : List ℕ) → Written z 0 (take n f) m n → n ≤ length m → (z' m' : List ℕ) → Written z' 0 (take k g) m' k → k ≤ length m' → (a : Result Bool InputRefusal) (b : Bool)
         → decision_of a ≡ subautomaton_answer x (take n m) y (take k m') → b ≡ decided s (1 + length x + 1 + length f + 1 + length y + 1 + length g) (decision_of a)
         → b ≡ subautomaton_case s
     sub_told i z m w u z' m' w' u' a b e p =
@@ -167,8 +117,6 @@ pub ruleset call_laws = (determinize_told, product_told, rules)
 pub ruleset operation_laws = (operation_totalize, operation_complement, operation_eliminate, rules)
 
 pub ruleset operated_laws = (operation_other, operation_told, rules)
-
-pub ruleset reading_laws = (reading_outside, reading_short, reading_refusal, reading_other, reading_words, reading_bytes, reading_listed, reading_refused, rules)
 
 pub ruleset parse_laws = (parse_other, parse_told, rules)
 

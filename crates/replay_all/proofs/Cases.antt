@@ -1,4 +1,5 @@
 -- Laws of the cases of a list: each agrees by its kind, and is counted.
+use Rattle.std.proofs.Common.{Result, Ok, Err}
 use Prim.Native.Nat.{ℕ, ◌-◌, ◌<◌}
 use mathlib.Core.Bool.{Bool}
 use mathlib.Core.List.{List}
@@ -9,7 +10,7 @@ use lib.ListN.{length, take, replicate, length-replicate}
 use lib.Seq.{sets, take_all}
 use Rattle.replay.specs.declared.Case.{Case}
 use Rattle.replay.specs.declared.Numbers.{Numbers}
-use Rattle.replay.specs.declared.Numbers.TheVariants.{Stored, TooMany, Malformed}
+use Rattle.replay.specs.declared.LineFault.{LineFault}
 use Rattle.replay.specs.declared.Tally.{Tally}
 use Rattle.replay.specs.Counting.{case_of, case_at, begun, tallied}
 use Rattle.replay.specs.Lines.{answer, line_at}
@@ -129,12 +130,11 @@ part_at : (out s : List ℕ) (at room : ℕ) → length out ≡ room → take (c
 unfolding case_at
 part_at out s at room l = go (answer room at (line_at s at)) refl
   where
-    go : (r : Numbers) → r ≡ answer room at (line_at s at) → take (case_of at r).count (sets out 0 (line_at s at).numbers) ≡ take (case_of at r).count (line_at s at).numbers
-    go (Stored n to) e =
-        let t : LineStored room at (line_at s at) n to = line_told room at n to (line_at s at) (Stored n to) e refl in
-        line_part room at n to out (line_at s at) t l ∙ sym (take_all n (line_at s at).numbers (omega (arith, t.count)))
-    go TooMany e = refl
-    go Malformed e = refl
+    go : (r : Result Numbers LineFault) → r ≡ answer room at (line_at s at) → take (case_of at r).count (sets out 0 (line_at s at).numbers) ≡ take (case_of at r).count (line_at s at).numbers
+    go (Ok v) e =
+        let t : LineStored room at (line_at s at) v.count v.to = line_told room at v.count v.to (line_at s at) e in
+        line_part room at v.count v.to out (line_at s at) t l ∙ sym (take_all v.count (line_at s at).numbers (omega (arith, t.count)))
+    go (Err f) e = refl
 
 pub turned : (k : ListKind) (text m : List ℕ) (t u : Tally) (v : Case) (b : Bool) → v ≡ case_at 4096 text t.at → m ≡ sets (replicate 4096 0) 0 (line_at text t.at).numbers
     → Agrees k (take v.count m) b → u ≡ tallied t v.to b → Turned k text t u

@@ -6,66 +6,61 @@ use mathlib.Core.Path.{◌≡◌, sym, ◌∙◌, ap}
 use borrow.Author.Rules.{rules}
 use borrow.Author.Tests.{eq-eqb, ne_eqb}
 use lib.ListN.{length}
+use Rattle.std.specs.Prelude.{Result, Ok, Err}
 use Rattle.emptiness.specs.Reachable.{reachable_answer}
 use Rattle.equivalence.specs.Equivalent.{equivalent_answer}
 use Rattle.refusal.specs.Decision.{decision_of}
-use Rattle.refusal.specs.declared.Decision.{Decision}
-use Rattle.refusal.specs.declared.Decision.TheVariants as decision
 use Rattle.refusal.specs.declared.InputRefusal.{InputRefusal}
 use Rattle.refusal.specs.Number.{input_number}
 use Rattle.replay.specs.Cases.{list_at, is_last}
 use Rattle.sheets.specs.Checked.{checked_number}
-use Rattle.sheets.specs.declared.Checked.{Checked}
-use Rattle.sheets.specs.declared.Checked.TheVariants as checked
 use Rattle.sheets.specs.Fault.{fault}
 use Rattle.nondeterminism.specs.Nondeterminism.{is_nfa_answer}
 use Rattle.words.specs.Acceptance.{accepts_words_answer, acceptance_of}
-use Rattle.words.specs.declared.Acceptance.{Acceptance}
-use Rattle.words.specs.declared.Acceptance.TheVariants as acceptance
 use Rattle.replay_all.specs.Decided.{sheet_case, accepted, word_case, decided, nfa_case, nonempty_case, equivalent_case}
 
 -- the answer of acceptance
-module _ (s : List ℕ) (at : ℕ) (a : Acceptance) where
-  pub accepted_kind : (b : Bool) (k : ℕ) → a ≡ acceptance.Kind k → b ≡ is_last s at k → b ≡ accepted s at (acceptance_of a)
+module _ (s : List ℕ) (at : ℕ) (a : Result ℕ InputRefusal) where
+  pub accepted_kind : (b : Bool) (k : ℕ) → a ≡ Ok k → b ≡ is_last s at k → b ≡ accepted s at (acceptance_of a)
   unfolding accepted
-  accepted_kind b k e h = h ∙ ap (λ (x : Acceptance). accepted s at (acceptance_of x)) (sym e)
+  accepted_kind b k e h = h ∙ ap (λ (x : Result ℕ InputRefusal). accepted s at (acceptance_of x)) (sym e)
 
-  module _ (i : InputRefusal) (n : ℕ) (e : a ≡ acceptance.Refused i) (p : n ≡ input_number i) where
+  module _ (i : InputRefusal) (n : ℕ) (e : a ≡ Err i) (p : n ≡ input_number i) where
     pub accepted_malformed : (b : Bool) → n ≡ 9 → b ≡ is_last s at 9 → b ≡ accepted s at (acceptance_of a)
     unfolding accepted
-    accepted_malformed b q h = h ∙ sym (ap (λ (x : Acceptance). accepted s at (acceptance_of x)) e ∙ rw (eq-eqb (input_number i) 9 (sym p ∙ q)))
+    accepted_malformed b q h = h ∙ sym (ap (λ (x : Result ℕ InputRefusal). accepted s at (acceptance_of x)) e ∙ rw (eq-eqb (input_number i) 9 (sym p ∙ q)))
 
     pub accepted_refused : (n ≡ 9 → ⊥) → false ≡ accepted s at (acceptance_of a)
     unfolding accepted
-    accepted_refused q = sym (ap (λ (x : Acceptance). accepted s at (acceptance_of x)) e ∙ rw (ne_eqb (input_number i) 9 (λ z. q (p ∙ z))))
+    accepted_refused q = sym (ap (λ (x : Result ℕ InputRefusal). accepted s at (acceptance_of x)) e ∙ rw (ne_eqb (input_number i) 9 (λ z. q (p ∙ z))))
 
 -- the answer to a question
-module _ (s : List ℕ) (at : ℕ) (a : Decision) where
-  pub decided_yes : (b x : Bool) → a ≡ decision.Is x → x ≡ true → b ≡ is_last s at 1 → b ≡ decided s at (decision_of a)
+module _ (s : List ℕ) (at : ℕ) (a : Result Bool InputRefusal) where
+  pub decided_yes : (b x : Bool) → a ≡ Ok x → x ≡ true → b ≡ is_last s at 1 → b ≡ decided s at (decision_of a)
   unfolding decided
-  decided_yes b x e t h = h ∙ sym (ap (λ (d : Decision). decided s at (decision_of d)) (e ∙ ap decision.Is t))
+  decided_yes b x e t h = h ∙ sym (ap (λ (d : Result Bool InputRefusal). decided s at (decision_of d)) (e ∙ ap Ok t))
 
-  pub decided_no : (b x : Bool) → a ≡ decision.Is x → x ≡ false → b ≡ is_last s at 0 → b ≡ decided s at (decision_of a)
+  pub decided_no : (b x : Bool) → a ≡ Ok x → x ≡ false → b ≡ is_last s at 0 → b ≡ decided s at (decision_of a)
   unfolding decided
-  decided_no b x e t h = h ∙ sym (ap (λ (d : Decision). decided s at (decision_of d)) (e ∙ ap decision.Is t))
+  decided_no b x e t h = h ∙ sym (ap (λ (d : Result Bool InputRefusal). decided s at (decision_of d)) (e ∙ ap Ok t))
 
-  pub decided_refused : (i : InputRefusal) → a ≡ decision.Refused i → false ≡ decided s at (decision_of a)
+  pub decided_refused : (i : InputRefusal) → a ≡ Err i → false ≡ decided s at (decision_of a)
   unfolding decided
-  decided_refused i e = sym (ap (λ (d : Decision). decided s at (decision_of d)) e)
+  decided_refused i e = sym (ap (λ (d : Result Bool InputRefusal). decided s at (decision_of d)) e)
 
 -- the fault of a sheet
-module _ (s sheet : List ℕ) (l : sheet ≡ list_at s 0) (c : Checked) (h : checked_number c ≡ fault sheet) (b : Bool) where
-  pub sheet_accepted : c ≡ checked.Accepted → b ≡ is_last s (1 + length sheet) 0 → b ≡ sheet_case s
+module _ (s sheet : List ℕ) (l : sheet ≡ list_at s 0) (c : Result (Unit {0}) InputRefusal) (h : checked_number c ≡ fault sheet) (b : Bool) where
+  pub sheet_accepted : c ≡ Ok tt → b ≡ is_last s (1 + length sheet) 0 → b ≡ sheet_case s
   unfolding sheet_case
   sheet_accepted e p = cc (ap checked_number e)
 
-  pub sheet_refused : (i : InputRefusal) (n : ℕ) → c ≡ checked.Refused i → n ≡ input_number i → b ≡ is_last s (1 + length sheet) n → b ≡ sheet_case s
+  pub sheet_refused : (i : InputRefusal) (n : ℕ) → c ≡ Err i → n ≡ input_number i → b ≡ is_last s (1 + length sheet) n → b ≡ sheet_case s
   unfolding sheet_case
   sheet_refused i n e q p = cc (ap checked_number e)
 
 -- one list, or two
 module _ (s x : List ℕ) (l : x ≡ list_at s 0) (b : Bool) where
-  module _ (a : Decision) (p : b ≡ decided s (1 + length x) (decision_of a)) where
+  module _ (a : Result Bool InputRefusal) (p : b ≡ decided s (1 + length x) (decision_of a)) where
     pub nfa_told : decision_of a ≡ is_nfa_answer 0 4294967295 x → b ≡ nfa_case s
     unfolding nfa_case
     nfa_told h = cc
@@ -75,11 +70,11 @@ module _ (s x : List ℕ) (l : x ≡ list_at s 0) (b : Bool) where
     nonempty_told h = cc
 
   module _ (y : List ℕ) (k : y ≡ list_at s (1 + length x)) where
-    pub word_told : (a : Acceptance) → b ≡ accepted s (1 + length x + 1 + length y) (acceptance_of a) → acceptance_of a ≡ accepts_words_answer x y → b ≡ word_case s
+    pub word_told : (a : Result ℕ InputRefusal) → b ≡ accepted s (1 + length x + 1 + length y) (acceptance_of a) → acceptance_of a ≡ accepts_words_answer x y → b ≡ word_case s
     unfolding word_case
     word_told a p h = cc
 
-    pub equivalent_told : (a : Decision) → b ≡ decided s (1 + length x + 1 + length y) (decision_of a) → decision_of a ≡ equivalent_answer x y → b ≡ equivalent_case s
+    pub equivalent_told : (a : Result Bool InputRefusal) → b ≡ decided s (1 + length x + 1 + length y) (decision_of a) → decision_of a ≡ equivalent_answer x y → b ≡ equivalent_case s
     unfolding equivalent_case
     equivalent_told a p h = cc
 

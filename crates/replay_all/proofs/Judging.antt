@@ -8,6 +8,7 @@ use borrow.Author.Rules.{rules}
 use borrow.Author.Tests.{eq-eqb, ne_eqb, lt-ltb, le-ltb}
 use lib.Dec.{eqb}
 use lib.ListN.{length, take, replicate}
+use Rattle.std.specs.Prelude.{Result, Ok, Err}
 use Rattle.automata.specs.WellFormed.{last_symbol}
 use Rattle.equality.specs.declared.Verdict.{Verdict}
 use Rattle.equality.specs.declared.Verdict.TheVariants as verdict
@@ -17,16 +18,14 @@ use Rattle.refusal.specs.declared.Refusal.{Refusal}
 use Rattle.refusal.specs.Number.{number_of}
 use Rattle.replay.specs.Cases.{list_at, is_last}
 use Rattle.words.specs.Acceptance.{accepts_words_answer, acceptance_of}
-use Rattle.words.specs.declared.Acceptance.{Acceptance}
-use Rattle.words.specs.declared.Acceptance.TheVariants as acceptance
 use Rattle.replay_all.specs.Verdicts.{is_one, tells_apart, is_told, last_of, is_verdict, EqualityCase}
 
 -- whether a sheet accepts a word
-module _ (a w : List ℕ) (r : Acceptance) (h : acceptance_of r ≡ accepts_words_answer a w) where
-  pub accepts_kind : (k : ℕ) → r ≡ acceptance.Kind k → eqb k 1 ≡ is_one (accepts_words_answer a w)
+module _ (a w : List ℕ) (r : Result ℕ InputRefusal) (h : acceptance_of r ≡ accepts_words_answer a w) where
+  pub accepts_kind : (k : ℕ) → r ≡ Ok k → eqb k 1 ≡ is_one (accepts_words_answer a w)
   accepts_kind k e = ap is_one (sym (ap acceptance_of e) ∙ h)
 
-  pub accepts_refused : (i : InputRefusal) → r ≡ acceptance.Refused i → false ≡ is_one (accepts_words_answer a w)
+  pub accepts_refused : (i : InputRefusal) → r ≡ Err i → false ≡ is_one (accepts_words_answer a w)
   accepts_refused i e = ap is_one (sym (ap acceptance_of e) ∙ h)
 
 module _ (a b w : List ℕ) (x : Bool) (e : x ≡ is_one (accepts_words_answer a w)) (y : Bool) (f : y ≡ is_one (accepts_words_answer b w)) where

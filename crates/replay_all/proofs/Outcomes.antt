@@ -1,4 +1,5 @@
 -- Laws of cases of operations: the outcome of a call is compared with what stands behind the inputs.
+use Rattle.std.proofs.Common.{Result, Ok, Err}
 use Prim.Native.Nat.{ℕ, ◌+◌, ◌-◌, ◌≤◌, ◌<◌}
 use mathlib.Core.Bool.{Bool, true, false, cond}
 use mathlib.Core.List.{List}
@@ -9,11 +10,10 @@ use borrow.Author.Tests.{eq-eqb, ne_eqb, lt-ltb, le-ltb}
 use lib.Dec.{eqb, ltb}
 use lib.ListN.{length, take}
 use Rattle.labels.specs.Labels.{same_label}
-use Rattle.labels.proofs.Same.{same_equal, equal_same}
+use Rattle.lists.proofs.Index.{same_equal, equal_same}
 use Rattle.stores.specs.Written.{Written}
 use Rattle.lists.proofs.Tests.{true_same}
 use Rattle.output.specs.declared.Made.{Made}
-use Rattle.output.specs.declared.Made.TheVariants as made
 use Rattle.output.specs.Made.{output_of}
 use Rattle.refusal.specs.declared.Refusal.{Refusal}
 use Rattle.refusal.specs.Number.{number_of}
@@ -61,24 +61,24 @@ module _ (s ws bs : List ℕ) (at : ℕ) where
 pub ruleset listed_laws = (listed_outside, listed_other, listed_long, listed_words, listed_bytes, rules)
 
 -- the outcome of an operation
-module _ (s : List ℕ) (at : ℕ) (a : Made) (o l : List ℕ) where
-  module _ (w b : ℕ) (e : a ≡ made.Lengths w b) where
-    outcome_by : is_outcome s at (output_of a o l) ≡ cond (ltb (length o) w) false (cond (ltb (length l) b) false (is_built s at (take w o) (take b l)))
+module _ (s : List ℕ) (at : ℕ) (a : Result Made Refusal) (o l : List ℕ) where
+  module _ (m : Made) (e : a ≡ Ok m) where
+    outcome_by : is_outcome s at (output_of a o l) ≡ cond (ltb (length o) m.words) false (cond (ltb (length l) m.bytes) false (is_built s at (take m.words o) (take m.bytes l)))
     unfolding is_answer
-    outcome_by = ap (λ (x : Made). is_outcome s at (output_of x o l)) e
+    outcome_by = ap (λ (x : Result Made Refusal). is_outcome s at (output_of x o l)) e
 
-    pub outcome_words : length o < w → false ≡ is_outcome s at (output_of a o l)
-    outcome_words h = sym (outcome_by ∙ rw (lt-ltb (length o) w h))
+    pub outcome_words : length o < m.words → false ≡ is_outcome s at (output_of a o l)
+    outcome_words h = sym (outcome_by ∙ rw (lt-ltb (length o) m.words h))
 
-    module _ (h : w ≤ length o) where
-      pub outcome_bytes : length l < b → false ≡ is_outcome s at (output_of a o l)
-      outcome_bytes g = sym (outcome_by ∙ rw (le-ltb (length o) w h, lt-ltb (length l) b g))
+    module _ (h : m.words ≤ length o) where
+      pub outcome_bytes : length l < m.bytes → false ≡ is_outcome s at (output_of a o l)
+      outcome_bytes g = sym (outcome_by ∙ rw (le-ltb (length o) m.words h, lt-ltb (length l) m.bytes g))
 
-      pub outcome_built : b ≤ length l → (r : Bool) → r ≡ is_built s at (take (w - 0) o) (take (b - 0) l) → r ≡ is_outcome s at (output_of a o l)
-      outcome_built g r p = (let y : w - 0 ≡ w = omega arith in let z : b - 0 ≡ b = omega arith in rw (y, z) at p) ∙ sym (outcome_by ∙ rw (le-ltb (length o) w h, le-ltb (length l) b g))
+      pub outcome_built : m.bytes ≤ length l → (r : Bool) → r ≡ is_built s at (take (m.words - 0) o) (take (m.bytes - 0) l) → r ≡ is_outcome s at (output_of a o l)
+      outcome_built g r p = (let y : m.words - 0 ≡ m.words = omega arith in let z : m.bytes - 0 ≡ m.bytes = omega arith in rw (y, z) at p) ∙ sym (outcome_by ∙ rw (le-ltb (length o) m.words h, le-ltb (length l) m.bytes g))
 
-  pub outcome_refused : (i : Refusal) (n : ℕ) (r : Bool) → a ≡ made.Refused i → n ≡ number_of i → r ≡ is_last s at n → r ≡ is_outcome s at (output_of a o l)
+  pub outcome_refused : (i : Refusal) (n : ℕ) (r : Bool) → a ≡ Err i → n ≡ number_of i → r ≡ is_last s at n → r ≡ is_outcome s at (output_of a o l)
   unfolding is_answer
-  outcome_refused i n r e q p = p ∙ ap (is_last s at) q ∙ sym (ap (λ (x : Made). is_outcome s at (output_of x o l)) e)
+  outcome_refused i n r e q p = p ∙ ap (is_last s at) q ∙ sym (ap (λ (x : Result Made Refusal). is_outcome s at (output_of x o l)) e)
 
 pub ruleset outcome_laws = (outcome_words, outcome_bytes, outcome_built, outcome_refused, rules)

@@ -10,6 +10,7 @@ use borrow.Author.Rules.{rules}
 use borrow.Author.Tests.{eq-eqb, ne_eqb, le-leb, lt-leb, not-true, not-false}
 use lib.Dec.{eqb}
 use lib.ListN.{length, get_or, drop, drop_of_length-le}
+use Rattle.std.specs.Prelude.{Result, Ok, Err}
 use Rattle.labels.specs.Labels.{same_label}
 use Rattle.lists.specs.Lists.{tabulate}
 use Rattle.lists.proofs.Lists.{length_tabulate}
@@ -23,8 +24,6 @@ use Rattle.sets.proofs.BitSet.{at_canon}
 use Rattle.sets.proofs.Members.{from_all, from_skip, from_here, from_end}
 use Rattle.sets.proofs.Steps.{entries_from}
 use Rattle.sheets.specs.Checked.{checked_number}
-use Rattle.sheets.specs.declared.Checked.{Checked}
-use Rattle.sheets.specs.declared.Checked.TheVariants as checked
 use Rattle.sheets.specs.Fault.{fault}
 use Rattle.sheets.specs.Sheet.{state_count, read}
 use Rattle.sheets.proofs.Checking.{refused_some}
@@ -108,12 +107,12 @@ pub closures_told : (s sheet t : List ℕ) (n : ℕ) (b : Bool) → n ≡ get_or
     → b ≡ are_rows (closures (read sheet)) s (1 + length sheet)
 closures_told s sheet t n b e f p = p ∙ ap (λ (T : List Set). are_rows T s (1 + length sheet)) (ap (entries t) e ∙ f)
 
-module _ (s x : List ℕ) (l : x ≡ list_at s 0) (c : Checked) (d : checked_number c ≡ fault x) where
-  pub closures_accepted : c ≡ checked.Accepted → (b : Bool) → b ≡ are_rows (closures (read x)) s (1 + length x) → b ≡ closures_case s
+module _ (s x : List ℕ) (l : x ≡ list_at s 0) (c : Result (Unit {0}) InputRefusal) (d : checked_number c ≡ fault x) where
+  pub closures_accepted : c ≡ Ok tt → (b : Bool) → b ≡ are_rows (closures (read x)) s (1 + length x) → b ≡ closures_case s
   unfolding closures_case
   closures_accepted e b p = p ∙ sym (rw (← l, eq-eqb (fault x) 0 (sym d ∙ ap checked_number e)))
 
-  pub closures_refused : (i : InputRefusal) → c ≡ checked.Refused i → false ≡ closures_case s
+  pub closures_refused : (i : InputRefusal) → c ≡ Err i → false ≡ closures_case s
   unfolding closures_case
   closures_refused i e = sym (rw (← l, ne_eqb (fault x) 0 (λ z. refused_some i (sym (ap checked_number e) ∙ d ∙ z))))
 

@@ -1,15 +1,9 @@
 -- Laws of cases of ranges: common symbols, the sheet that has the ranges of a case, and the holes that these leave.
-use Prim.Native.Nat.{ℕ, suc, ◌+◌, ◌-◌, ◌*◌, ◌/◌, ◌≤◌, ◌<◌}
-use mathlib.Core.Bool.{Bool, true, false, cond}
-use mathlib.Core.List.{List, [], ◌∷◌, ◌++◌}
-use mathlib.Core.Path.{◌≡◌, refl, sym, ◌∙◌, ap, ap₂}
-use native.Mathlib.Numerals.{add-one}
-use native.Mathlib.Omega.{arith}
-use borrow.Author.Rules.{rules}
-use borrow.Author.Tests.{eq-eqb, ne_eqb, lt-ltb, le-ltb, le-leb, lt-leb, ltb-false}
-use lib.Dec.{eqb, ltb}
-use lib.ListN.{length, get_or, take, drop, replicate, length-drop, length-replicate}
-use lib.Seq.{sets, sets-eq, take_at}
+use Rattle.std.proofs.Common.{Option, Result, Ok, Err, ℕ, zero, suc, ◌+◌, ◌-◌, ◌*◌, ◌/◌, ◌≤◌, ◌<◌, Bool, true, false, cond, List, [], ◌∷◌, ◌++◌, ◌≡◌, refl, sym, ◌∙◌, ap, ap₂, add-one, arith, rules, eq-eqb, ne_eqb, lt-ltb, le-ltb, le-leb, ltb-false, eqb, ltb, length, get_or, take, drop, replicate, length-drop, take_at}
+use borrow.Author.Tests.{lt-leb}
+use lib.ListN.{length-replicate}
+use lib.Seq.{sets, sets-eq, get_or-take, get_or-drop}
+use Rattle.std.specs.Simd.{first_chunks}
 use Rattle.automata.specs.Automaton.{leaving, ranges_of}
 use Rattle.automata.specs.Records.{read_records, write_records}
 use Rattle.automata.proofs.Records.{read_write}
@@ -17,8 +11,6 @@ use Rattle.labels.specs.Labels.{same_label}
 use Rattle.stores.specs.Written.{Written}
 use Rattle.lists.proofs.Parts.{drop_at, sets_append}
 use Rattle.stores.proofs.Written.{written_none, written_append, written_cons}
-use Rattle.ranges.specs.declared.Common.{Common}
-use Rattle.ranges.specs.declared.Common.TheVariants as common
 use Rattle.ranges.specs.Missing.{missing}
 use Rattle.ranges.specs.inner.Missing.{span_words}
 use Rattle.ranges.specs.Span.{Span, span_of, intersect_ranges, overlapping}
@@ -26,8 +18,6 @@ use Rattle.ranges.proofs.Writing.{words_length}
 use Rattle.refusal.specs.declared.InputRefusal.{InputRefusal}
 use Rattle.replay.specs.Cases.{list_at}
 use Rattle.sheets.specs.Checked.{checked_number}
-use Rattle.sheets.specs.declared.Checked.{Checked}
-use Rattle.sheets.specs.declared.Checked.TheVariants as checked
 use Rattle.sheets.specs.Fault.{fault}
 use Rattle.sheets.specs.Sheet.{read}
 use Rattle.sheets.proofs.Checking.{refused_some}
@@ -44,25 +34,6 @@ bit_no x h e = rw e
 pub ruleset bit_laws = (bit_yes, bit_no, rules)
 
 -- common symbols
-module _ (l : List ℕ) (a : Common) where
-  module _ (f t : ℕ) (e : a ≡ common.Range f t) where
-    ends_by : is_ends l (span_of a) ≡ cond (eqb (length l) 2) (cond (eqb (get_or l 0 0) f) (eqb (get_or l 1 0) t) false) false
-    ends_by = ap (λ (x : Common). is_ends l (span_of x)) e
-
-    pub ends_length : (length l ≡ 2 → ⊥) → false ≡ is_ends l (span_of a)
-    ends_length h = sym (ends_by ∙ rw (ne_eqb (length l) 2 h))
-
-    pub ends_first : length l ≡ 2 → (get_or l 0 0 ≡ f → ⊥) → false ≡ is_ends l (span_of a)
-    ends_first h g = sym (ends_by ∙ rw (eq-eqb (length l) 2 h, ne_eqb (get_or l 0 0) f g))
-
-    pub ends_last : length l ≡ 2 → get_or l 0 0 ≡ f → eqb (get_or l 1 0) t ≡ is_ends l (span_of a)
-    ends_last h g = sym (ends_by ∙ rw (eq-eqb (length l) 2 h, eq-eqb (get_or l 0 0) f g))
-
-  pub ends_none : a ≡ common.Nothing → eqb (length l) 0 ≡ is_ends l (span_of a)
-  ends_none e = ap (λ (x : Common). is_ends l (span_of x)) (sym e)
-
-pub ruleset end_laws = (ends_length, ends_first, ends_last, ends_none, rules)
-
 pub common_short : (s : List ℕ) → length s < 5 → false ≡ common_case s
 unfolding common_case
 common_short s h = sym (rw (lt-ltb (length s) 5 h))
@@ -76,7 +47,7 @@ module _ (s x : List ℕ) (h : 5 ≤ length s) (l : x ≡ list_at s 5) where
   pub common_other : (6 + length x ≡ length s → ⊥) → false ≡ common_case s
   common_other g = sym (common_by ∙ rw (ne_eqb (6 + length x) (length s) g))
 
-  pub common_told : 6 + length x ≡ length s → (a : Common) (b : Bool)
+  pub common_told : 6 + length x ≡ length s → (a : Option (ℕ × ℕ)) (b : Bool)
       → span_of a ≡ intersect_ranges (record { first = get_or s 1 0; last = get_or s 2 0 }) (record { first = get_or s 3 0; last = get_or s 4 0 }) → b ≡ is_ends x (span_of a) → b ≡ common_case s
   common_told g a b e p = p ∙ ap (is_ends x) e ∙ sym (common_by ∙ rw (eq-eqb (6 + length x) (length s) g))
 
@@ -95,33 +66,46 @@ records_length to [] = omega arith
 records_length to (a ∷ []) = omega arith
 records_length to (a ∷ b ∷ l) = omega (arith, records_length (suc to) l)
 
-pub ranges_begun : (s ps : List ℕ) (at : ℕ) → (sets s at (records 0 (drop 0 ps)) ≡ sets s at (records 0 ps)) × (at + length (records 0 (drop 0 ps)) ≡ at + length (records 0 ps))
-ranges_begun s ps at = (refl, refl)
+-- word j of pair i
+pair_word : (n : ℕ) (xs : List ℕ) (i j : ℕ) → i < n → j < 2 → get_or (get_or (first_chunks 2 n xs) i []) j 0 ≡ get_or xs (2 * i + j) 0
+pair_word zero xs i j h k = absurd (omega arith)
+pair_word (suc n) xs zero j h k = let z : 2 * 0 + j ≡ j = omega arith in rw z (get_or-take 2 xs j 0 k)
+pair_word (suc n) xs (suc i) j h k =
+    let z : 2 + (2 * i + j) ≡ 2 * suc i + j = omega arith in
+    pair_word n (drop 2 xs) i j (omega arith) k ∙ get_or-drop 2 xs (2 * i + j) 0 ∙ ap (λ m. get_or xs m 0) z
 
-module _ (s ps : List ℕ) (to i at : ℕ) (h : 2 ≤ length ps - i) (s' : List ℕ) (at' : ℕ) (w : Written s at (0 ∷ 1 ∷ get_or ps i 0 ∷ get_or ps (i + 1) 0 ∷ to ∷ []) s' at') where
-  next_records : records to (drop i ps) ≡ 0 ∷ 1 ∷ get_or ps i 0 ∷ get_or ps (i + 1) 0 ∷ to ∷ records (to + 1) (drop (i + 2) ps)
+-- the ranges from a number on are left: rs has the firsts and lasts pair by pair
+module _ (s ps : List ℕ) (rs : List (List ℕ)) (q : rs ≡ first_chunks 2 (length ps / 2) ps) (to at : ℕ) (h : to < length ps / 2) (s' : List ℕ) (at' : ℕ)
+    (w : Written s at (0 ∷ 1 ∷ get_or (get_or rs to []) 0 0 ∷ get_or (get_or rs to []) 1 0 ∷ to ∷ []) s' at') where
+  word : (j : ℕ) → j < 2 → get_or (get_or rs to []) j 0 ≡ get_or ps (2 * to + j) 0
+  word j k = ap (λ (l : List (List ℕ)). get_or (get_or l to []) j 0) q ∙ pair_word (length ps / 2) ps to j h k
+
+  next_records : records to (drop (2 * to) ps) ≡ 0 ∷ 1 ∷ get_or (get_or rs to []) 0 0 ∷ get_or (get_or rs to []) 1 0 ∷ to ∷ records (to + 1) (drop (2 * (to + 1)) ps)
   unfolding records
   next_records =
-      let z : i + 1 + 1 ≡ i + 2 = omega arith in
-      ap (records to) (drop_at ps i (omega arith) ∙ ap (λ (l : List ℕ). get_or ps i 0 ∷ l) (drop_at ps (i + 1) (omega arith) ∙ ap (λ (k : ℕ). get_or ps (i + 1) 0 ∷ drop k ps) z))
-      ∙ ap (λ (k : ℕ). 0 ∷ 1 ∷ get_or ps i 0 ∷ get_or ps (i + 1) 0 ∷ to ∷ records k (drop (i + 2) ps)) (sym (add-one to))
+      let y : 2 * to ≡ 2 * to + 0 = omega arith in
+      let z : 2 * to + 1 + 1 ≡ 2 * (to + 1) = omega arith in
+      ap (records to)
+      (drop_at ps (2 * to) (omega arith) ∙ ap₂ (λ (a : ℕ) (l : List ℕ). a ∷ l) (ap (λ (k : ℕ). get_or ps k 0) y ∙ sym (word 0 (omega arith)))
+      (drop_at ps (2 * to + 1) (omega arith) ∙ ap₂ (λ (a k : ℕ). a ∷ drop k ps) (sym (word 1 (omega arith))) z))
+      ∙ ap (λ (k : ℕ). 0 ∷ 1 ∷ get_or (get_or rs to []) 0 0 ∷ get_or (get_or rs to []) 1 0 ∷ to ∷ records k (drop (2 * (to + 1)) ps)) (sym (add-one to))
 
-  pub ranges_next : (old : List ℕ) (first : ℕ) → sets s at (records to (drop i ps)) ≡ sets old first (records 0 ps) → sets s' at' (records (to + 1) (drop (i + 2) ps)) ≡ sets old first (records 0 ps)
+  pub ranges_next : (old : List ℕ) (first : ℕ) → sets s at (records to (drop (2 * to) ps)) ≡ sets old first (records 0 ps)
+      → sets s' at' (records (to + 1) (drop (2 * (to + 1)) ps)) ≡ sets old first (records 0 ps)
   ranges_next old first e =
-      let v : List ℕ = 0 ∷ 1 ∷ get_or ps i 0 ∷ get_or ps (i + 1) 0 ∷ to ∷ [] in
-      ap₂ (λ (l : List ℕ) (k : ℕ). sets l k (records (to + 1) (drop (i + 2) ps))) w.stored w.behind
-      ∙ sets_append s v (records (to + 1) (drop (i + 2) ps)) at ∙ ap (sets s at) (sym next_records) ∙ e
+      let v : List ℕ = 0 ∷ 1 ∷ get_or (get_or rs to []) 0 0 ∷ get_or (get_or rs to []) 1 0 ∷ to ∷ [] in
+      ap₂ (λ (l : List ℕ) (k : ℕ). sets l k (records (to + 1) (drop (2 * (to + 1)) ps))) w.stored w.behind
+      ∙ sets_append s v (records (to + 1) (drop (2 * (to + 1)) ps)) at ∙ ap (sets s at) (sym next_records) ∙ e
 
-  pub ranges_count : (first : ℕ) → at + length (records to (drop i ps)) ≡ first + length (records 0 ps) → at' + length (records (to + 1) (drop (i + 2) ps)) ≡ first + length (records 0 ps)
+  pub ranges_count : (first : ℕ) → at + length (records to (drop (2 * to) ps)) ≡ first + length (records 0 ps)
+      → at' + length (records (to + 1) (drop (2 * (to + 1)) ps)) ≡ first + length (records 0 ps)
   ranges_count first d = omega (arith, w.behind, ap length next_records, d)
 
-pub ranges_ended : (old s ps : List ℕ) (first to i at : ℕ) → sets s at (records to (drop i ps)) ≡ sets old first (records 0 ps)
-    → at + length (records to (drop i ps)) ≡ first + length (records 0 ps) → length ps - i < 2 → Written old first (records 0 ps) s at
-ranges_ended old s ps first to i at e d h =
-    let z : records to (drop i ps) ≡ [] = records_short to (drop i ps) (simp length-drop h) in
+pub ranges_ended : (old s ps : List ℕ) (first to at : ℕ) → sets s at (records to (drop (2 * to) ps)) ≡ sets old first (records 0 ps)
+    → at + length (records to (drop (2 * to) ps)) ≡ first + length (records 0 ps) → length ps / 2 ≤ to → Written old first (records 0 ps) s at
+ranges_ended old s ps first to at e d h =
+    let z : records to (drop (2 * to) ps) ≡ [] = records_short to (drop (2 * to) ps) (simp length-drop (omega arith)) in
     record { stored = ap (sets s at) (sym z) ∙ e; behind = let k = ap length z in omega (arith, d) }
-
-pub ruleset range_laws = (ranges_begun, ranges_next, ranges_count, ranges_ended, rules)
 
 -- the sheet of ranges
 pub sheet_long : (s ps : List ℕ) → 128 < length ps → Written s 0 (range_sheet ps) s 0
@@ -157,15 +141,15 @@ module _ (s x m : List ℕ) (lx : x ≡ list_at s 1) (n : ℕ) (w : Written (rep
       ap₂ take z (w.stored ∙ sets-eq (range_sheet x) (replicate 388 0) 0 (omega (arith, sheet_short x, length-replicate {A = ℕ} 388 0)))
       ∙ take_at (range_sheet x) (drop (0 + length (range_sheet x)) (replicate 388 0)) (length (range_sheet x)) refl
 
-  module _ (c : Checked) (d : checked_number c ≡ fault (take (n - 0) m)) where
+  module _ (c : Result (Unit {0}) InputRefusal) (d : checked_number c ≡ fault (take (n - 0) m)) where
     holes_fault : fault (range_sheet (list_at s 1)) ≡ checked_number c
     holes_fault = sym (d ∙ ap fault (holes_sheet ∙ ap range_sheet lx))
 
-    pub holes_refused : (i : InputRefusal) → c ≡ checked.Refused i → false ≡ holes_case s
+    pub holes_refused : (i : InputRefusal) → c ≡ Err i → false ≡ holes_case s
     unfolding holes_case
     holes_refused i e = sym (rw (ne_eqb (fault (range_sheet (list_at s 1))) 0 (λ z. refused_some i (sym (ap checked_number e) ∙ sym holes_fault ∙ z))))
 
-    pub holes_told : c ≡ checked.Accepted → (b : Bool) → b ≡ is_holes s (2 + length x) (ranges_of (leaving (read (take (n - 0) m)) 0)) → b ≡ holes_case s
+    pub holes_told : c ≡ Ok tt → (b : Bool) → b ≡ is_holes s (2 + length x) (ranges_of (leaving (read (take (n - 0) m)) 0)) → b ≡ holes_case s
     unfolding holes_case
     holes_told e b p =
         let z : is_holes s (2 + length x) (ranges_of (leaving (read (range_sheet x)) 0)) ≡ is_holes s (2 + length (list_at s 1)) (ranges_of (leaving (read (range_sheet (list_at s 1))) 0)) = rw lx in

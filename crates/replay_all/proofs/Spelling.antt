@@ -1,4 +1,5 @@
 -- Laws of cases of writing: the text is compared with what stands behind the inputs.
+use Rattle.std.proofs.Common.{Result, Ok, Err}
 use Prim.Native.Nat.{ℕ, ◌+◌, ◌-◌, ◌≤◌, ◌<◌}
 use mathlib.Core.Bool.{Bool, true, false, cond}
 use mathlib.Core.List.{List}
@@ -14,8 +15,6 @@ use Rattle.refusal.specs.declared.Refusal.{Refusal}
 use Rattle.refusal.specs.Number.{number_of}
 use Rattle.refusal.specs.Outcome.{Outcome}
 use Rattle.replay.specs.Cases.{list_at, is_last, bytes_before}
-use Rattle.writer.specs.declared.Wrote.{Wrote}
-use Rattle.writer.specs.declared.Wrote.TheVariants as wrote
 use Rattle.writer.specs.Text.{write_answer, write_outcome}
 use Rattle.writer.specs.Wrote.{wrote_of}
 use Rattle.replay_all.specs.Spelling.{is_spelled, is_wrote, is_text, buffer, write_case}
@@ -55,11 +54,11 @@ module _ (s bs : List ℕ) (at : ℕ) where
 pub ruleset spelled_laws = (spelled_outside, spelled_refusal, spelled_other, spelled_long, spelled_bytes, rules)
 
 -- the outcome of writing
-module _ (s : List ℕ) (at : ℕ) (a : Wrote) (o : List ℕ) where
-  module _ (n : ℕ) (e : a ≡ wrote.Text n) where
+module _ (s : List ℕ) (at : ℕ) (a : Result ℕ Refusal) (o : List ℕ) where
+  module _ (n : ℕ) (e : a ≡ Ok n) where
     text_by : is_text s at (wrote_of a o) ≡ cond (ltb (length o) n) false (is_spelled s at (take n o))
     unfolding is_wrote
-    text_by = ap (λ (x : Wrote). is_text s at (wrote_of x o)) e
+    text_by = ap (λ (x : Result ℕ Refusal). is_text s at (wrote_of x o)) e
 
     pub text_long : length o < n → false ≡ is_text s at (wrote_of a o)
     text_long h = sym (text_by ∙ rw (lt-ltb (length o) n h))
@@ -67,9 +66,9 @@ module _ (s : List ℕ) (at : ℕ) (a : Wrote) (o : List ℕ) where
     pub text_spelled : n ≤ length o → (r : Bool) → r ≡ is_spelled s at (take (n - 0) o) → r ≡ is_text s at (wrote_of a o)
     text_spelled h r p = (let y : n - 0 ≡ n = omega arith in rw y at p) ∙ sym (text_by ∙ rw (le-ltb (length o) n h))
 
-  pub text_refused : (i : Refusal) (k : ℕ) (r : Bool) → a ≡ wrote.Refused i → k ≡ number_of i → r ≡ is_last s at k → r ≡ is_text s at (wrote_of a o)
+  pub text_refused : (i : Refusal) (k : ℕ) (r : Bool) → a ≡ Err i → k ≡ number_of i → r ≡ is_last s at k → r ≡ is_text s at (wrote_of a o)
   unfolding is_wrote
-  text_refused i k r e q p = p ∙ ap (is_last s at) q ∙ sym (ap (λ (x : Wrote). is_text s at (wrote_of x o)) e)
+  text_refused i k r e q p = p ∙ ap (is_last s at) q ∙ sym (ap (λ (x : Result ℕ Refusal). is_text s at (wrote_of x o)) e)
 
 pub ruleset written_text_laws = (text_long, text_spelled, text_refused, rules)
 

@@ -1,6 +1,5 @@
 -- Cases of ranges: what two have in common, or whether the ranges of a state overlap and the holes that they leave.
-use Rattle.std.specs.Prelude.{ℕ, suc, ◌+◌, ◌/◌, Bool, true, false, cond, List, [], ◌∷◌, ◌++◌, eqb, leb, ltb, length, get_or, replicate}
-use Rattle.std.proofs.Math.Option.{Option, none, some}
+use Rattle.std.specs.Prelude.{ℕ, suc, ◌+◌, ◌/◌, Bool, true, false, cond, Option, Some, None, List, [], ◌∷◌, ◌++◌, eqb, leb, ltb, length, get_or, replicate}
 use Rattle.automata.specs.Automaton.{Transition, leaving, ranges_of}
 use Rattle.labels.specs.Labels.{same_label}
 use Rattle.ranges.specs.Missing.{missing}
@@ -13,8 +12,8 @@ use Rattle.replay_all.specs.Parts.{behind_list}
 
 -- the list has first and last of the span, or nothing
 abbrev pub is_ends : List ℕ → Option Span → Bool
-is_ends l none = eqb (length l) 0
-is_ends l (some s) = cond (eqb (length l) 2) (cond (eqb (get_or l 0 0) s.first) (eqb (get_or l 1 0) s.last) false) false
+is_ends l None = eqb (length l) 0
+is_ends l (Some s) = cond (eqb (length l) 2) (cond (eqb (get_or l 0 0) s.first) (eqb (get_or l 1 0) s.last) false) false
 
 -- behind the first word first and last of two ranges, then those of their common symbols as a list
 unfoldable pub common_case : List ℕ → Bool

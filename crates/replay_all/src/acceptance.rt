@@ -3,15 +3,15 @@ ghost use Rattle.std.specs.Prelude.{◌≡◌};
 ghost use Rattle.words.specs.Acceptance.{acceptance_of};
 ghost use Rattle.replay_all.specs.Decided.{accepted, word_case, text_case};
 
-use words::Acceptance;
+use refusal::InputRefusal;
 
 // Whether the answer stands last in a case, at the place at.
-fn answered(case: &[u32], at: usize, answer: Acceptance) -> bool
+fn answered(case: &[u32], at: usize, answer: Result<u32, InputRefusal>) -> bool
     ensures { result ≡ accepted case.now at (acceptance_of answer) }
 {
     match answer {
-        Acceptance::Kind(k) => replay::is_last(case, at, k),
-        Acceptance::Refused(r) => {
+        Ok(k) => replay::is_last(case, at, k),
+        Err(r) => {
             let number = refusal::input_number(r);
             if number == 9 {
                 return replay::is_last(case, at, 9);

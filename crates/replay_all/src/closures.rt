@@ -7,27 +7,21 @@ ghost use Rattle.sheets.specs.Sheet.{read};
 ghost use Rattle.words.specs.Simulation.{closures};
 ghost use Rattle.replay_all.specs.Rows.{are_rows, closures_case};
 
-use sheets::Checked;
-
 // Whether row p of the table has the listed members and no others.
 fn is_row(rows: &[u64], p: usize, members: &[u32]) -> bool
     requires { 4 * p + 4 ≤ length rows.now }
     ensures { result ≡ same_label members.now (set_at rows.now (4 * p)) }
 {
     let mut i: usize = 0;
-    let mut q: usize = 0;
-    while q < 256 {
+    for q in 0..256 {
         if sets::has(rows, p, q) {
             if members.len() <= i {
                 return false;
             }
-            if replay::wide(members[i]) != q {
+            if members[i] as usize != q {
                 return false;
             }
             i += 1;
-            q += 1;
-        } else {
-            q += 1;
         }
     }
     i == members.len()
@@ -39,8 +33,7 @@ fn are_rows(rows: &[u64], n: usize, case: &[u32], at: usize) -> bool
     ensures { result ≡ are_rows (entries rows.now n) case.now at }
 {
     let mut next = at;
-    let mut p: usize = 0;
-    while p < n {
+    for p in 0..n {
         if case.len() <= next {
             return false;
         }
@@ -49,7 +42,6 @@ fn are_rows(rows: &[u64], n: usize, case: &[u32], at: usize) -> bool
             return false;
         }
         next = next + 1 + members.len();
-        p += 1;
     }
     next == case.len()
 }
@@ -61,7 +53,7 @@ fn closures_of(sheet: &[u32], case: &[u32]) -> bool
 {
     let mut rows = [0u64; 1024];
     words::state_closures(sheet, &mut rows);
-    let n = replay::wide(sheet[2]);
+    let n = sheet[2] as usize;
     are_rows(&rows, n, case, 1 + sheet.len())
 }
 
@@ -71,7 +63,7 @@ pub fn of_sheet(case: &[u32]) -> bool
 {
     let sheet = replay::list(case, 0);
     match sheets::check(sheet) {
-        Checked::Accepted => closures_of(sheet, case),
-        Checked::Refused(_) => false,
+        Ok(()) => closures_of(sheet, case),
+        Err(_) => false,
     }
 }

@@ -9,8 +9,8 @@ pub fn sheet(case: &[u32]) -> bool
     let words = replay::list(case, 0);
     let end = 1 + words.len();
     match sheets::check(words) {
-        sheets::Checked::Accepted => replay::is_last(case, end, 0),
-        sheets::Checked::Refused(r) => replay::is_last(case, end, refusal::input_number(r)),
+        Ok(()) => replay::is_last(case, end, 0),
+        Err(r) => replay::is_last(case, end, refusal::input_number(r)),
     }
 }
 
@@ -21,7 +21,7 @@ pub fn label_list(case: &[u32]) -> bool
     if case.len() == 0 {
         return false;
     }
-    let n = replay::wide(case[0]);
+    let n = case[0] as usize;
     let list = replay::list(case, 1);
     let mut bytes = [0u8; 1024];
     let k = replay::bytes(list, &mut bytes);
@@ -30,7 +30,7 @@ pub fn label_list(case: &[u32]) -> bool
     }
     let end = 2 + list.len();
     match labels::check(n, &bytes[..k]) {
-        labels::Checked::Accepted => replay::is_last(case, end, 0),
-        labels::Checked::Refused(r) => replay::is_last(case, end, refusal::input_number(r)),
+        Ok(()) => replay::is_last(case, end, 0),
+        Err(r) => replay::is_last(case, end, refusal::input_number(r)),
     }
 }

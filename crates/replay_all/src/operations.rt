@@ -9,6 +9,7 @@ ghost use Rattle.replay_all.specs.declared.operations.Operation.TheVariants.{Tot
 
 use output::Made;
 use parser::Parsed;
+use refusal::Refusal;
 
 // Whether the case has at its end, from at on, these words and these bytes as lists.
 fn is_listed(case: &[u32], at: usize, words: &[u32], labels: &[u8]) -> bool
@@ -48,20 +49,21 @@ fn is_built(case: &[u32], at: usize, words: &[u32], labels: &[u8]) -> bool
 }
 
 // Whether the outcome of an operation stands in the case from at on.
-fn outcome(case: &[u32], at: usize, made: Made, out: &[u32], names: &[u8]) -> bool
+#[tactic(auto, using(crate::proofs::Outcomes::outcome_laws))]
+fn outcome(case: &[u32], at: usize, made: Result<Made, Refusal>, out: &[u32], names: &[u8]) -> bool
     ensures { result ≡ is_outcome case.now at (output_of made out.now names.now) }
 {
     match made {
-        Made::Lengths(w, b) => {
-            if out.len() < w {
+        Ok(m) => {
+            if out.len() < m.words {
                 return false;
             }
-            if names.len() < b {
+            if names.len() < m.bytes {
                 return false;
             }
-            is_built(case, at, &out[0..w], &names[0..b])
+            is_built(case, at, &out[0..m.words], &names[0..m.bytes])
         }
-        Made::Refused(r) => replay::is_last(case, at, refusal::number(r)),
+        Err(r) => replay::is_last(case, at, refusal::number(r)),
     }
 }
 
@@ -97,7 +99,13 @@ enum Operation {
     EpsilonEliminate,
 }
 
-fn made_by(o: Operation, sheet: &[u32], labels: &[u8], out: &mut [u32], names: &mut [u8]) -> Made
+fn made_by(
+    o: Operation,
+    sheet: &[u32],
+    labels: &[u8],
+    out: &mut [u32],
+    names: &mut [u8],
+) -> Result<Made, Refusal>
     ensures { output_of result out.new names.new ≡ outputs out.old names.old (operation o sheet.now labels.now out.old names.old) }
 {
     match o {
@@ -145,11 +153,18 @@ pub fn epsilon_eliminated(case: &[u32]) -> bool
 
 // Whether the outcome of reading a text stands in the case from at on: the refusal's number, or 0, the number of bytes read, the sheet and
 // the labels.
-fn reading(case: &[u32], at: usize, answer: Parsed, out: &[u32], names: &[u8]) -> bool
+#[tactic(auto, unfolding(crate::specs::Outcomes::is_read))]
+fn reading(
+    case: &[u32],
+    at: usize,
+    answer: Result<Parsed, Refusal>,
+    out: &[u32],
+    names: &[u8],
+) -> bool
     ensures { result ≡ is_reading case.now at (parsed_of answer out.now names.now) }
 {
     match answer {
-        Parsed::Read(read, w, b) => {
+        Ok(p) => {
             if case.len() <= at {
                 return false;
             }
@@ -159,18 +174,18 @@ fn reading(case: &[u32], at: usize, answer: Parsed, out: &[u32], names: &[u8]) -
             if case[at] != 0 {
                 return false;
             }
-            if replay::wide(case[at + 1]) != read {
+            if case[at + 1] as usize != p.read {
                 return false;
             }
-            if out.len() < w {
+            if out.len() < p.words {
                 return false;
             }
-            if names.len() < b {
+            if names.len() < p.bytes {
                 return false;
             }
-            is_listed(case, at + 2, &out[0..w], &names[0..b])
+            is_listed(case, at + 2, &out[0..p.words], &names[0..p.bytes])
         }
-        Parsed::Refused(r) => replay::is_last(case, at, refusal::number(r)),
+        Err(r) => replay::is_last(case, at, refusal::number(r)),
     }
 }
 

@@ -3,20 +3,20 @@ ghost use Rattle.std.specs.Prelude.{◌≡◌};
 ghost use Rattle.refusal.specs.Decision.{decision_of};
 ghost use Rattle.replay_all.specs.Decided.{decided, nfa_case, nonempty_case, equivalent_case, subautomaton_case};
 
-use refusal::Decision;
+use refusal::InputRefusal;
 
 // Whether the answer stands last in a case, at the place at. Refusals have no cases.
-fn answered(case: &[u32], at: usize, answer: Decision) -> bool
+fn answered(case: &[u32], at: usize, answer: Result<bool, InputRefusal>) -> bool
     ensures { result ≡ decided case.now at (decision_of answer) }
 {
     match answer {
-        Decision::Is(b) => {
+        Ok(b) => {
             if b {
                 return replay::is_last(case, at, 1);
             }
             replay::is_last(case, at, 0)
         }
-        Decision::Refused(_) => false,
+        Err(_) => false,
     }
 }
 

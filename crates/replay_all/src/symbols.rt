@@ -9,9 +9,6 @@ ghost use Rattle.sheets.specs.inner.Accepted.{Accepted};
 ghost use Rattle.sheets.specs.Sheet.{read};
 ghost use Rattle.replay_all.specs.Spans.{is_ends, common_case, records, range_sheet, is_bit, are_spans, is_holes, holes_case, ranges_case};
 
-use ranges::Common;
-use sheets::Checked;
-
 // 0 and the ranges of a state, or 1 and two ranges.
 pub fn ranges_of(case: &[u32]) -> bool
     ensures { result ≡ ranges_case case.now }
@@ -26,11 +23,11 @@ pub fn ranges_of(case: &[u32]) -> bool
 }
 
 // Whether the list has first and last of the common symbols of two ranges, or nothing.
-fn is_ends(expected: &[u32], found: Common) -> bool
+fn is_ends(expected: &[u32], found: Option<(u32, u32)>) -> bool
     ensures { result ≡ is_ends expected.now (span_of found) }
 {
     match found {
-        Common::Range(first, last) => {
+        Some((first, last)) => {
             if expected.len() != 2 {
                 return false;
             }
@@ -39,7 +36,7 @@ fn is_ends(expected: &[u32], found: Common) -> bool
             }
             expected[1] == last
         }
-        Common::Nothing => expected.len() == 0,
+        None => expected.len() == 0,
     }
 }
 
@@ -64,13 +61,10 @@ fn put_ranges(pairs: &[u32], sheet: &mut [u32], first: usize) -> usize
     requires { (length pairs.now ≤ 128) × (2 * first + 5 * length pairs.now ≤ 2 * length sheet.old) }
     ensures { Written sheet.old first (records 0 pairs.now) sheet.new result }
 {
-    let mut to: u32 = 0;
-    let mut i: usize = 0;
+    let (ranges, _) = pairs.as_chunks::<2>();
     let mut at = first;
-    while 2 <= pairs.len() - i {
-        at = output::put_record(sheet, at, 0, 1, pairs[i], pairs[i + 1], to);
-        to += 1;
-        i += 2;
+    for (to, r) in ranges.iter().enumerate() {
+        at = output::put_record(sheet, at, 0, 1, r[0], r[1], to as u32);
     }
     at
 }
@@ -86,8 +80,8 @@ fn put_sheet(pairs: &[u32], sheet: &mut [u32]) -> usize
     }
     let none = [0u32; 64];
     let accepts = output::put_start(sheet, 0, 64);
-    let count = stores::put_words(sheet, accepts, &none);
-    let first = stores::put_word(sheet, count, (pairs.len() / 2) as u32);
+    let count = stores::put_all(sheet, accepts, &none);
+    let first = stores::put(sheet, count, (pairs.len() / 2) as u32);
     put_ranges(pairs, sheet, first)
 }
 
@@ -100,8 +94,8 @@ fn holes(case: &[u32]) -> bool
     let n = put_sheet(pairs, &mut words);
     let sheet = &words[0..n];
     match sheets::check(sheet) {
-        Checked::Accepted => holes_of(sheet, case, 2 + pairs.len()),
-        Checked::Refused(_) => false,
+        Ok(()) => holes_of(sheet, case, 2 + pairs.len()),
+        Err(_) => false,
     }
 }
 

@@ -3,7 +3,7 @@ ghost use Rattle.std.specs.Prelude.{◌≡◌};
 ghost use Rattle.writer.specs.Wrote.{wrote_of};
 ghost use Rattle.replay_all.specs.Spelling.{is_spelled, is_text, write_case};
 
-use writer::Wrote;
+use refusal::Refusal;
 
 // Whether the case has at its end, from at on, a 0 and these bytes as a list.
 fn is_spelled(case: &[u32], at: usize, text: &[u8]) -> bool
@@ -29,17 +29,18 @@ fn is_spelled(case: &[u32], at: usize, text: &[u8]) -> bool
 }
 
 // Whether the outcome of writing stands in the case from at on.
-fn is_text(case: &[u32], at: usize, answer: Wrote, out: &[u8]) -> bool
+#[tactic(auto, using(crate::proofs::Spelling::written_text_laws))]
+fn is_text(case: &[u32], at: usize, answer: Result<usize, Refusal>, out: &[u8]) -> bool
     ensures { result ≡ is_text case.now at (wrote_of answer out.now) }
 {
     match answer {
-        Wrote::Text(n) => {
+        Ok(n) => {
             if out.len() < n {
                 return false;
             }
             is_spelled(case, at, &out[0..n])
         }
-        Wrote::Refused(r) => replay::is_last(case, at, refusal::number(r)),
+        Err(r) => replay::is_last(case, at, refusal::number(r)),
     }
 }
 

@@ -5,15 +5,14 @@ ghost use Rattle.words.specs.Acceptance.{accepts_words_answer};
 ghost use Rattle.replay_all.specs.Verdicts.{is_one, tells_apart, is_told, last_of, is_verdict, EqualityCase};
 
 use equality::Verdict;
-use words::Acceptance;
 
 // Whether the sheet accepts the word.
 fn accepts(sheet: &[u32], word: &[u32]) -> bool
     ensures { result ≡ is_one (accepts_words_answer sheet.now word.now) }
 {
     match words::accepts_words(sheet, word) {
-        Acceptance::Kind(k) => k == 1,
-        Acceptance::Refused(_) => false,
+        Ok(k) => k == 1,
+        Err(_) => false,
     }
 }
 
@@ -50,7 +49,7 @@ fn last(case: &[u32]) -> usize
     if case.len() == 0 {
         return 0;
     }
-    replay::wide(case[case.len() - 1])
+    case[case.len() - 1] as usize
 }
 
 // Whether the verdict on two sheets, with its word at the front of the buffer, stands in the case from at on.

@@ -16,79 +16,78 @@ ghost use Rattle.writer.specs.Wrote.{wrote_of};
 use equality::Verdict;
 use output::Made;
 use parser::Parsed;
-use refusal::Decision;
-use words::Acceptance;
-use writer::Wrote;
+use refusal::{InputRefusal, Refusal};
 
 // The number of an acceptance's refusal, or 0 with the answer stored.
-fn reply_acceptance(r: Acceptance, answer: &mut u32) -> u32
+fn reply_acceptance(r: Result<u32, InputRefusal>, answer: &mut u32) -> u32
     ensures { number_reply result answer.new ≡ reply_to_number answer.old (acceptance_of r) }
 {
     match r {
-        Acceptance::Kind(k) => {
+        Ok(k) => {
             *answer = k;
             0
         }
-        Acceptance::Refused(i) => refusal::input_number(i),
+        Err(i) => refusal::input_number(i),
     }
 }
 
 // The number of an operation's refusal, or 0 with the lengths of its outputs stored.
-fn reply_made(r: Made, words: &mut u64, bytes: &mut u64) -> u32
+fn reply_made(r: Result<Made, Refusal>, words: &mut u64, bytes: &mut u64) -> u32
     ensures { (o l : List ℕ) → outputs_reply result words.new bytes.new o l ≡ reply (record { words = words.old; bytes = bytes.old }) (output_of r o l) }
 {
     match r {
-        Made::Lengths(w, b) => {
-            *words = w as u64;
-            *bytes = b as u64;
+        Ok(made) => {
+            *words = made.words as u64;
+            *bytes = made.bytes as u64;
             0
         }
-        Made::Refused(i) => refusal::number(i),
+        Err(i) => refusal::number(i),
     }
 }
 
 // The number of the refusal, or 0 with the answer stored: 1 for true, 0 for false.
-fn reply_decision(r: Decision, answer: &mut u32) -> u32
+fn reply_decision(r: Result<bool, InputRefusal>, answer: &mut u32) -> u32
     ensures { number_reply result answer.new ≡ reply_to_bool answer.old (decision_of r) }
 {
     match r {
-        Decision::Is(b) => {
-            if b {
-                *answer = 1;
-                return 0;
-            }
-            *answer = 0;
+        Ok(b) => {
+            *answer = b as u32;
             0
         }
-        Decision::Refused(i) => refusal::input_number(i),
+        Err(i) => refusal::input_number(i),
     }
 }
 
 // The number of the refusal of a text, or 0 with the bytes read and the lengths of the outputs stored.
-fn reply_parsed(r: Parsed, bytes_read: &mut u64, words: &mut u64, bytes: &mut u64) -> u32
+fn reply_parsed(
+    r: Result<Parsed, Refusal>,
+    bytes_read: &mut u64,
+    words: &mut u64,
+    bytes: &mut u64,
+) -> u32
     ensures { (o l : List ℕ) → reading_reply result bytes_read.new words.new bytes.new o l ≡ reply (read_cells bytes_read.old words.old bytes.old) (parsed_of r o l) }
 {
     match r {
-        Parsed::Read(n, w, b) => {
-            *bytes_read = n as u64;
-            *words = w as u64;
-            *bytes = b as u64;
+        Ok(p) => {
+            *bytes_read = p.read as u64;
+            *words = p.words as u64;
+            *bytes = p.bytes as u64;
             0
         }
-        Parsed::Refused(i) => refusal::number(i),
+        Err(i) => refusal::number(i),
     }
 }
 
 // The number of the refusal of writing, or 0 with the length of the text stored.
-fn reply_wrote(r: Wrote, bytes: &mut u64) -> u32
+fn reply_wrote(r: Result<usize, Refusal>, bytes: &mut u64) -> u32
     ensures { (o : List ℕ) → text_reply result bytes.new o ≡ reply bytes.old (wrote_of r o) }
 {
     match r {
-        Wrote::Text(n) => {
+        Ok(n) => {
             *bytes = n as u64;
             0
         }
-        Wrote::Refused(i) => refusal::number(i),
+        Err(i) => refusal::number(i),
     }
 }
 

@@ -2,7 +2,7 @@
 use Prim.Native.Nat.{ℕ, ◌≤◌}
 use mathlib.Core.Bool.{true, false}
 use mathlib.Core.List.{List, [], ◌∷◌, ◌++◌}
-use mathlib.Core.Option.{some}
+use Rattle.std.proofs.Common.{Some}
 use mathlib.Core.Path.{◌≡◌, refl}
 use lib.ListN.{length, take}
 use Rattle.lists.specs.Lists.{any, filter, tabulate}
@@ -47,7 +47,7 @@ pub starred :
     -- overlaps, and where two ranges meet
     × (overlapping (range_transition 0 0 5 0 ∷ range_transition 0 5 9 0 ∷ []) ≡ true)
     × (overlapping (range_transition 0 0 4 0 ∷ range_transition 0 5 9 0 ∷ []) ≡ false)
-    × (intersect_ranges (span 0 5) (span 5 9) ≡ some (span 5 5))
+    × (intersect_ranges (span 0 5) (span 5 9) ≡ Some (span 5 5))
     -- parts
     × (partition 3 0 last_symbol (range_transition 0 0 5 1 ∷ range_transition 0 3 9 2 ∷ []) ≡ symbol_part 0 2 (1 ∷ []) ∷ symbol_part 3 5 (1 ∷ 2 ∷ []) ∷ symbol_part 6 9 (2 ∷ []) ∷ [])
     -- A accepts the word 9, not 10, not the empty word

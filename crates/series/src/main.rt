@@ -7,34 +7,30 @@
 
 mod tested;
 
-use tested::Tested;
-use words::Acceptance;
+use refusal::InputRefusal;
+use tested::TestFault;
 
 // Standard output.
 const STDOUT: i32 = 1;
 
-fn say_acceptance(a: Acceptance) {
-    match a {
-        Acceptance::Kind(k) => {
-            if k == 0 {
-                io::write_all(STDOUT, b"not ");
-            }
-            io::write_all(STDOUT, b"accepted\n");
-        }
-        Acceptance::Refused(r) => {
-            io::write_all(STDOUT, b"refused ");
-            io::print_decimal(STDOUT, refusal::input_number(r) as u64);
-            io::write_all(STDOUT, b"\n");
-        }
-    }
+fn say_refusal(r: InputRefusal) {
+    io::write_all(STDOUT, b"refused ");
+    io::print_decimal(STDOUT, refusal::input_number(r) as u64);
+    io::write_all(STDOUT, b"\n");
 }
 
 fn main() {
     let mut text = [0u8; 65537];
     let got = io::read_full(0, &mut text);
     match tested::test(&text[..got]) {
-        Tested::Answered(a) => say_acceptance(a),
-        Tested::Unreadable => {
+        Ok(0) => {
+            io::write_all(STDOUT, b"not accepted\n");
+        }
+        Ok(_) => {
+            io::write_all(STDOUT, b"accepted\n");
+        }
+        Err(TestFault::Refused(r)) => say_refusal(r),
+        Err(TestFault::Unreadable) => {
             io::write_all(STDOUT, b"unreadable\n");
         }
     }

@@ -102,7 +102,4 @@ module _ (n : ℕ) (small : n ≤ 256) (t₀ t : List ℕ) (k : ℕ) (s : Closed
         below = s.below;
       }
 
-pub closed_all : (t₀ t : List ℕ) (n k : ℕ) → ClosedTo t₀ t n k → k ≤ n → n ≤ k → ClosedTo t₀ t n n
-closed_all t₀ t n k s l h = subst (ClosedTo t₀ t n) (omega arith) s
-
-pub ruleset closure_laws = (closed_none, closed_round, closed_skip, closed_all, rules)
+pub ruleset closure_laws = (closed_none, closed_round, closed_skip, rules)

@@ -19,10 +19,8 @@ fn round(t: &mut [u64], n: usize, k: usize)
     requires { (4 * n ≤ length t.old) × (k < n) × (n ≤ 256) }
     ensures { t.new ≡ visit_rows t.old k n }
 {
-    let mut p: usize = 0;
-    while p < n {
+    for p in 0..n {
         visit(t, p, k);
-        p += 1;
     }
 }
 
@@ -45,13 +43,9 @@ pub fn warshall(t: &mut [u64], n: usize)
     requires { (4 * n ≤ length t.old) × (n ≤ 256) × RowsBelow t.old n }
     ensures { ClosedTo t.old t.new n n }
 {
-    let mut k: usize = 0;
-    while k < n {
+    for k in 0..n {
         if leads_on(t, k) {
             round(t, n, k);
-            k += 1;
-        } else {
-            k += 1;
         }
     }
 }

@@ -135,13 +135,11 @@ fn first_in(s: &[u64], i: usize) -> usize
     requires { (4 ≤ length s.now) × (i ≤ 4) }
     ensures { result ≡ next_member (set_at s.now 0) (64 * i) }
 {
-    let mut j = i;
-    while j < 4 {
+    for j in i..4 {
         let w = s[j];
         if w != 0 {
             return 64 * j + lowest(w);
         }
-        j += 1;
     }
     256
 }

@@ -10,10 +10,10 @@ use lib.ListN.{length, get_or, take, drop, length-drop}
 use lib.Seq.{drop-drop, get_or-drop}
 use lib.Dec.{leb, ltb, eqb}
 use borrow.Author.Tests.{ltb-false, leb-false, eqb-true, eqb-false}
+use Rattle.std.specs.Prelude.{Result, Ok}
 use Rattle.lists.proofs.Tests.{cond_no, cond_yes, or_false}
 use Rattle.automata.specs.Records.{read_records}
-use Rattle.sheets.specs.declared.Checked.{Checked}
-use Rattle.sheets.specs.declared.Checked.TheVariants
+use Rattle.refusal.specs.declared.InputRefusal.{InputRefusal}
 use Rattle.sheets.specs.Checked.{checked_number}
 use Rattle.sheets.specs.inner.Accepted.{Accepted}
 use Rattle.sheets.specs.Fault.{accept_words, records_fault, transitions_fault, states_fault, fault}
@@ -88,6 +88,6 @@ accepted (a ∷ b ∷ t) e =
           (drop-drop 1 (n + 1) t ∙ ap (λ (k : ℕ). drop k (a ∷ b ∷ t)) (sym (four n))) r.records;
     }
 
--- the answer `Accepted` of the check
-pub check_accepted : (r : Checked) (s : List ℕ) → checked_number r ≡ fault s → r ≡ TheVariants.Accepted → Accepted s
+-- the answer `Ok` of the check
+pub check_accepted : (r : Result (Unit {0}) InputRefusal) (s : List ℕ) → checked_number r ≡ fault s → r ≡ Ok tt → Accepted s
 check_accepted r s e p = accepted s (sym e ∙ ap checked_number p)

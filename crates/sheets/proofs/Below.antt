@@ -1,5 +1,5 @@
 -- How many of some records leave a state below q: where the records of a state begin, and the loops that find these places.
-use Prim.Native.Nat.{ℕ, zero, suc, ◌+◌, ◌-◌, ◌*◌, ◌≤◌, ◌<◌}
+use Prim.Native.Nat.{ℕ, zero, suc, ◌+◌, ◌-◌, ◌*◌, ◌/◌, ◌≤◌, ◌<◌}
 use mathlib.Core.Bool.{true, false, cond}
 use mathlib.Core.List.{List, [], ◌∷◌, nil≢cons, head-eq_of_cons-eq}
 use mathlib.Core.Logic.{⊎_elim}
@@ -7,11 +7,11 @@ use mathlib.Core.Path.{◌≡◌, sym, ap, ◌∙◌}
 use native.Mathlib.Nat.{eq-or-lt_of_le}
 use native.Mathlib.Numerals.{add-one}
 use native.Mathlib.Omega.{arith}
-use borrow.Author.Rules.{rules}
 use borrow.Author.Tests.{leb-true, leb-false, ltb-true, ltb-false, lt-ltb, le-ltb, eqb-true, eqb-false, eq-eqb, ne_eqb}
 use lib.Dec.{leb, ltb, eqb}
 use lib.ListN.{length, get_or, take, drop, set, replicate, length-drop, length-set, length-replicate}
 use lib.Seq.{drop-nil, take-nil, get_or-set_same, get_or-set_other}
+use Rattle.std.specs.Simd.{first_chunks}
 use Rattle.lists.specs.Lists.{◌∈◌, filter, Ascending, none, more}
 use Rattle.lists.proofs.Lists.{filter_none, length_filter, drop_mem, blank_at}
 use Rattle.lists.proofs.Tests.{test}
@@ -20,6 +20,7 @@ use Rattle.automata.specs.Records.{read_records}
 use Rattle.automata.specs.inner.Records.{record_at}
 use Rattle.automata.specs.WellFormed.{Before}
 use Rattle.automata.proofs.Ordered.{before_from}
+use Rattle.automata.proofs.Chunks.{chunk_word}
 use Rattle.automata.proofs.Records.{records_at_lem, records_end, read_drop}
 use Rattle.sheets.specs.inner.Runs.{below, Rising, Named, RunEnds}
 
@@ -73,15 +74,15 @@ module _ (t : List ℕ) (k : ℕ) where
       let z : length (read_records t) - k ≡ 0 = sym (length-drop k (read_records t)) ∙ ap length (sym (read_drop k t) ∙ records_end t (5 * k) h) in
       omega arith
 
-  pub ends_bound : Named 256 (read_records t) → 5 ≤ length t - 5 * k → get_or t (5 * k) 0 < 256
+  ends_bound : Named 256 (read_records t) → 5 ≤ length t - 5 * k → get_or t (5 * k) 0 < 256
   ends_bound n h = n.froms (record_at t (5 * k)) (drop_mem k (read_records t) _ _ (record_k h))
 
   module _ (ends : List ℕ) (e : RunEnds t ends k) where
-    pub ends_ended : length t - 5 * k < 5 → RunEnds t ends (length (read_records t))
+    ends_ended : length t - 5 * k < 5 → RunEnds t ends (length (read_records t))
     ends_ended h = record { long = e.long; most = e.most; least = λ j l. e.least j (omega (arith, records_few h)) }
 
     -- the number behind record k
-    pub ends_next : Rising (read_records t) → Named 256 (read_records t) → 5 ≤ length t - 5 * k → RunEnds t (set ends (get_or t (5 * k) 0 + 1) (k + 1)) (k + 1)
+    ends_next : Rising (read_records t) → Named 256 (read_records t) → 5 ≤ length t - 5 * k → RunEnds t (set ends (get_or t (5 * k) 0 + 1) (k + 1)) (k + 1)
     ends_next up n h =
         record {
           long = length-set ends _ (k + 1) ∙ e.long;
@@ -107,7 +108,20 @@ module _ (t : List ℕ) (k : ℕ) where
         less : (j : ℕ) → j < k + 1 → (j ≡ k → ⊥) → j < k
         less j l d = omega (arith, d)
 
-pub ruleset ends_laws = (ends_bound, ends_ended, ends_next, rules)
+-- the same of its chunks
+module _ (t : List ℕ) (rs : List (List ℕ)) (k : ℕ) (q : rs ≡ first_chunks 5 (length t / 5) t) (m : length rs ≡ length t / 5) where
+  state : k < length rs → get_or (get_or rs k []) 0 0 ≡ get_or t (5 * k) 0
+  state h = let z : 5 * k + 0 ≡ 5 * k = omega arith in rw q (chunk_word (length t / 5) t k 0 (omega arith) (omega arith) ∙ ap (λ i. get_or t i 0) z)
+
+  pub state_bound : Named 256 (read_records t) → k < length rs → get_or (get_or rs k []) 0 0 < 256
+  state_bound n h = rw (state h) (ends_bound t k n (omega arith))
+
+  module _ (ends : List ℕ) (e : RunEnds t ends k) where
+    pub marked_all : length rs ≤ k → RunEnds t ends (length (read_records t))
+    marked_all h = ends_ended t k ends e (omega arith)
+
+    pub marked_next : Rising (read_records t) → Named 256 (read_records t) → k < length rs → RunEnds t (set ends (get_or (get_or rs k []) 0 0 + 1) (k + 1)) (k + 1)
+    marked_next up n h = rw (state h) (ends_next t k ends e up n (omega arith))
 
 pub below_mono : (q : ℕ) (ts : List Transition) → below q ts ≤ below (suc q) ts
 unfolding below filter

@@ -8,11 +8,10 @@ use native.Mathlib.Omega.{arith}
 use borrow.Author.Tests.{eqb-true, ne_eqb}
 use lib.Dec.{eqb}
 use lib.ListN.{get_or}
+use Rattle.std.specs.Prelude.{Result, Ok, Err}
 use Rattle.refusal.specs.Answer.{Answer, refused, given}
 use Rattle.refusal.specs.Decision.{decision_of}
 use Rattle.refusal.specs.Number.{input_number}
-use Rattle.refusal.specs.declared.Decision.{Decision}
-use Rattle.refusal.specs.declared.Decision.TheVariants.{Is, Refused}
 use Rattle.refusal.specs.declared.InputRefusal.{InputRefusal}
 use Rattle.refusal.specs.declared.InputRefusal.TheVariants.{SheetLength, Start, Counts, AcceptWord, Record, RecordOrder, Epsilon, Grammar, Utf8, Labels}
 use Rattle.refusal.specs.declared.InputRefusal.TheVariants.{EpsilonRecord, NoAcceptingState, Names, AcceptingName, OuterMark}
@@ -51,21 +50,21 @@ pub number_some : (i : InputRefusal) → 0 < input_number i
 number_some i = let n : input_number i ≡ 0 → ⊥ = refused_some i in omega arith
 
 -- a contract and what it says of the answer
-module _ (r : Decision) (a : Answer Bool) (call : decision_of r ≡ a) where
-  is_out : (r : Decision) (x : Bool) → decision_of r ≡ given x → r ≡ Is x
-  is_out (Is y) x e = let q : y ≡ x = cc in ap Is q
-  is_out (Refused i) x e = let z : ◌≡◌ {A = ℕ} 0 1 = cc in absurd (omega arith)
+module _ (r : Result Bool InputRefusal) (a : Answer Bool) (call : decision_of r ≡ a) where
+  is_out : (r : Result Bool InputRefusal) (x : Bool) → decision_of r ≡ given x → r ≡ Ok x
+  is_out (Ok y) x e = let q : y ≡ x = cc in ap Ok q
+  is_out (Err i) x e = let z : ◌≡◌ {A = ℕ} 0 1 = cc in absurd (omega arith)
 
-  refused_out : (r : Decision) (i : InputRefusal) → decision_of r ≡ refused (input_number i) → r ≡ Refused i
-  refused_out (Is y) i e = let z : ◌≡◌ {A = ℕ} 0 1 = cc in absurd (omega arith)
-  refused_out (Refused j) i e = let q : input_number j ≡ input_number i = cc in ap Refused (number_same j i q)
+  refused_out : (r : Result Bool InputRefusal) (i : InputRefusal) → decision_of r ≡ refused (input_number i) → r ≡ Err i
+  refused_out (Ok y) i e = let z : ◌≡◌ {A = ℕ} 0 1 = cc in absurd (omega arith)
+  refused_out (Err j) i e = let q : input_number j ≡ input_number i = cc in ap Err (number_same j i q)
 
   -- a truth is answered exactly where it is given
-  pub call_is : (x : Bool) → (r ≡ Is x) ↔ (a ≡ given x)
+  pub call_is : (x : Bool) → (r ≡ Ok x) ↔ (a ≡ given x)
   call_is x = (λ e. sym call ∙ ap decision_of e, λ e. is_out r x (call ∙ e))
 
   -- and a refusal exactly where its number is
-  pub call_refused : (i : InputRefusal) → (r ≡ Refused i) ↔ (a ≡ refused (input_number i))
+  pub call_refused : (i : InputRefusal) → (r ≡ Err i) ↔ (a ≡ refused (input_number i))
   call_refused i = (λ e. sym call ∙ ap decision_of e, λ e. refused_out r i (call ∙ e))
 
 -- an answer behind a sheet's faults is refused with the sheet's number or, where the sheet has no fault, with the answer's

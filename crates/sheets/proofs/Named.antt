@@ -1,8 +1,8 @@
 -- The states that records name are below a bound, those of an accepted sheet and of a state's run below 256: of all records, of the one at a place, and of those
 -- behind it.
-use Prim.Native.Nat.{ℕ, ◌+◌, ◌-◌, ◌≤◌, ◌<◌}
+use Prim.Native.Nat.{ℕ, ◌+◌, ◌-◌, ◌/◌, ◌≤◌, ◌<◌}
 use mathlib.Core.List.Memᴰ
-use mathlib.Core.List.{List}
+use mathlib.Core.List.{List, []}
 use mathlib.Core.Path.{◌≡◌, refl, sym, ◌∙◌, ap, subst}
 use native.Mathlib.Omega.{arith}
 use lib.ListN.{length, get_or, take, drop}
@@ -11,6 +11,9 @@ use Rattle.lists.proofs.Parts.{part_all}
 use Rattle.automata.specs.Automaton.{Transition, leaving}
 use Rattle.automata.specs.Records.{read_records, write_records}
 use Rattle.automata.specs.inner.Records.{record_at}
+use Rattle.std.specs.Simd.{first_chunks}
+use Rattle.automata.specs.inner.Chunks.{records_of}
+use Rattle.automata.proofs.Chunks.{records_are, record_in_chunks}
 use Rattle.automata.proofs.Leaving.{leaves}
 use Rattle.automata.proofs.Records.{read_write, records_at_lem, part_in}
 use Rattle.sheets.specs.Sheet.{state_count, records_at, read}
@@ -32,6 +35,25 @@ module _ {b : ℕ} (t : List ℕ) (at : ℕ) (n : Named b (read_records (drop at
 
   pub named_next : Named b (read_records (drop (at + 5) t))
   named_next = let r = rw (records_at_lem t at h) at n in record { froms = λ e m. r.froms e (Memᴰ.tail m); tos = λ e m. r.tos e (Memᴰ.tail m) }
+
+-- the record at an index of arrays of five words
+module _ {b : ℕ} (rs : List (List ℕ)) (i : ℕ) (n : Named b (records_of rs)) (h : i < length rs) where
+  pub record_from : get_or (get_or rs i []) 0 0 < b
+  record_from = n.froms _ (record_in_chunks rs i h)
+
+  pub record_to : get_or (get_or rs i []) 4 0 < b
+  record_to = n.tos _ (record_in_chunks rs i h)
+
+-- where the arrays are the chunks of words
+module _ {b : ℕ} (t : List ℕ) (rs : List (List ℕ)) (i : ℕ) (q : rs ≡ first_chunks 5 (length t / 5) t) (n : Named b (read_records t)) (h : i < length rs) where
+  all : Named b (records_of rs)
+  all = subst (Named b) (sym (records_are t rs q)) n
+
+  pub chunk_from : get_or (get_or rs i []) 0 0 < b
+  chunk_from = record_from rs i all h
+
+  pub chunk_to : get_or (get_or rs i []) 4 0 < b
+  chunk_to = record_to rs i all h
 
 -- the records of an accepted sheet
 module _ (s : List ℕ) (a : Accepted s) where

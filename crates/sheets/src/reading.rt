@@ -13,11 +13,9 @@ fn mark_ends(t: &[u32], ends: &mut [u32])
     requires { Rising (read_records t.now) × Named 256 (read_records t.now) × (length t.now ≤ 10240) × RunEnds t.now ends.old 0 }
     ensures { RunEnds t.now ends.new (length (read_records t.now)) }
 {
-    let mut k: usize = 0;
-    while 5 <= t.len() - 5 * k {
-        let p = t[5 * k] as usize;
-        k += 1;
-        ends[p + 1] = k as u32;
+    let (records, _) = t.as_chunks::<5>();
+    for (k, r) in records.iter().enumerate() {
+        ends[r[0] as usize + 1] = k as u32 + 1;
     }
 }
 
@@ -70,15 +68,15 @@ pub fn run<'a>(s: &'a [u32], starts: &[u32], q: u32) -> &'a [u32]
 }
 
 // Whether one of the records is an epsilon.
+#[tactic(auto, using(automata::proofs::Chunks::records_chunks, crate::proofs::Epsilons::epsilon_next, crate::proofs::Epsilons::epsilon_done))]
 pub fn has_epsilon(records: &[u32]) -> bool
     ensures { result ≡ has_epsilon (read_records records.now) }
 {
-    let mut at: usize = 0;
-    while 5 <= records.len() - at {
-        if records[at + 1] == 0 {
+    let (records, _) = records.as_chunks::<5>();
+    for r in records {
+        if r[1] == 0 {
             return true;
         }
-        at += 5;
     }
     false
 }

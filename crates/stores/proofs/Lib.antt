@@ -1,4 +1,3 @@
 -- The laws of written memory.
 pub mod Written
 pub mod Left
-pub mod Copying

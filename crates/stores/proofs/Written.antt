@@ -1,8 +1,9 @@
 -- Laws of written memory: one run behind another is one run, and lengths are kept.
-use Prim.Native.Nat.{ℕ, suc, ◌+◌, ◌≤◌}
+use Prim.Native.Nat.{ℕ, suc, ◌+◌, ◌-◌, ◌≤◌}
 use mathlib.Core.List.{List, [], ◌∷◌, ◌++◌, append_assoc}
 use mathlib.Core.Path.{◌≡◌, refl, sym, ◌∙◌, ap, ap₂}
 use native.Mathlib.Omega.{arith}
+use borrow.Rule.Slice.PartMut.{put_mid}
 use lib.ListN.{length, take, drop, set, length-append, take-append-drop}
 use lib.Seq.{sets, length-sets, sets-eq, drop-drop}
 use Rattle.lists.proofs.Parts.{sets_append}
@@ -52,3 +53,9 @@ written_same l v i h e =
       stored = sym (sets-eq v l i h ∙ ap₂ (λ (x y : List ℕ). take i l ++ x ++ y) (sym e) (sym (drop-drop (length v) i l)) ∙ append_assoc (take i l) _ _ ∙ ap (λ (x : List ℕ). take i l ++ x) (take-append-drop (length v) (drop i l)) ∙ take-append-drop i l);
       behind = refl;
     }
+
+-- the part from `at` on holds vs: what `copy_from_slice` leaves
+pub written_part : {A : Type 0} (l vs xs : List A) (at : ℕ) → xs ≡ vs → at + length vs ≤ length l → Written l at vs (put_mid at (at + length vs - at) l xs) (at + length vs)
+written_part l vs xs at e h =
+    let m : at + (at + length vs - at) ≡ at + length vs = omega arith in
+    record { stored = rw (e, sets-eq vs l at h, drop-drop (at + length vs - at) at l, m, append_assoc); behind = refl }

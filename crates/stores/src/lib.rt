@@ -1,11 +1,11 @@
-// Stores: bytes and words into lent memory. Each function answers the place behind what it wrote.
+// Stores: elements into lent memory. Each function answers the place behind what it wrote.
 #![tactic(auto)]
 
 ghost use Rattle.std.specs.Prelude.{[], ◌∷◌, ◌+◌, ◌≤◌, ◌<◌, length};
 ghost use Rattle.stores.specs.Written.{Written};
 
-// The byte x at a place.
-pub fn put_byte(out: &mut [u8], at: usize, x: u8) -> usize
+// The element x at a place.
+pub fn put<T: Copy>(out: &mut [T], at: usize, x: T) -> usize
     requires { at < length out.old }
     ensures { Written out.old at (x ∷ []) out.new result }
 {
@@ -13,41 +13,13 @@ pub fn put_byte(out: &mut [u8], at: usize, x: u8) -> usize
     at + 1
 }
 
-// Bytes from a place on.
-pub fn put_bytes(out: &mut [u8], at: usize, bytes: &[u8]) -> usize
-    requires { at + length bytes.now ≤ length out.old }
-    ensures { Written out.old at bytes.now out.new result }
+// The elements xs from a place on.
+#[tactic(auto, using(crate::proofs::Written::written_part))]
+pub fn put_all<T: Copy>(out: &mut [T], at: usize, xs: &[T]) -> usize
+    requires { at + length xs.now ≤ length out.old }
+    ensures { Written out.old at xs.now out.new result }
 {
-    let mut end = at;
-    let mut i = 0;
-    while i < bytes.len() {
-        out[end] = bytes[i];
-        end += 1;
-        i += 1;
-    }
-    end
-}
-
-// The word x at a place.
-pub fn put_word(out: &mut [u32], at: usize, x: u32) -> usize
-    requires { at + 1 ≤ length out.old }
-    ensures { Written out.old at (x ∷ []) out.new result }
-{
-    out[at] = x;
-    at + 1
-}
-
-// Words from a place on.
-pub fn put_words(out: &mut [u32], at: usize, words: &[u32]) -> usize
-    requires { at + length words.now ≤ length out.old }
-    ensures { Written out.old at words.now out.new result }
-{
-    let mut end = at;
-    let mut i = 0;
-    while i < words.len() {
-        out[end] = words[i];
-        end += 1;
-        i += 1;
-    }
+    let end = at + xs.len();
+    out[at..end].copy_from_slice(xs);
     end
 }

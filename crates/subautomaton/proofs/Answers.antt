@@ -8,11 +8,10 @@ use mir.Syntax.{w64}
 use mir.Val.{Fits}
 use borrow.Author.Rules.{rules}
 use lib.ListN.{length, get_or}
+use Rattle.std.specs.Prelude.{Result, Ok, Err}
 use Rattle.output.specs.Output.{read_pattern}
 use Rattle.labels.specs.Labels.{labels_fault}
 use Rattle.labels.specs.Checked.{checked_number as labels_number}
-use Rattle.labels.specs.declared.Checked.{Checked as LabelsChecked}
-use Rattle.labels.specs.declared.Checked.TheVariants as labels
 use Rattle.output.proofs.Answers.{labels_accepted, labels_passed, labels_refused}
 use Rattle.refusal.specs.Answer.{refused, given}
 use Rattle.refusal.specs.Number.{input_number}
@@ -21,8 +20,6 @@ use Rattle.sheets.specs.inner.Accepted.{Accepted}
 use Rattle.sheets.specs.Checked.{checked_number}
 use Rattle.sheets.specs.Fault.{fault}
 use Rattle.sheets.specs.Sheet.{state_count}
-use Rattle.sheets.specs.declared.Checked.{Checked}
-use Rattle.sheets.specs.declared.Checked.TheVariants as sheets
 use Rattle.sheets.proofs.Accepted.{check_accepted}
 use Rattle.sheets.proofs.Checking.{sheet_passed, sheet_refused}
 use Rattle.subautomaton.specs.Inclusion.{is_subautomaton}
@@ -35,27 +32,27 @@ count_inside s a = omega (arith, a.whole)
 pub count_fits : (s : List ℕ) → Accepted s → Fits w64 (get_or s 2 0)
 count_fits s a = record { fits = omega (arith, a.few_states) }
 
-module _ (a al b bl : List ℕ) (r : Checked) (e : checked_number r ≡ fault a) where
-  pub first_faulty : (i : InputRefusal) → r ≡ sheets.Refused i → refused (input_number i) ≡ subautomaton_answer a al b bl
+module _ (a al b bl : List ℕ) (r : Result (Unit {0}) InputRefusal) (e : checked_number r ≡ fault a) where
+  pub first_faulty : (i : InputRefusal) → r ≡ Err i → refused (input_number i) ≡ subautomaton_answer a al b bl
   unfolding subautomaton_answer
   first_faulty i h = sym (sheet_refused a _ r e i h)
 
-  module _ (h : r ≡ sheets.Accepted) (q : Checked) (f : checked_number q ≡ fault b) where
-    pub second_faulty : (i : InputRefusal) → q ≡ sheets.Refused i → refused (input_number i) ≡ subautomaton_answer a al b bl
+  module _ (h : r ≡ Ok tt) (q : Result (Unit {0}) InputRefusal) (f : checked_number q ≡ fault b) where
+    pub second_faulty : (i : InputRefusal) → q ≡ Err i → refused (input_number i) ≡ subautomaton_answer a al b bl
     unfolding subautomaton_answer
     second_faulty i g = sym (sheet_passed a _ r e h ∙ sheet_refused b _ q f i g)
 
-    module _ (g : q ≡ sheets.Accepted) (s : LabelsChecked) (k : labels_number s ≡ labels_fault (state_count a) al) where
-      pub first_labels_faulty : (i : InputRefusal) → s ≡ labels.Refused i → refused (input_number i) ≡ subautomaton_answer a al b bl
+    module _ (g : q ≡ Ok tt) (s : Result (Unit {0}) InputRefusal) (k : labels_number s ≡ labels_fault (state_count a) al) where
+      pub first_labels_faulty : (i : InputRefusal) → s ≡ Err i → refused (input_number i) ≡ subautomaton_answer a al b bl
       unfolding subautomaton_answer
       first_labels_faulty i l = sym (sheet_passed a _ r e h ∙ sheet_passed b _ q f g ∙ labels_refused (state_count a) al _ s k i l)
 
-      module _ (l : s ≡ labels.Accepted) (t : LabelsChecked) (m : labels_number t ≡ labels_fault (state_count b) bl) where
-        pub second_labels_faulty : (i : InputRefusal) → t ≡ labels.Refused i → refused (input_number i) ≡ subautomaton_answer a al b bl
+      module _ (l : s ≡ Ok tt) (t : Result (Unit {0}) InputRefusal) (m : labels_number t ≡ labels_fault (state_count b) bl) where
+        pub second_labels_faulty : (i : InputRefusal) → t ≡ Err i → refused (input_number i) ≡ subautomaton_answer a al b bl
         unfolding subautomaton_answer
         second_labels_faulty i n = sym (sheet_passed a _ r e h ∙ sheet_passed b _ q f g ∙ labels_passed (state_count a) al _ s k l ∙ labels_refused (state_count b) bl _ t m i n)
 
-        module _ (n : t ≡ labels.Accepted) where
+        module _ (n : t ≡ Ok tt) where
           pub inputs_passed : LabelledSheets a al b bl
           inputs_passed = record {
             first = check_accepted r a e h;
@@ -68,4 +65,4 @@ module _ (a al b bl : List ℕ) (r : Checked) (e : checked_number r ≡ fault a)
           unfolding subautomaton_answer
           answered x o = ap given o ∙ sym (sheet_passed a _ r e h ∙ sheet_passed b _ q f g ∙ labels_passed (state_count a) al _ s k l ∙ labels_passed (state_count b) bl _ t m n)
 
-pub ruleset answer_laws = (first_faulty, second_faulty, first_labels_faulty, second_labels_faulty, inputs_passed, answered, check_accepted, count_inside, count_fits, rules)
+pub ruleset answer_laws = (first_faulty, second_faulty, first_labels_faulty, second_labels_faulty, answered, check_accepted, count_inside, count_fits, rules)

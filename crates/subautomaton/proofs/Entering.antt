@@ -8,14 +8,13 @@ use native.Mathlib.Omega.{arith}
 use borrow.Author.Rules.{rules}
 use lib.ListN.{length, get_or, drop, drop_of_length-le}
 use lib.Seq.{drop-cons}
+use Rattle.std.proofs.Common.{Option, Some, None}
 use Rattle.labels.specs.Labels.{labels_fault, read_labels, same_label}
 use Rattle.labels.specs.inner.Places.{label_place}
 use Rattle.labels.proofs.Reading.{seek_inside, seek_whole, label_is}
 use Rattle.labels.proofs.Labels.{length_read}
 use Rattle.labels.proofs.Places.{place_first, place_next}
 use Rattle.lists.specs.Lists.{tabulate}
-use Rattle.name_table.specs.declared.Added.{Added}
-use Rattle.name_table.specs.declared.Added.TheVariants.{Kept, Full}
 use Rattle.name_table.specs.inner.Names.{slice, names_in, Table, Addition}
 use Rattle.name_table.proofs.Adding.{table_none, added_table, added_names, added_full}
 use Rattle.name_table.proofs.Finding.{names_count}
@@ -58,11 +57,11 @@ module _ (b t : List ℕ) (m n i at : ℕ) (ok : labels_fault m b ≡ 0) (p : at
         drop-cons (read_labels b) i [] (omega (arith, length_read m b ok)) ∙ ap (λ (x : List ℕ). x ∷ drop (suc i) (read_labels b)) (sym label)
         ∙ ap (λ (j : ℕ). slice b (at + 1) next ∷ drop j (read_labels b)) (sym (add-one i))
 
-    module _ (u : List ℕ) (r : Added) (a : Addition b (add same_label (slice b (at + 1) next) (names_in b t n)) u r) where
+    module _ (u : List ℕ) (r : Option ℕ) (a : Addition b (add same_label (slice b (at + 1) next) (names_in b t n)) u r) where
       short : length (add same_label (slice b (at + 1) next) (names_in b t n)) ≤ i + 1
       short = omega (arith, add_length same_label (slice b (at + 1) next) (names_in b t n), names_count b t n, k.few)
 
-      pub enter_next : (v : ℕ) → r ≡ Kept v → Entered b u v (i + 1)
+      pub enter_next : (v : ℕ) → r ≡ Some v → Entered b u v (i + 1)
       unfolding meet
       enter_next v q =
           let s = added_names b _ u r a v q in
@@ -73,7 +72,7 @@ module _ (b t : List ℕ) (m n i at : ℕ) (ok : labels_fault m b ≡ 0) (p : at
           }
 
       -- there is room for each
-      pub enter_full : m ≤ 256 → r ≡ Full → LabelTable b u n
+      pub enter_full : m ≤ 256 → r ≡ None → LabelTable b u n
       enter_full g q = absurd (omega (arith, added_full b _ u r a q, short))
 
 pub entered_table : (b t : List ℕ) (n i : ℕ) → Entered b t n i → Table b t n

@@ -15,11 +15,10 @@ use Rattle.automata.specs.inner.Records.{record_at}
 use Rattle.automata.proofs.Records.{read_write}
 use Rattle.sheets.specs.inner.Accepted.{Accepted}
 use Rattle.sheets.specs.Sheet.{state_count, read}
-use Rattle.sheets.proofs.Named.{named_from, named_to, named_next, ready_run}
+use Rattle.sheets.proofs.Named.{chunk_from, chunk_to, ready_run}
 use Rattle.subautomaton.specs.inner.Tables.{is_held, is_held_in, fits, fits_from, fits_in}
-use Rattle.subautomaton.proofs.Reaching.{ordered_begin, ordered_next, ordered_to, covers_begin, covers_late, covers_next, ready_ordered}
-use Rattle.subautomaton.proofs.Loops.{some_begin, some_ended, some_found, some_next, each_begin, each_ended}
-use Rattle.subautomaton.proofs.Loops.{each_failed, each_next, record_ended, record_found, records_ended, records_failed, records_next}
+use Rattle.subautomaton.proofs.Reaching.{ordered_next, ordered_to, covers_ended, covers_found, covers_next, covers_short, covers_late, ready_ordered}
+use Rattle.subautomaton.proofs.Loops.{records_ended, records_failed, records_left}
 
 -- the state q of the sheet b
 module _ (b cb : List ℕ) (k a q : ℕ) where
@@ -41,18 +40,16 @@ state_small b q a h = omega (arith, a.few_states)
 
 pub ruleset held_laws = (held_other, held_any, held_accepting, state_small, rules)
 
-pub ruleset has_laws = (some_begin, some_ended, some_found, some_next, rules)
-
 -- each state of the first sheet
 pub held_in : (a b ca cb : List ℕ) (p x : ℕ) (r : Bool) → x ≡ get_or (read a).accept p 0 → r ≡ any (is_held (read b) cb (get_or ca p 0) x) (states (state_count b)) → r ≡ is_held_in (read a) (read b) ca cb p
 unfolding is_held_in
 held_in a b ca cb p x r d e = e ∙ ap (λ (y : ℕ). any (is_held (read b) cb (get_or ca p 0) y) (states (state_count b))) d
 
-pub ruleset states_laws = (each_begin, each_ended, each_failed, each_next, held_in, state_small, rules)
+pub ruleset states_laws = (held_in, rules)
 
-pub ruleset run_laws = (record_ended, record_found, covers_begin, covers_late, covers_next, ordered_begin, ordered_next, ordered_to, rules)
+pub ruleset run_laws = (ordered_next, ordered_to, covers_ended, covers_found, covers_next, covers_short, covers_late, rules)
 
-pub ruleset records_laws = (records_ended, records_failed, records_next, named_from, named_to, named_next, rules)
+pub ruleset records_laws = (records_ended, records_failed, records_left, chunk_from, chunk_to, rules)
 
 module _ (b cb : List ℕ) (from to : ℕ) (d : Transition) (q : ℕ) where
   pub from_other : (get_or cb q 0 ≡ from → ⊥) → false ≡ fits_from (read b) cb from to d q
@@ -71,7 +68,5 @@ pub fits_in_lem : (b ca cb d : List ℕ) (x : Bool)
     → x ≡ fits_in (read b) ca cb (record_at d 0)
 unfolding fits_in
 fits_in_lem b ca cb d x e = e
-
-pub ruleset in_laws = (some_begin, some_ended, some_found, some_next, fits_in_lem, rules)
 
 pub ruleset from_laws = (ready_run, ready_ordered, from_other, from_run, rules)

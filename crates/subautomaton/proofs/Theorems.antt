@@ -12,6 +12,7 @@ use mathlib.Core.Path.{◌≡◌, refl, sym, ◌∙◌}
 use native.Mathlib.Omega.{arith}
 use borrow.Author.Tests.{eq-eqb, eqb-true, eqb-false, le-leb, leb-true, lt-ltb, ltb-true}
 use lib.Dec.{eqb, ltb, leb, lit≤}
+use Rattle.std.specs.Prelude.{Result, Ok, Err}
 use Rattle.lists.specs.Lists.{◌∈◌, any, all}
 use Rattle.lists.proofs.Lists.{any_out, any_in}
 use Rattle.lists.proofs.Tests.{and_parts, and_both, or_cases}
@@ -23,8 +24,6 @@ use Rattle.output.proofs.Left.{labels_first_lem, labels_given, labels_number}
 use Rattle.refusal.specs.Answer.{Answer, refused, given}
 use Rattle.refusal.specs.Decision.{decision_of}
 use Rattle.refusal.specs.Number.{input_number}
-use Rattle.refusal.specs.declared.Decision.{Decision}
-use Rattle.refusal.specs.declared.Decision.TheVariants.{Is, Refused}
 use Rattle.refusal.specs.declared.InputRefusal.{InputRefusal}
 use Rattle.refusal.specs.declared.InputRefusal.TheVariants.{Labels}
 use Rattle.sheets.specs.Checked.{sheet_first}
@@ -137,14 +136,14 @@ labels_either n l y = (out (labels_ok n l) refl, ⊎_elim (into (labels_ok n l) 
     into false h e = rw h
 
 -- the contract of the call: r is its answer for the sheets a and b with the label lists al and bl
-module _ (a al b bl : List ℕ) (r : Decision) (call : decision_of r ≡ subautomaton_answer a al b bl) where
+module _ (a al b bl : List ℕ) (r : Result Bool InputRefusal) (call : decision_of r ≡ subautomaton_answer a al b bl) where
   abbrev truth : Answer Bool
   truth = given (is_subautomaton (read_pattern a al) (read_pattern b bl))
 
   abbrev behind_sheets : Answer Bool
   behind_sheets = labels_first (state_count a) al (labels_first (state_count b) bl truth)
 
-  answer_is : (x : Bool) → (r ≡ Is x) ↔ ((fault a ≡ 0) × (fault b ≡ 0) × (labels_fault (state_count a) al ≡ 0) × (labels_fault (state_count b) bl ≡ 0) × (truth ≡ given x))
+  answer_is : (x : Bool) → (r ≡ Ok x) ↔ ((fault a ≡ 0) × (fault b ≡ 0) × (labels_fault (state_count a) al ≡ 0) × (labels_fault (state_count b) bl ≡ 0) × (truth ≡ given x))
   unfolding subautomaton_answer
   answer_is x =
       let k = call_is r (subautomaton_answer a al b bl) call x in
@@ -157,7 +156,7 @@ module _ (a al b bl : List ℕ) (r : Decision) (call : decision_of r ≡ subauto
       )
 
   -- true exactly when the pattern of the first sheet is a subautomaton of that of the second
-  pub subautomaton_call : (x : Bool) → r ≡ Is x → (x ≡ true) ↔ Sub (read_pattern a al) (read_pattern b bl)
+  pub subautomaton_call : (x : Bool) → r ≡ Ok x → (x ≡ true) ↔ Sub (read_pattern a al) (read_pattern b bl)
   subautomaton_call x e =
       let (f, g, h, i, z) = (answer_is x).0 e in
       let is : is_subautomaton (read_pattern a al) (read_pattern b bl) ≡ x = cc in
@@ -165,14 +164,14 @@ module _ (a al b bl : List ℕ) (r : Decision) (call : decision_of r ≡ subauto
       (λ t. words.0 (is ∙ t), λ s. sym is ∙ words.1 s)
 
   -- a truth is answered exactly when neither a sheet nor a label list has a fault
-  pub subautomaton_answers : ((x : Bool) × (r ≡ Is x)) ↔ ((fault a ≡ 0) × (fault b ≡ 0) × (labels_fault (state_count a) al ≡ 0) × (labels_fault (state_count b) bl ≡ 0))
+  pub subautomaton_answers : ((x : Bool) × (r ≡ Ok x)) ↔ ((fault a ≡ 0) × (fault b ≡ 0) × (labels_fault (state_count a) al ≡ 0) × (labels_fault (state_count b) bl ≡ 0))
   subautomaton_answers = (
     λ (x, e). let (f, g, h, i, z) = (answer_is x).0 e in (f, g, h, i),
     λ (f, g, h, i). (is_subautomaton (read_pattern a al) (read_pattern b bl), (answer_is _).1 (f, g, h, i, refl)),
   )
 
   -- 1 to 6 exactly when it is the first sheet's fault or, where that has none, the second's
-  pub subautomaton_sheets : (i : InputRefusal) → input_number i ≤ 6 → (r ≡ Refused i) ↔ ((fault a ≡ input_number i) ⊎ ((fault a ≡ 0) × (fault b ≡ input_number i)))
+  pub subautomaton_sheets : (i : InputRefusal) → input_number i ≤ 6 → (r ≡ Err i) ↔ ((fault a ≡ input_number i) ⊎ ((fault a ≡ 0) × (fault b ≡ input_number i)))
   unfolding subautomaton_answer
   subautomaton_sheets i l =
       let k = call_refused r (subautomaton_answer a al b bl) call i in
@@ -192,7 +191,7 @@ module _ (a al b bl : List ℕ) (r : Decision) (call : decision_of r ≡ subauto
           given_not _ _ ((labels_number (state_count b) bl truth (input_number i) not_10).0 h).1
 
   -- 10 exactly when the sheets have no fault, and the first label list has one or, where it has none, the second
-  pub subautomaton_labels : (r ≡ Refused Labels) ↔ ((fault a ≡ 0) × (fault b ≡ 0) × ((labels_fault (state_count a) al ≡ 10) ⊎ ((labels_fault (state_count a) al ≡ 0) × (labels_fault (state_count b) bl ≡ 10))))
+  pub subautomaton_labels : (r ≡ Err Labels) ↔ ((fault a ≡ 0) × (fault b ≡ 0) × ((labels_fault (state_count a) al ≡ 10) ⊎ ((labels_fault (state_count a) al ≡ 0) × (labels_fault (state_count b) bl ≡ 10))))
   unfolding subautomaton_answer
   subautomaton_labels =
       let k = call_refused r (subautomaton_answer a al b bl) call Labels in

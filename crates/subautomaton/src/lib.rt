@@ -2,7 +2,7 @@
 // each state has the number of its label among them, found by binary search, and a transition is sought only in the runs of states of its number.
 #![tactic(auto)]
 
-ghost use Rattle.std.specs.Prelude.{◌≡◌, ◌≤◌, ◌<◌, length, drop};
+ghost use Rattle.std.specs.Prelude.{◌≡◌, ◌≤◌, ◌<◌, length};
 ghost use Rattle.output.specs.Output.{read_pattern};
 ghost use Rattle.lists.specs.Lists.{any, all};
 ghost use Rattle.automata.specs.Automaton.{states};
@@ -15,27 +15,26 @@ ghost use Rattle.sheets.specs.inner.Accepted.{Accepted};
 ghost use Rattle.sheets.specs.Sheet.{state_count, read};
 ghost use Rattle.subautomaton.specs.Inclusion.{is_subautomaton};
 ghost use Rattle.sheets.specs.inner.Runs.{Named, IndexedSheet};
-ghost use Rattle.subautomaton.specs.inner.Tables.{LabelTable, Numbered, is_held, is_held_in, fits, reaching, Ordered, fits_from, fits_in, LabelledSheets, Tabled};
+ghost use Rattle.subautomaton.specs.inner.Tables.{LabelTable, Numbered, is_held, is_held_in, fits, Ordered, fits_from, fits_in, LabelledSheets, Tabled};
 ghost use Rattle.subautomaton.specs.Answer.{subautomaton_answer};
 
-use refusal::Decision;
+use refusal::InputRefusal;
 
 // The different labels among the m labels of b into the table t; how many there are.
+#[tactic(auto, using(crate::proofs::Entering::enter_laws))]
 fn enter_labels(b: &[u8], m: usize, t: &mut [usize]) -> usize
     requires { (labels_fault m b.now ≡ 0) × (m ≤ 256) × (length t.old ≡ 1024) }
     ensures { LabelTable b.now t.new result }
 {
     let mut at: usize = 2;
-    let mut i: usize = 0;
     let mut n: usize = 0;
-    while i < m {
+    for _ in 0..m {
         let next = labels::next_label(b, at);
-        let name_table::Added::Kept(k) = name_table::add(b, t, n, at + 1, next) else {
+        let Some(k) = name_table::add(b, t, n, at + 1, next) else {
             return n;
         };
         n = k;
         at = next;
-        i += 1;
     }
     n
 }
@@ -46,11 +45,9 @@ fn number_labels(x: &[u8], m: usize, b: &[u8], t: &[usize], n: usize, out: &mut 
     ensures { Numbered m (read_labels x.now) (names_in b.now t.now n) out.new }
 {
     let mut at: usize = 2;
-    let mut i: usize = 0;
-    while i < m {
+    for i in 0..m {
         out[i] = name_table::find(b, t, n, labels::label_from(x, at)) as u32;
         at = labels::next_label(x, at);
-        i += 1;
     }
 }
 
@@ -73,15 +70,7 @@ fn has_state(b: &[u32], cb: &[u32], k: u32, accept: u32) -> bool
     requires { Accepted b.now × (length cb.now ≡ 256) }
     ensures { result ≡ any (is_held (read b.now) cb.now k accept) (states (state_count b.now)) }
 {
-    let n = b[2];
-    let mut q: u32 = 0;
-    while q < n {
-        if is_held(b, cb, k, accept, q) {
-            return true;
-        }
-        q += 1;
-    }
-    false
+    (0..b[2]).any(|q| is_held(b, cb, k, accept, q))
 }
 
 // Whether each state of a is one of b.
@@ -89,15 +78,7 @@ fn has_states(a: &[u32], b: &[u32], ca: &[u32], cb: &[u32]) -> bool
     requires { Accepted a.now × Accepted b.now × (length ca.now ≡ 256) × (length cb.now ≡ 256) }
     ensures { result ≡ all (is_held_in (read a.now) (read b.now) ca.now cb.now) (states (state_count a.now)) }
 {
-    let n = a[2];
-    let mut p: u32 = 0;
-    while p < n {
-        if !has_state(b, cb, ca[p as usize], sheets::accept_word(a, p)) {
-            return false;
-        }
-        p += 1;
-    }
-    true
+    (0..a[2]).all(|p| has_state(b, cb, ca[p as usize], sheets::accept_word(a, p)))
 }
 
 // Whether the record e leads to a state with the number to, and its kind and range cover those of d.
@@ -117,21 +98,6 @@ fn covers(d: &[u32], e: &[u32], cb: &[u32], to: u32) -> bool
     d[3] <= e[3]
 }
 
-// The place of the first record from a place on that ends at last or behind it.
-fn reach(run: &[u32], from: usize, last: u32) -> usize
-    requires { from ≤ length run.now }
-    ensures { (result ≤ length run.now) × (from ≤ result) × (read_records (drop result run.now) ≡ reaching last (read_records (drop from run.now))) }
-{
-    let mut at = from;
-    while 5 <= run.len() - at {
-        if last <= run[at + 3] {
-            return at;
-        }
-        at += 5;
-    }
-    at
-}
-
 // Whether some record of the run covers d. Records that end too early are passed, and behind one that starts too late there is none.
 fn run_covers(d: &[u32], run: &[u32], cb: &[u32], to: u32) -> bool
     requires { (length d.now ≡ 5) × (length cb.now ≡ 256) × Ordered (read_records run.now) }
@@ -139,15 +105,17 @@ fn run_covers(d: &[u32], run: &[u32], cb: &[u32], to: u32) -> bool
 {
     let first = d[2];
     let last = d[3];
-    let mut at = reach(run, 0, last);
-    while 5 <= run.len() - at {
-        if first < run[at + 2] {
+    let (records, _) = run.as_chunks::<5>();
+    for e in records {
+        if e[3] < last {
+            continue;
+        }
+        if first < e[2] {
             return false;
         }
-        if covers(d, &run[at..at + 5], cb, to) {
+        if covers(d, e, cb, to) {
             return true;
         }
-        at = reach(run, at + 5, last);
     }
     false
 }
@@ -178,15 +146,7 @@ fn is_covered(d: &[u32], b: &[u32], starts: &[u32], ca: &[u32], cb: &[u32]) -> b
 {
     let from = ca[d[0] as usize];
     let to = ca[d[4] as usize];
-    let n = b[2];
-    let mut q: u32 = 0;
-    while q < n {
-        if state_covers(d, b, starts, cb, from, to, q) {
-            return true;
-        }
-        q += 1;
-    }
-    false
+    (0..b[2]).any(|q| state_covers(d, b, starts, cb, from, to, q))
 }
 
 // Whether each of the records is covered.
@@ -194,12 +154,11 @@ fn are_covered(records: &[u32], b: &[u32], starts: &[u32], ca: &[u32], cb: &[u32
     requires { Named 256 (read_records records.now) × IndexedSheet b.now starts.now × (length ca.now ≡ 256) × (length cb.now ≡ 256) }
     ensures { result ≡ all (fits_in (read b.now) ca.now cb.now) (read_records records.now) }
 {
-    let mut at: usize = 0;
-    while 5 <= records.len() - at {
-        if !is_covered(&records[at..at + 5], b, starts, ca, cb) {
+    let (records, _) = records.as_chunks::<5>();
+    for d in records {
+        if !is_covered(d, b, starts, ca, cb) {
             return false;
         }
-        at += 5;
     }
     true
 }
@@ -246,24 +205,18 @@ fn compare(a: &[u32], al: &[u8], b: &[u32], bl: &[u8]) -> bool
 }
 
 // Whether the automaton of a and a_labels is a subautomaton of that of b and b_labels.
-pub fn is_subautomaton(a: &[u32], a_labels: &[u8], b: &[u32], b_labels: &[u8]) -> Decision
+#[tactic(auto, using(crate::proofs::Answers::answer_laws))]
+pub fn is_subautomaton(
+    a: &[u32],
+    a_labels: &[u8],
+    b: &[u32],
+    b_labels: &[u8],
+) -> Result<bool, InputRefusal>
     ensures { decision_of result ≡ subautomaton_answer a.now a_labels.now b.now b_labels.now }
 {
-    match sheets::check(a) {
-        sheets::Checked::Accepted => {}
-        sheets::Checked::Refused(r) => return Decision::Refused(r),
-    }
-    match sheets::check(b) {
-        sheets::Checked::Accepted => {}
-        sheets::Checked::Refused(r) => return Decision::Refused(r),
-    }
-    match labels::check(a[2] as usize, a_labels) {
-        labels::Checked::Accepted => {}
-        labels::Checked::Refused(r) => return Decision::Refused(r),
-    }
-    match labels::check(b[2] as usize, b_labels) {
-        labels::Checked::Accepted => {}
-        labels::Checked::Refused(r) => return Decision::Refused(r),
-    }
-    Decision::Is(compare(a, a_labels, b, b_labels))
+    sheets::check(a)?;
+    sheets::check(b)?;
+    labels::check(a[2] as usize, a_labels)?;
+    labels::check(b[2] as usize, b_labels)?;
+    Ok(compare(a, a_labels, b, b_labels))
 }

@@ -22,8 +22,17 @@ use Rattle.sheets.specs.Sheet.{records_at, read}
 use Rattle.sheets.specs.inner.Accepted.{record_count, Accepted}
 use Rattle.sheets.proofs.Meaning.{read_well}
 use Rattle.words.specs.Simulation.{outgoing}
-use Rattle.sweep.specs.inner.Events.{event, event_at, event_of, events_from, events}
+use Rattle.sweep.specs.declared.EventKind.{EventKind}
+use Rattle.sweep.specs.declared.EventKind.TheVariants.{Opening, Ending}
+use Rattle.sweep.specs.inner.Events.{event_number, event, event_at, event_of, events_from, events}
 use Rattle.sweep.specs.inner.Sweep.{Timeline}
+
+-- the number of a kind that a `match` has told
+pub number_opening : (kind : EventKind) → kind ≡ Opening → event_number kind ≡ 0
+number_opening kind e = ap event_number e
+
+pub number_ending : (kind : EventKind) → kind ≡ Ending → event_number kind ≡ 1
+number_ending kind e = ap event_number e
 
 -- record i of the sheet is a range
 abbrev IsRange : List ℕ → ℕ → Type 0

@@ -5,7 +5,7 @@ use mathlib.Core.List.{List, [], ◌∷◌, ◌++◌, map}
 use mathlib.Core.Path.{◌≡◌, refl, sym, ◌∙◌, ap, subst}
 use native.Mathlib.Omega.{arith}
 use borrow.Author.Rules.{rules}
-use borrow.Author.Tests.{eq-eqb, ne_eqb, not-true, not-false}
+use borrow.Author.Tests.{not-true, not-false}
 use lib.Dec.{eqb}
 use lib.ListN.{length, get_or, take, drop, replicate, length-map, length-replicate}
 use lib.Seq.{sets-eq, take-append_seam}
@@ -20,7 +20,10 @@ use Rattle.automata.specs.Ordered.{in_order}
 use Rattle.automata.specs.Records.{read_records, write_records}
 use Rattle.automata.specs.inner.Records.{record_at}
 use Rattle.automata.proofs.Ordered.{in_order_out}
-use Rattle.automata.proofs.Records.{read_write, length_write, write_append, records_at_lem, records_end}
+use Rattle.std.specs.Simd.{first_chunks}
+use Rattle.automata.specs.inner.Chunks.{records_of}
+use Rattle.automata.proofs.Chunks.{records_are, records_next, records_done}
+use Rattle.automata.proofs.Records.{read_write, length_write, write_append}
 use Rattle.output.specs.inner.Ordered.{records_in}
 use Rattle.output.specs.inner.Sorting.{Sorted}
 use Rattle.output.proofs.Halves.{in_order_length, part_written}
@@ -28,7 +31,7 @@ use Rattle.output.proofs.Heads.{listed_in}
 use Rattle.sheets.specs.Sheet.{records_at}
 use Rattle.sheets.specs.inner.Accepted.{record_count, Accepted}
 use Rattle.sweep.specs.inner.Events.{RangeAt, event, event_at, event_of, events_from, events, Timed}
-use Rattle.sweep.proofs.Events.{events_out, length_events}
+use Rattle.sweep.proofs.Events.{number_opening, number_ending, events_out, length_events}
 
 -- `range_of` and `is_range`
 module _ (s : List ℕ) (i o : ℕ) (f : o ≡ records_at s + 5 * i) where
@@ -58,13 +61,14 @@ module _ (k : ℕ) (s : List ℕ) (i : ℕ) (out : List ℕ) (at : ℕ) (b : Boo
     pub event_room : at + length (write_records (event_of k s i)) ≤ length out → at + 5 ≤ length out
     event_room g = omega (arith, ap length words)
 
-    pub event_opens : k ≡ 0 → (m : List ℕ) (x : ℕ) → Written out at (f ∷ i ∷ q ∷ l ∷ t ∷ []) m x → Written out at (write_records (event_of k s i)) m x
-    event_opens z m x w = rw (words, eq-eqb k 0 z) w
+    module _ (x : ℕ) (m : List ℕ) (y : ℕ) (w : Written out at (x ∷ i ∷ q ∷ l ∷ t ∷ []) m y) where
+      pub event_opens : k ≡ 0 → x ≡ f → Written out at (write_records (event_of k s i)) m y
+      event_opens z e = rw (words, z) (rw e at w)
 
-    pub event_ends : (k ≡ 0 → ⊥) → (m : List ℕ) (x : ℕ) → Written out at (l ∷ i ∷ q ∷ l ∷ t ∷ []) m x → Written out at (write_records (event_of k s i)) m x
-    event_ends z m x w = rw (words, ne_eqb k 0 z) w
+      pub event_ends : k ≡ 1 → x ≡ l → Written out at (write_records (event_of k s i)) m y
+      event_ends z e = rw (words, z) (rw e at w)
 
-pub ruleset event_laws = (event_not, event_room, event_opens, event_ends, rules)
+pub ruleset event_laws = (event_not, event_room, event_opens, event_ends, number_opening, number_ending, rules)
 
 few : (k : ℕ) (s : List ℕ) → Accepted s → length (write_records (events k s)) ≤ 10240
 unfolding events
@@ -99,28 +103,27 @@ module _ (k : ℕ) (s o₀ : List ℕ) where
 
 pub ruleset puts_laws = (puts_begin, puts_end, puts_room, puts_next, rules)
 
--- the numbers of the records from `at` on are left
+-- the numbers of the records from an index on are left
 abbrev numbers : List Transition → List ℕ
 numbers es = map (λ v. v.kind) es
 
-module _ (o₀ t : List ℕ) where
-  pub take_begin : Left o₀ 0 (numbers (read_records t)) o₀ 0 (numbers (read_records t))
-  take_begin = left_start o₀ 0 _
+pub take_begin : (o₀ t : List ℕ) (rs : List (List ℕ)) → rs ≡ first_chunks 5 (length t / 5) t → Left o₀ 0 (map (λ v. v.kind) (read_records t)) o₀ 0 (map (λ v. v.kind) (records_of (drop 0 rs)))
+take_begin o₀ t rs q = rw (records_are t rs q) (left_start o₀ 0 _)
 
-  module _ (o : List ℕ) (end at : ℕ) (w : Left o₀ 0 (map (λ v. v.kind) (read_records t)) o end (map (λ v. v.kind) (read_records (drop at t)))) where
-    pub take_end : length t - at < 5 → Written o₀ 0 (map (λ v. v.kind) (read_records t)) o end
-    take_end h = left_done _ _ _ _ _ _ w (ap numbers (records_end t at h))
+module _ (o₀ : List ℕ) (es : List Transition) (rs : List (List ℕ)) (o : List ℕ) (end i : ℕ) (w : Left o₀ 0 (map (λ v. v.kind) es) o end (map (λ v. v.kind) (records_of (drop i rs)))) where
+  pub take_end : length rs ≤ i → Written o₀ 0 (map (λ v. v.kind) es) o end
+  take_end h = left_done _ _ _ _ _ _ w (ap numbers (records_done rs i h))
 
-    module _ (h : 5 ≤ length t - at) where
-      split_numbers : numbers (read_records (drop at t)) ≡ (get_or t (at + 1) 0 ∷ []) ++ numbers (read_records (drop (at + 5) t))
-      split_numbers = ap numbers (records_at_lem t at h)
+  module _ (h : i < length rs) where
+    split_numbers : numbers (records_of (drop i rs)) ≡ (get_or (get_or rs i []) 1 0 ∷ []) ++ numbers (records_of (drop (i + 1) rs))
+    split_numbers = ap numbers (records_next rs i h)
 
-      pub take_room : length (read_records t) ≤ length o₀ → end + 1 ≤ length o
-      take_room l = left_room _ _ _ _ _ _ w (get_or t (at + 1) 0 ∷ []) (numbers (read_records (drop (at + 5) t))) split_numbers (omega (arith, length-map (read_records t) (λ v. v.kind)))
+    pub take_room : length es ≤ length o₀ → end + 1 ≤ length o
+    take_room l = left_room _ _ _ _ _ _ w (get_or (get_or rs i []) 1 0 ∷ []) (numbers (records_of (drop (i + 1) rs))) split_numbers (omega (arith, length-map es (λ v. v.kind)))
 
-      pub take_next : (o' : List ℕ) (e : ℕ) → Written o end (get_or t (at + 1) 0 ∷ []) o' e
-          → Left o₀ 0 (map (λ v. v.kind) (read_records t)) o' e (map (λ v. v.kind) (read_records (drop (at + 5) t)))
-      take_next o' e v = left_next _ _ _ _ _ _ w _ _ split_numbers o' e v
+    pub take_next : (o' : List ℕ) (e : ℕ) → Written o end (get_or (get_or rs i []) 1 0 ∷ []) o' e
+        → Left o₀ 0 (map (λ v. v.kind) es) o' e (map (λ v. v.kind) (records_of (drop (i + 1) rs)))
+    take_next o' e v = left_next _ _ _ _ _ _ w _ _ split_numbers o' e v
 
 pub ruleset take_laws = (take_begin, take_end, take_room, take_next, rules)
 

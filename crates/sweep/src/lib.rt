@@ -11,7 +11,7 @@ ghost use Rattle.ranges.specs.Cuts.{next_cut};
 ghost use Rattle.sheets.specs.Sheet.{read};
 ghost use Rattle.sheets.specs.inner.Accepted.{record_count, Accepted};
 ghost use Rattle.words.specs.Simulation.{outgoing, step};
-ghost use Rattle.sweep.specs.inner.Events.{RecordNumbers, event_at};
+ghost use Rattle.sweep.specs.inner.Events.{RecordNumbers, event_at, event_number};
 ghost use Rattle.sweep.specs.inner.Tree.{Tree, LeafSet};
 ghost use Rattle.sweep.specs.inner.Passing.{Passing, Stopped, RangeNoted, Closes, cut_at};
 
@@ -19,6 +19,13 @@ mod ordering;
 mod uniting;
 
 pub use ordering::order_events;
+
+// Whether an event is where its range opens or where it ends.
+#[derive(Clone, Copy, PartialEq, Eq)]
+pub enum EventKind {
+    Opening,
+    Ending,
+}
 
 // Where the pass stands among the openings and among the endings, and the cut before which it must go on.
 #[derive(Drop)]
@@ -95,19 +102,16 @@ fn pass_openings(
     ensures passing { Passing s.now closures.now opens.now ends.now (set_at set.now 0) result ended symbol reach.new tree.new }
     ensures stopped { Stopped 0 s.now opens.now (set_at set.now 0) result symbol }
 {
-    let mut at = start;
-    while at < opens.len() {
-        let here = at;
+    for at in start..opens.len() {
         let range = ordering::range_of(s, opens[at]);
-        at += 1;
         if is_in(set, range.state) {
             if symbol < range.first {
-                return here;
+                return at;
             }
             open(closures, range.to, range.last, symbol, reach, tree);
         }
     }
-    at
+    opens.len()
 }
 
 // Passes the endings of the set before the symbol; answers the place of the first other one.
@@ -127,44 +131,45 @@ fn pass_endings(
     ensures passing { Passing s.now closures.now opens.now ends.now (set_at set.now 0) opened result symbol reach.now tree.new }
     ensures stopped { Stopped 1 s.now ends.now (set_at set.now 0) result symbol }
 {
-    let mut at = start;
-    while at < ends.len() {
-        let here = at;
+    for at in start..ends.len() {
         let range = ordering::range_of(s, ends[at]);
-        at += 1;
         if is_in(set, range.state) {
             if symbol <= range.last {
-                return here;
+                return at;
             }
             close(range.to, symbol, reach, tree);
         }
     }
-    at
+    ends.len()
 }
 
 // The symbol of the event of a number.
-fn symbol_of(kind: u32, s: &[u32], number: u32) -> u32
+#[tactic(auto, using(crate::proofs::Passing::symbol_laws))]
+fn symbol_of(kind: EventKind, s: &[u32], number: u32) -> u32
     requires { Accepted s.now × (number < record_count s.now) }
-    ensures { result ≡ (event_at kind s.now number).from }
+    ensures { result ≡ (event_at (event_number kind) s.now number).from }
 {
     let range = ordering::range_of(s, number);
-    if kind == 0 {
-        return range.first;
+    match kind {
+        EventKind::Opening => range.first,
+        EventKind::Ending => range.last,
     }
-    range.last
 }
 
-// The symbol from which on an event counts.
-fn place(symbol: u32, kind: u32) -> u64
-    ensures { result ≡ symbol + kind }
+// The symbol from which on an event counts: its own where a range opens, the one behind it where a range ends.
+fn place(symbol: u32, kind: EventKind) -> u64
+    ensures { result ≡ symbol + event_number kind }
 {
-    symbol as u64 + kind as u64
+    match kind {
+        EventKind::Opening => symbol as u64,
+        EventKind::Ending => symbol as u64 + 1,
+    }
 }
 
 // The place of the event at `at`, or top if that is less or there is none.
-fn cut_at(kind: u32, s: &[u32], ev: &[u32], at: usize, top: u64) -> u64
+fn cut_at(kind: EventKind, s: &[u32], ev: &[u32], at: usize, top: u64) -> u64
     requires { Accepted s.now × RecordNumbers s.now ev.now }
-    ensures { result ≡ cut_at kind s.now ev.now at top }
+    ensures { result ≡ cut_at (event_number kind) s.now ev.now at top }
 {
     if ev.len() <= at {
         return top;
@@ -200,8 +205,8 @@ pub fn step(
         s, closures, opens, ends, set, symbol, opened, ended, reach, tree,
     );
     let j = pass_endings(s, closures, opens, ends, set, symbol, i, ended, reach, tree);
-    let opening = cut_at(0, s, opens, i, top);
-    let cut = cut_at(1, s, ends, j, opening);
+    let opening = cut_at(EventKind::Opening, s, opens, i, top);
+    let cut = cut_at(EventKind::Ending, s, ends, j, opening);
     Turn {
         opens: i,
         ends: j,

@@ -4,7 +4,9 @@ ghost use Rattle.stores.specs.Written.{Written};
 ghost use Rattle.automata.specs.Records.{read_records, write_records};
 ghost use Rattle.sheets.specs.Sheet.{records_at};
 ghost use Rattle.sheets.specs.inner.Accepted.{record_count, Accepted};
-ghost use Rattle.sweep.specs.inner.Events.{RangeAt, event_of, events, Timed};
+ghost use Rattle.sweep.specs.inner.Events.{RangeAt, event_number, event_of, events, Timed};
+
+use crate::EventKind;
 
 // The place of the record of a number, where the records begin at base.
 fn place_of(base: usize, number: u32) -> usize
@@ -50,33 +52,32 @@ fn is_range(s: &[u32], number: u32) -> bool
     s[o + 1] == 1
 }
 
-// The opening (kind 0) or the ending (kind 1) of the record of a number, if it is a range, at a place; the place behind it.
-fn put_event(kind: u32, s: &[u32], number: u32, out: &mut [u32], at: usize) -> usize
-    requires { Accepted s.now × (number < record_count s.now) × (at + length (write_records (event_of kind s.now number)) ≤ length out.old) }
-    ensures { Written out.old at (write_records (event_of kind s.now number)) out.new result }
+// The opening or the ending of the record of a number, if it is a range, at a place; the place behind it.
+fn put_event(kind: EventKind, s: &[u32], number: u32, out: &mut [u32], at: usize) -> usize
+    requires { Accepted s.now × (number < record_count s.now) × (at + length (write_records (event_of (event_number kind) s.now number)) ≤ length out.old) }
+    ensures { Written out.old at (write_records (event_of (event_number kind) s.now number)) out.new result }
 {
     if !is_range(s, number) {
         return at;
     }
     let r = range_of(s, number);
-    if kind == 0 {
-        return output::put_record(out, at, r.first, number, r.state, r.last, r.to);
-    }
-    output::put_record(out, at, r.last, number, r.state, r.last, r.to)
+    let symbol = match kind {
+        EventKind::Opening => r.first,
+        EventKind::Ending => r.last,
+    };
+    output::put_record(out, at, symbol, number, r.state, r.last, r.to)
 }
 
-// The events of a sheet; the place behind them.
-fn put_events(kind: u32, s: &[u32], out: &mut [u32]) -> usize
+// The openings or the endings of a sheet; the place behind them.
+fn put_events(kind: EventKind, s: &[u32], out: &mut [u32]) -> usize
     requires { Accepted s.now × (length out.old ≡ 10240) }
-    ensures { Written out.old 0 (write_records (events kind s.now)) out.new result }
+    ensures { Written out.old 0 (write_records (events (event_number kind) s.now)) out.new result }
 {
     let n = s[2] as usize;
     let count = s[n + 3];
     let mut end: usize = 0;
-    let mut number: u32 = 0;
-    while number < count {
+    for number in 0..count {
         end = put_event(kind, s, number, out, end);
-        number += 1;
     }
     end
 }
@@ -87,19 +88,18 @@ fn put_numbers(records: &[u32], out: &mut [u32]) -> usize
     ensures { Written out.old 0 (map (λ v. v.kind) (read_records records.now)) out.new result }
 {
     let mut end: usize = 0;
-    let mut at: usize = 0;
-    while 5 <= records.len() - at {
-        end = stores::put_word(out, end, records[at + 1]);
-        at += 5;
+    let (records, _) = records.as_chunks::<5>();
+    for r in records {
+        end = stores::put(out, end, r[1]);
     }
     end
 }
 
-// The numbers of the openings (kind 0) or of the endings (kind 1) of a sheet in order, at the front of ev; how many they are. The words of scratch are of no use
+// The numbers of the openings or of the endings of a sheet in order, at the front of ev; how many they are. The words of scratch are of no use
 // afterwards.
-pub fn order_events(kind: u32, s: &[u32], ev: &mut [u32], scratch: &mut [u32]) -> usize
+pub fn order_events(kind: EventKind, s: &[u32], ev: &mut [u32], scratch: &mut [u32]) -> usize
     requires { Accepted s.now × (length ev.old ≡ 2048) × (length scratch.old ≡ 10240) }
-    ensures { Timed kind s.now ev.new result }
+    ensures { Timed (event_number kind) s.now ev.new result }
 {
     let mut records = [0u32; 10240];
     let end = put_events(kind, s, &mut records);

@@ -15,8 +15,7 @@ use Rattle.grammar.specs.Grammar.{ReadResult, nothing, found, follow, mark, run,
 use Rattle.grammar.specs.Grammar.{ends, range, target, transition, initial, next_name, Items, transitions, next_names, accepting, heading, ending, whole_text}
 use Rattle.grammar.specs.Places.{spelled}
 use Rattle.grammar.proofs.Letters.{letter_named}
-use Rattle.grammar.specs.declared.tokens.NamePiece.TheVariants.{Read as NameRead, Nothing as NoName}
-use Rattle.grammar.specs.declared.pieces.ArrowPiece.TheVariants.{Read as ArrowRead, Nothing as NoArrow}
+use Rattle.std.proofs.Common.{Some, None}
 use Rattle.grammar.proofs.Many.{arrows_ended, arrows_more, names_ended, names_more}
 use Rattle.grammar.specs.Words.{automaton_word, init_word, accepting_word, left_brace, right_brace, left_bracket, right_bracket, comma, semicolon}
 use Rattle.syntax.specs.Syntax.{◌⨾◌, Each, more, Gap, Space, spaces, Name, named, Number, digits, Move, Said, TransitionText, moves, TransitionsText, MoreNames, Text, says}
@@ -146,11 +145,11 @@ module _ (t : List ℕ) where
 
   all_transitions : {u : List ℕ} {p : ℕ} {l : List ℕ} {es : List Move} → TransitionsText u es → ((b : ℕ) → At b l → transition t (space t b) ≡ nothing) → At p (u ++ l)
       → FindsAll (spell_move t) (transitions t p) es l
-  all_transitions {p} TransitionsText.none z a = rw (arrows_ended t p NoArrow (sym (z p a)) refl) record { saying = refl; behind = a }
+  all_transitions {p} TransitionsText.none z a = rw (arrows_ended t p None (sym (z p a)) refl) record { saying = refl; behind = a }
   all_transitions {p} (TransitionsText.more g e r) z a =
       let h = a_transition e (gap g (transition_space _ e) (simp append_assoc at a)) in
       let i = all_transitions r z h.behind in
-      rw (arrows_more t p (ArrowRead h.what (record { at = h.place })) (sym h.reads) h.what (record { at = h.place }) refl)
+      rw (arrows_more t p (Some (h.what, record { at = h.place })) (sym h.reads) h.what (record { at = h.place }) refl)
       record { saying = rw (h.saying, i.saying); behind = i.behind }
 
   names_stop : {u : List ℕ} {ns : List (List ℕ)} (l : List ℕ) → MoreNames u ns → Stop is_name_byte (u ++ semicolon ⨾ l)
@@ -160,11 +159,11 @@ module _ (t : List ℕ) where
 
   all_names_lem : {u : List ℕ} {p : ℕ} {l : List ℕ} {ns : List (List ℕ)} → MoreNames u ns → At p (u ++ semicolon ⨾ l) → FindsAll (spelled t) (next_names t p) ns (semicolon ⨾ l)
   unfolding next_name token begins follow run is_space is_name_byte is_letter is_digit
-  all_names_lem {p} MoreNames.none a = rw (names_ended t p NoName (rw (gap Each.none refl a).here) refl) record { saying = refl; behind = a }
+  all_names_lem {p} MoreNames.none a = rw (names_ended t p None (rw (gap Each.none refl a).here) refl) record { saying = refl; behind = a }
   all_names_lem {p} (MoreNames.more g₁ g₂ x r) a =
       let h = behind_word 44 [] g₁ refl g₂ x (names_stop _ r) (simp append_assoc at a) in
       let i = all_names_lem r h.behind in
-      rw (names_more t p (NameRead h.what (record { at = h.place })) (sym h.reads) h.what (record { at = h.place }) refl)
+      rw (names_more t p (Some (h.what, record { at = h.place })) (sym h.reads) h.what (record { at = h.place }) refl)
       record { saying = rw (h.saying, i.saying); behind = i.behind }
 
   accepting_name : Name accepting_word

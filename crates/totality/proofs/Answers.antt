@@ -6,9 +6,9 @@ use mathlib.Core.Path.{◌≡◌, sym, ◌∙◌, ap}
 use borrow.Author.Rules.{rules}
 use borrow.Author.Tests.{lt-ltb, le-ltb}
 use lib.ListN.{length}
+use Rattle.std.specs.Prelude.{Result, Ok, Err}
 use Rattle.labels.specs.Labels.{labels_fault, read_labels}
 use Rattle.output.specs.declared.Made.{Made}
-use Rattle.output.specs.declared.Made.TheVariants.{Refused}
 use Rattle.output.specs.Made.{output_of}
 use Rattle.output.specs.Output.{Pattern, outputs, states_first, transitions_first}
 use Rattle.refusal.specs.Answer.{refused, given}
@@ -17,8 +17,6 @@ use Rattle.sheets.specs.inner.Accepted.{Accepted}
 use Rattle.sheets.specs.Sheet.{state_count, read}
 use Rattle.totality.specs.Answers.{limited, total_pattern, complement_pattern, totalize_answer, complement_answer}
 use Rattle.totality.specs.inner.Answers.{inputs_first, inputs_of, passed, total_pattern_flipped_if}
-use Rattle.totality.specs.declared.Inputs as inputs
-use Rattle.totality.specs.declared.Inputs.TheVariants as input
 use Rattle.totality.proofs.Passing.{passed_inputs, refused_inputs}
 
 -- the limits of a pattern
@@ -36,28 +34,28 @@ module _ (P : Pattern) where
   limited_given h l = rw (le-ltb 256 P.automaton.size h, le-ltb 2048 (length P.automaton.transitions) l)
 
 -- what the operations require after the check, and their answers
-module _ (s b o l : List ℕ) (r : inputs.Inputs) (e : inputs_of r ≡ inputs_first s b o l passed) where
-  pub inputs_accepted : r ≡ input.Good → Accepted s × (labels_fault (state_count s) b ≡ 0) × (10500 ≤ length o) × (16642 ≤ length l)
+module _ (s b o l : List ℕ) (r : Result (Unit {0}) Refusal) (e : inputs_of r ≡ inputs_first s b o l passed) where
+  pub inputs_accepted : r ≡ Ok tt → Accepted s × (labels_fault (state_count s) b ≡ 0) × (10500 ≤ length o) × (16642 ≤ length l)
   inputs_accepted h = let p = (passed_inputs s b o l passed r e h).0 in (p.sheet, p.label_list, p.words, p.bytes)
 
   module _ (lower upper : ℕ) where
-    pub totalize_made : r ≡ input.Good → (m : Made) (o' l' : List ℕ)
+    pub totalize_made : r ≡ Ok tt → (m : Result Made Refusal) (o' l' : List ℕ)
         → output_of m o' l' ≡ outputs o l (limited (total_pattern_flipped_if false lower upper (read s) (read_labels b)))
         → output_of m o' l' ≡ outputs o l (totalize_answer lower upper s b o l)
     unfolding totalize_answer inputs_first total_pattern total_pattern_flipped_if
     totalize_made h m o' l' f = f ∙ ap (outputs o l) (sym (passed_inputs s b o l (limited (total_pattern lower upper (read s) (read_labels b))) r e h).1)
 
-    pub totalize_refused : (x : Refusal) → r ≡ input.Refused x → output_of (Refused x) o l ≡ outputs o l (totalize_answer lower upper s b o l)
+    pub totalize_refused : (x : Refusal) → r ≡ Err x → output_of (Err x) o l ≡ outputs o l (totalize_answer lower upper s b o l)
     unfolding totalize_answer inputs_first outputs
     totalize_refused x h = ap (outputs o l) (sym (refused_inputs s b o l (limited (total_pattern lower upper (read s) (read_labels b))) r e x h))
 
-    pub complement_made : r ≡ input.Good → (m : Made) (o' l' : List ℕ)
+    pub complement_made : r ≡ Ok tt → (m : Result Made Refusal) (o' l' : List ℕ)
         → output_of m o' l' ≡ outputs o l (limited (complement_pattern lower upper (read s) (read_labels b)))
         → output_of m o' l' ≡ outputs o l (complement_answer lower upper s b o l)
     unfolding complement_answer inputs_first
     complement_made h m o' l' f = f ∙ ap (outputs o l) (sym (passed_inputs s b o l (limited (complement_pattern lower upper (read s) (read_labels b))) r e h).1)
 
-    pub complement_refused : (x : Refusal) → r ≡ input.Refused x → output_of (Refused x) o l ≡ outputs o l (complement_answer lower upper s b o l)
+    pub complement_refused : (x : Refusal) → r ≡ Err x → output_of (Err x) o l ≡ outputs o l (complement_answer lower upper s b o l)
     unfolding complement_answer inputs_first outputs
     complement_refused x h = ap (outputs o l) (sym (refused_inputs s b o l (limited (complement_pattern lower upper (read s) (read_labels b))) r e x h))
 

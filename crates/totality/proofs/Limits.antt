@@ -1,4 +1,5 @@
 -- Exactly where an answer of totalizing or of the complement is each refusal, and that a result can be written.
+use Rattle.std.proofs.Common.{Result, Ok}
 use Prim.Native.Nat.{ℕ, ◌+◌, ◌≤◌, ◌<◌}
 use mathlib.Core.Bool.{Bool, true, false, cond}
 use mathlib.Core.List.{List, [], ◌∷◌, ◌++◌}
@@ -17,7 +18,7 @@ use Rattle.output.specs.Left.{made_number, Room, Leaves}
 use Rattle.output.specs.Made.{output_of}
 use Rattle.output.specs.Output.{Pattern, outputs, room_first, labels_first, transitions_first}
 use Rattle.output.specs.declared.Made.{Made}
-use Rattle.output.specs.declared.Made.TheVariants.{Lengths}
+use Rattle.refusal.specs.declared.Refusal.{Refusal}
 use Rattle.output.proofs.Exact.{states_given, states_number, states_21, transitions_given, transitions_number, transitions_22}
 use Rattle.output.proofs.Exact.{inputs_given, checked_given, checked_20, checked_fault, checked_10, checked_number_lem}
 use Rattle.output.proofs.Left.{Writable, call_leaves}
@@ -61,7 +62,7 @@ module _ (P : Pattern) where
   limited_other m s t e = only_22 m t ((states_number P.automaton (transitions_first P.automaton (given P)) m s).0 e).1
 
 -- the contract of a call on the sheet s with the labels b, where the result is P
-module _ (s b : List ℕ) (P : Pattern) (o l o' l' : List ℕ) (r : Made) (call : output_of r o' l' ≡ outputs o l (room_first o l (sheet_first s (labels_first (state_count s) b (limited P))))) where
+module _ (s b : List ℕ) (P : Pattern) (o l o' l' : List ℕ) (r : Result Made Refusal) (call : output_of r o' l' ≡ outputs o l (room_first o l (sheet_first s (labels_first (state_count s) b (limited P))))) where
   pub made_lengths : (made_number r ≡ 0) ↔ (Room o l × (fault s ≡ 0) × (labels_fault (state_count s) b ≡ 0) × Fits P.automaton)
   made_lengths =
       let c = checked_given s b (limited P) o l o' l' r call in (
@@ -85,7 +86,7 @@ module _ (s b : List ℕ) (P : Pattern) (o l o' l' : List ℕ) (r : Made) (call 
       (λ h. let (k, f, g, e) = c.0 h in (k, f, g, (exact f).0 e), λ (k, f, g, x). c.1 (k, f, g, (exact f).1 x))
 
   -- where lengths are answered, P stands in the outputs, if it can be written
-  module _ (w n : ℕ) (lengths : r ≡ Lengths w n) where
+  module _ (w n : ℕ) (lengths : r ≡ Ok (record { words = w; bytes = n })) where
     pub made_accepted : fault s ≡ 0
     made_accepted = (made_lengths.0 (ap made_number lengths)).1
 

@@ -1,4 +1,5 @@
 -- The results that the code makes: too large ones, the totalized sheet, the flipped one, and the complement.
+use Rattle.std.proofs.Common.{Result, Ok, Err}
 use Prim.Native.Nat.{ℕ, suc, ◌+◌, ◌-◌, ◌≤◌, ◌<◌}
 use mathlib.Core.Bool.{Bool, true, false}
 use mathlib.Core.List.{List, [], ◌∷◌, ◌++◌}
@@ -23,7 +24,7 @@ use Rattle.nondeterminism.specs.Nondeterminism.{is_nfa, holes_in}
 use Rattle.nondeterminism.specs.inner.Holes.{HolesInputs}
 use Rattle.nondeterminism.proofs.States.{holes_bound, inputs_after}
 use Rattle.output.specs.declared.Made.{Made}
-use Rattle.output.specs.declared.Made.TheVariants.{Lengths, Refused}
+use Rattle.refusal.specs.declared.Refusal.{Refusal}
 use Rattle.output.specs.Made.{output_of}
 use Rattle.output.specs.Output.{outputs}
 use Rattle.output.proofs.Answers.{made_given}
@@ -73,7 +74,7 @@ module _ (b : Bool) (lower upper : ℕ) (s : List ℕ) (ls : List (List ℕ)) (o
   unfolding total_pattern_flipped_if totalized
   size_is = flipped_if_size b (totalized lower upper (read s))
 
-  pub total_states : 255 < state_count s → output_of (Refused (State States)) o l ≡ outputs o l (limited (total_pattern_flipped_if b lower upper (read s) ls))
+  pub total_states : 255 < state_count s → output_of (Err (State States)) o l ≡ outputs o l (limited (total_pattern_flipped_if b lower upper (read s) ls))
   unfolding outputs
   total_states h = ap (outputs o l) (sym (limited_states (total_pattern_flipped_if b lower upper (read s) ls) (rw size_is (omega arith))))
 
@@ -83,13 +84,13 @@ module _ (b : Bool) (lower upper : ℕ) (s : List ℕ) (ls : List (List ℕ)) (o
     transitions_are =
         ap length (flipped_if_transitions b (totalized lower upper (read s))) ∙ length_totalized lower upper (read s) (read_well s r.accepted) ∙ sym (count_is lower upper s starts holes r k e)
 
-    pub total_transitions : 2048 < record_count s + k + 1 → output_of (Refused (State Transitions)) o l ≡ outputs o l (limited (total_pattern_flipped_if b lower upper (read s) ls))
+    pub total_transitions : 2048 < record_count s + k + 1 → output_of (Err (State Transitions)) o l ≡ outputs o l (limited (total_pattern_flipped_if b lower upper (read s) ls))
     unfolding outputs
     total_transitions g = ap (outputs o l) (sym (limited_transitions (total_pattern_flipped_if b lower upper (read s) ls) (rw size_is (omega arith)) (rw transitions_are g)))
 
     pub total_given : record_count s + k + 1 ≤ 2048 → (o' l' : List ℕ) (w y : ℕ)
         → Written o 0 (write (flipped_if b (totalized lower upper (read s)))) o' w → Written l 0 (write_labels (ls ++ sink_label ∷ [])) l' y
-        → output_of (Lengths w y) o' l' ≡ outputs o l (limited (total_pattern_flipped_if b lower upper (read s) ls))
+        → output_of (Ok (record { words = w; bytes = y })) o' l' ≡ outputs o l (limited (total_pattern_flipped_if b lower upper (read s) ls))
     unfolding total_pattern_flipped_if
     total_given g o' l' w y p q =
         made_given o l o' l' w y (total_pattern_flipped_if b lower upper (read s) ls) p q
@@ -115,7 +116,7 @@ module _ (s : List ℕ) (a : Accepted s) (o o₁ : List ℕ) (e₁ : ℕ) (head 
     unfolding flipped head_words
     flipped_written = written_append o o₁ o₂ (head_words true s (state_count s)) _ 0 e₁ w head (rw (part_all (state_count s + 3) s, behind_accepts s a) at rest)
 
-    pub flipped_given : (l l' : List ℕ) (ls : List (List ℕ)) (y : ℕ) → Written l 0 (write_labels ls) l' y → output_of (Lengths w y) o₂ l' ≡ outputs o l (given (flipped_pattern (read s) ls))
+    pub flipped_given : (l l' : List ℕ) (ls : List (List ℕ)) (y : ℕ) → Written l 0 (write_labels ls) l' y → output_of (Ok (record { words = w; bytes = y })) o₂ l' ≡ outputs o l (given (flipped_pattern (read s) ls))
     unfolding flipped_pattern
     flipped_given l l' ls y q = made_given o l o₂ l' w y (flipped_pattern (read s) ls) flipped_written q
 
@@ -126,7 +127,7 @@ labels_few s b a h = few_count (state_count s) b h a.few_states
 pub ruleset flipped_laws = (rest_room, flipped_given, labels_few, label_list, rules)
 
 -- the results in the terms of the operations
-module _ (m : Made) (o l o' l' : List ℕ) (lower upper : ℕ) (s : List ℕ) (ls : List (List ℕ)) where
+module _ (m : Result Made Refusal) (o l o' l' : List ℕ) (lower upper : ℕ) (s : List ℕ) (ls : List (List ℕ)) where
   module _ (b : Bool) (f : b ≡ is_nfa lower upper (read s)) where
     pub complement_totalized : b ≡ true → output_of m o' l' ≡ outputs o l (limited (total_pattern_flipped_if true lower upper (read s) ls))
         → output_of m o' l' ≡ outputs o l (limited (complement_pattern lower upper (read s) ls))

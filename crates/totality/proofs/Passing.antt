@@ -9,6 +9,7 @@ use borrow.Author.Rules.{rules}
 use borrow.Author.Tests.{eqb-true}
 use lib.Dec.{ltb, eqb}
 use lib.ListN.{length}
+use Rattle.std.specs.Prelude.{Result, Ok, Err}
 use Rattle.lists.proofs.Tests.{test}
 use Rattle.labels.specs.Labels.{labels_fault}
 use Rattle.output.specs.Output.{labels_first}
@@ -17,20 +18,13 @@ use Rattle.refusal.specs.Answer.{Answer, refused}
 use Rattle.refusal.specs.declared.InputRefusal.{InputRefusal}
 use Rattle.refusal.specs.declared.Refusal.{Refusal}
 use Rattle.refusal.specs.Number.{input_number, number_of}
-use Rattle.labels.specs.declared.Checked as labels
-use Rattle.labels.specs.declared.Checked.TheVariants as label
-use Rattle.labels.specs.Checked.{checked_number as labels_number}
-use Rattle.sheets.specs.declared.Checked as sheets
-use Rattle.sheets.specs.declared.Checked.TheVariants as sheet
 use Rattle.sheets.specs.Checked.{checked_number, sheet_first}
 use Rattle.sheets.specs.Fault.{fault}
 use Rattle.sheets.proofs.Checking.{sheet_passed, sheet_refused}
-use Rattle.sheets.proofs.Accepted.{accepted, check_accepted}
+use Rattle.sheets.proofs.Accepted.{accepted}
 use Rattle.sheets.specs.inner.Accepted.{Accepted}
 use Rattle.sheets.specs.Sheet.{state_count}
 use Rattle.totality.specs.inner.Answers.{inputs_first, inputs_of, passed}
-use Rattle.totality.specs.declared.Inputs as inputs
-use Rattle.totality.specs.declared.Inputs.TheVariants as input
 
 -- the check of the inputs
 module _ (s b o l : List ℕ) (r : Bool) (e : r ≡ (ltb (length o) 10500 || ltb (length l) 16642)) where
@@ -38,21 +32,21 @@ module _ (s b o l : List ℕ) (r : Bool) (e : r ≡ (ltb (length o) 10500 || ltb
   unfolding inputs_first
   inputs_short h = sym (room_lacking o l _ r e h)
 
-  module _ (h : r ≡ false) (f : sheets.Checked) (g : checked_number f ≡ fault s) where
-    pub inputs_sheet : (i : InputRefusal) → f ≡ sheet.Refused i → refused (input_number i) ≡ inputs_first s b o l passed
+  module _ (h : r ≡ false) (f : Result (Unit {0}) InputRefusal) (g : checked_number f ≡ fault s) where
+    pub inputs_sheet : (i : InputRefusal) → f ≡ Err i → refused (input_number i) ≡ inputs_first s b o l passed
     unfolding inputs_first
     inputs_sheet i p = sym (room_enough o l _ r e h ∙ sheet_refused s _ f g i p)
 
-    module _ (p : f ≡ sheet.Accepted) (k : labels.Checked) (m : labels_number k ≡ labels_fault (state_count s) b) where
-      pub inputs_labels : (i : InputRefusal) → k ≡ label.Refused i → refused (input_number i) ≡ inputs_first s b o l passed
+    module _ (p : f ≡ Ok tt) (k : Result (Unit {0}) InputRefusal) (m : checked_number k ≡ labels_fault (state_count s) b) where
+      pub inputs_labels : (i : InputRefusal) → k ≡ Err i → refused (input_number i) ≡ inputs_first s b o l passed
       unfolding inputs_first
       inputs_labels i q = sym (room_enough o l _ r e h ∙ sheet_passed s _ f g p ∙ labels_refused (state_count s) b passed k m i q)
 
-      pub inputs_good : k ≡ label.Accepted → passed ≡ inputs_first s b o l passed
+      pub inputs_good : k ≡ Ok tt → passed ≡ inputs_first s b o l passed
       unfolding inputs_first
       inputs_good q = sym (room_enough o l _ r e h ∙ sheet_passed s _ f g p ∙ labels_passed (state_count s) b passed k m q)
 
-pub ruleset check_laws = (inputs_short, inputs_sheet, inputs_labels, inputs_good, check_accepted, rules)
+pub ruleset check_laws = (inputs_short, inputs_sheet, inputs_labels, inputs_good, rules)
 
 -- inputs without a refusal
 pub record AcceptedInputs (s b o l : List ℕ) : Type 0 where
@@ -92,8 +86,8 @@ module _ {X : Type 0} (s b o l : List ℕ) (a : Answer X) where
       (test (eqb (fault s) 0)))
       (test r)
 
-  module _ (r : inputs.Inputs) (e : inputs_of r ≡ inputs_first s b o l passed) where
-    pub passed_inputs : r ≡ input.Good → AcceptedInputs s b o l × (inputs_first s b o l a ≡ a)
+  module _ (r : Result (Unit {0}) Refusal) (e : inputs_of r ≡ inputs_first s b o l passed) where
+    pub passed_inputs : r ≡ Ok tt → AcceptedInputs s b o l × (inputs_first s b o l a ≡ a)
     passed_inputs h =
         ⊎_elim (λ c. (c.0, c.2))
         (λ c.
@@ -102,7 +96,7 @@ module _ {X : Type 0} (s b o l : List ℕ) (a : Answer X) where
         absurd (omega arith))
         inputs_cases
 
-    pub refused_inputs : (x : Refusal) → r ≡ input.Refused x → inputs_first s b o l a ≡ refused (number_of x)
+    pub refused_inputs : (x : Refusal) → r ≡ Err x → inputs_first s b o l a ≡ refused (number_of x)
     refused_inputs x h =
         ⊎_elim
         (λ c.

@@ -19,6 +19,7 @@
 --   complement_20, complement_fault, complement_10, complement_21, complement_22
 --                          where each number is answered, exactly
 --   complement_unchanged   a refusal leaves both outputs as they were
+use Rattle.std.proofs.Common.{Result, Ok}
 use Prim.Native.Nat.{ℕ, ◌≤◌, ◌<◌}
 use mathlib.Core.Bool.{true, cond}
 use mathlib.Core.List.{List, [], ◌∷◌, ◌++◌}
@@ -32,7 +33,7 @@ use Rattle.labels.specs.Forms.{sink_label}
 use Rattle.labels.specs.Labels.{labels_fault, read_labels}
 use Rattle.nondeterminism.specs.Nondeterminism.{is_nfa, CompleteAutomaton}
 use Rattle.output.specs.declared.Made.{Made}
-use Rattle.output.specs.declared.Made.TheVariants.{Lengths}
+use Rattle.refusal.specs.declared.Refusal.{Refusal}
 use Rattle.output.specs.Left.{made_number, Room, Leaves, Unchanged}
 use Rattle.output.specs.Made.{output_of}
 use Rattle.output.specs.Output.{Pattern, outputs}
@@ -62,11 +63,11 @@ module _ (lower upper : ℕ) (A : Automaton) (v : WellFormed A) where
   complement_words = other_words lower upper A v
 
 -- the call of `totalize` on the sheet s with the labels b: r is its answer, o and l are the outputs before it, o' and l' after it
-module _ (s b o l o' l' : List ℕ) (r : Made) (call : output_of r o' l' ≡ outputs o l (totalize_answer 0 last_symbol s b o l)) where
+module _ (s b o l o' l' : List ℕ) (r : Result Made Refusal) (call : output_of r o' l' ≡ outputs o l (totalize_answer 0 last_symbol s b o l)) where
   abbrev total : Pattern
   total = total_pattern 0 last_symbol (read s) (read_labels b)
 
-  module _ (w n : ℕ) (lengths : r ≡ Lengths w n) where
+  module _ (w n : ℕ) (lengths : r ≡ Ok (record { words = w; bytes = n })) where
     well_read : WellFormed (read s)
     unfolding totalize_answer
     well_read = read_well s (accepted s (made_accepted s b total o l o' l' r call w n lengths))
@@ -122,11 +123,11 @@ module _ (s b o l o' l' : List ℕ) (r : Made) (call : output_of r o' l' ≡ out
   totalize_unchanged = call_refused o l o' l' r _ call
 
 -- the call of `complement` likewise
-module _ (s b o l o' l' : List ℕ) (r : Made) (call : output_of r o' l' ≡ outputs o l (complement_answer 0 last_symbol s b o l)) where
+module _ (s b o l o' l' : List ℕ) (r : Result Made Refusal) (call : output_of r o' l' ≡ outputs o l (complement_answer 0 last_symbol s b o l)) where
   abbrev complement_pattern_lem : Pattern
   complement_pattern_lem = complement_pattern 0 last_symbol (read s) (read_labels b)
 
-  module _ (w n : ℕ) (lengths : r ≡ Lengths w n) where
+  module _ (w n : ℕ) (lengths : r ≡ Ok (record { words = w; bytes = n })) where
     -- the complement stands in the one output, and the labels of the input in the other, with `sink` where it totalizes
     pub complement_left : Leaves o l o' l' w n (complemented 0 last_symbol (read s)) (cond (is_nfa 0 last_symbol (read s)) (read_labels b ++ sink_label ∷ []) (read_labels b))
     unfolding complement_answer complement_pattern

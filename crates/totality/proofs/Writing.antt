@@ -7,10 +7,9 @@ use native.Mathlib.Omega.{arith}
 use borrow.Author.Rules.{rules}
 use borrow.Author.Tests.{eq-eqb, ne_eqb}
 use lib.ListN.{length, get_or, take, drop, set, length-append, length-map}
-use lib.Seq.{take_all}
 use Rattle.stores.specs.Written.{Written}
 use Rattle.lists.proofs.Parts.{take_more}
-use Rattle.stores.proofs.Written.{written_none, written_append, written_cons, written_more, written_length}
+use Rattle.stores.proofs.Written.{written_append, written_cons, written_more, written_length}
 use Rattle.automata.specs.Automaton.{Automaton, states}
 use Rattle.automata.specs.Records.{write_records}
 use Rattle.automata.proofs.Records.{length_write, write_append}
@@ -36,17 +35,11 @@ module _ (b : Bool) (x : ℕ) where
 pub ruleset word_laws = (word_accepts, word_rejects, word_same, rules)
 
 -- i accept words are written
-pub accepts_none : (o words : List ℕ) (at : ℕ) (b : Bool) → Written o at (map (flipped_word_if b) (take 0 words)) o at
-accepts_none o words at b = written_none o at
-
 module _ (o₀ o words : List ℕ) (at end i : ℕ) (b : Bool) (w : Written o₀ at (map (flipped_word_if b) (take i words)) o end) where
   pub accepts_next : i < length words → (x : ℕ) → x ≡ flipped_word_if b (get_or words i 0) → Written o₀ at (map (flipped_word_if b) (take (i + 1) words)) (set o end x) (end + 1)
   accepts_next h x e = rw (take_more words i h, e, map-append (flipped_word_if b) (take i words)) (written_more o₀ o _ at end (flipped_word_if b (get_or words i 0)) w)
 
-  pub accepts_done : length words ≤ i → Written o₀ at (map (flipped_word_if b) words) o end
-  accepts_done h = rw (take_all i words h) at w
-
-pub ruleset accepts_laws = (accepts_none, accepts_next, accepts_done, rules)
+pub ruleset accepts_laws = (accepts_next, rules)
 
 -- the front of a sheet
 pub head_written : (o m o' s : List ℕ) (at n r : ℕ) (b : Bool) → Written o 0 (1 ∷ get_or s 1 0 ∷ n ∷ []) m at → Written m at (map (flipped_word_if b) (take (state_count s + 3 - 3) (drop 3 s))) o' r
@@ -69,11 +62,11 @@ module _ (s : List ℕ) (a : Accepted s) (b : Bool) where
 
   -- the front of the totalized sheet, piece by piece
   module _ (o o₁ : List ℕ) (e₁ : ℕ) (head : Written o 0 (head_words b s (state_count s + 1)) o₁ e₁) where
-    pub sink_room : state_count s < 256 → 10500 ≤ length o → e₁ + 1 ≤ length o₁
+    pub sink_room : state_count s < 256 → 10500 ≤ length o → e₁ < length o₁
     sink_room l r = omega (arith, head.behind, head_length (state_count s + 1), written_length o o₁ _ 0 e₁ head)
 
     module _ (x : ℕ) (o₂ : List ℕ) (e₂ : ℕ) (word : Written o₁ e₁ (x ∷ []) o₂ e₂) where
-      pub count_room : state_count s < 256 → 10500 ≤ length o → e₂ + 1 ≤ length o₂
+      pub count_room : state_count s < 256 → 10500 ≤ length o → e₂ < length o₂
       count_room l r = omega (arith, head.behind, word.behind, head_length (state_count s + 1), written_length o o₁ _ 0 e₁ head, written_length o₁ o₂ _ e₁ e₂ word)
 
       pub front_written : x ≡ flipped_word_if b 0 → (count : ℕ) (o₃ : List ℕ) (e₃ : ℕ) → Written o₂ e₂ (count ∷ []) o₃ e₃ → Written o 0 (front_words b s count) o₃ e₃

@@ -15,16 +15,9 @@ ghost use Rattle.totality.specs.inner.Answers.{inputs_first, inputs_of, passed, 
 ghost use Rattle.automata.specs.WellFormed.{last_symbol};
 
 use output::Made;
-use refusal::{Refusal, StateRefusal};
+use refusal::{InputRefusal, Refusal, StateRefusal};
 
 mod total;
-
-// What the inputs and outputs of an operation are before it begins.
-#[derive(Drop)]
-pub enum Inputs {
-    Good,
-    Refused(Refusal),
-}
 
 // The totalized sheet, with its acceptance flipped or not, and its labels, unless it is too large.
 fn make_total_with_tables(
@@ -37,22 +30,22 @@ fn make_total_with_tables(
     holes: &mut [u32],
     out: &mut [u32],
     names: &mut [u8],
-) -> Made
+) -> Result<Made, Refusal>
     requires holes_inputs { HolesInputs s.now starts.now holes.old }
     requires labels_value { (labels_fault (state_count s.now) labels.now ≡ 0) × (sheet_size ≤ length out.old) × (labels_size ≤ length names.old) }
     ensures { output_of result out.new names.new ≡ outputs out.old names.old (limited (total_pattern_flipped_if flip lower upper (read s.now) (read_labels labels.now))) }
 {
     let n = s[2] as usize;
     if 255 < n {
-        return Made::Refused(Refusal::State(StateRefusal::States));
+        return Err(Refusal::State(StateRefusal::States));
     }
     let count = s[n + 3] as usize + nondeterminism::count_holes(s, starts, lower, upper, holes) + 1;
     if 2048 < count {
-        return Made::Refused(Refusal::State(StateRefusal::Transitions));
+        return Err(Refusal::State(StateRefusal::Transitions));
     }
     let words = total::put_total(s, starts, flip, count as u32, lower, upper, holes, out);
     let bytes = labels::copy_with_sink(names, labels, n);
-    Made::Lengths(words, bytes)
+    Ok(Made { words, bytes })
 }
 
 // The same, with the tables that it needs.
@@ -64,7 +57,7 @@ fn make_total(
     upper: u32,
     out: &mut [u32],
     names: &mut [u8],
-) -> Made
+) -> Result<Made, Refusal>
     requires { Accepted s.now × (labels_fault (state_count s.now) labels.now ≡ 0) × (sheet_size ≤ length out.old) × (labels_size ≤ length names.old) }
     ensures { output_of result out.new names.new ≡ outputs out.old names.old (limited (total_pattern_flipped_if flip lower upper (read s.now) (read_labels labels.now))) }
 {
@@ -77,19 +70,24 @@ fn make_total(
 }
 
 // The sheet with its acceptance flipped, and its labels.
-fn make_flipped(s: &[u32], labels: &[u8], out: &mut [u32], names: &mut [u8]) -> Made
+fn make_flipped(
+    s: &[u32],
+    labels: &[u8],
+    out: &mut [u32],
+    names: &mut [u8],
+) -> Result<Made, Refusal>
     requires { Accepted s.now × (labels_fault (state_count s.now) labels.now ≡ 0) × (sheet_size ≤ length out.old) × (labels_size ≤ length names.old) }
     ensures { output_of result out.new names.new ≡ outputs out.old names.old (given (flipped_pattern (read s.now) (read_labels labels.now))) }
 {
     let n = s[2];
     let counted = total::put_head(s, true, n, out);
-    let words = stores::put_words(out, counted, &s[n as usize + 3..]);
+    let words = stores::put_all(out, counted, &s[n as usize + 3..]);
     let bytes = labels::copy_all(names, labels);
-    Made::Lengths(words, bytes)
+    Ok(Made { words, bytes })
 }
 
 // The fault of the labels of an accepted sheet.
-fn check_labels(s: &[u32], b: &[u8]) -> labels::Checked
+fn check_labels(s: &[u32], b: &[u8]) -> Result<(), InputRefusal>
     requires { Accepted s.now }
     ensures { checked_number result ≡ labels_fault (state_count s.now) b.now }
 {
@@ -97,19 +95,16 @@ fn check_labels(s: &[u32], b: &[u8]) -> labels::Checked
 }
 
 // The first refusal of inputs and outputs: an output too short, the sheet's fault, the labels' fault.
-fn check_inputs(s: &[u32], b: &[u8], out: &[u32], names: &[u8]) -> Inputs
+#[tactic(auto, using(crate::proofs::Passing::check_laws))]
+fn check_inputs(s: &[u32], b: &[u8], out: &[u32], names: &[u8]) -> Result<(), Refusal>
     ensures { inputs_of result ≡ inputs_first s.now b.now out.now names.now passed }
 {
     if output::lacks_room(out, names) {
-        return Inputs::Refused(Refusal::State(StateRefusal::OutputLength));
+        return Err(Refusal::State(StateRefusal::OutputLength));
     }
-    match sheets::check(s) {
-        sheets::Checked::Accepted => match check_labels(s, b) {
-            labels::Checked::Accepted => Inputs::Good,
-            labels::Checked::Refused(r) => Inputs::Refused(Refusal::Input(r)),
-        },
-        sheets::Checked::Refused(r) => Inputs::Refused(Refusal::Input(r)),
-    }
+    sheets::check(s)?;
+    check_labels(s, b)?;
+    Ok(())
 }
 
 // The complement and its labels, unless it is too large.
@@ -120,7 +115,7 @@ fn make_complement(
     upper: u32,
     out: &mut [u32],
     names: &mut [u8],
-) -> Made
+) -> Result<Made, Refusal>
     requires { Accepted s.now × (labels_fault (state_count s.now) labels.now ≡ 0) × (sheet_size ≤ length out.old) × (labels_size ≤ length names.old) }
     ensures { output_of result out.new names.new ≡ outputs out.old names.old (limited (complement_pattern lower upper (read s.now) (read_labels labels.now))) }
 {
@@ -131,21 +126,29 @@ fn make_complement(
 }
 
 // Adds the sink and sends each state's holes there.
-pub fn totalize(s: &[u32], labels: &[u8], out: &mut [u32], names: &mut [u8]) -> Made
+#[tactic(auto, using(crate::proofs::Answers::totalize_laws))]
+pub fn totalize(
+    s: &[u32],
+    labels: &[u8],
+    out: &mut [u32],
+    names: &mut [u8],
+) -> Result<Made, Refusal>
     ensures { output_of result out.new names.new ≡ outputs out.old names.old (totalize_answer 0 last_symbol s.now labels.now out.old names.old) }
 {
-    match check_inputs(s, labels, out, names) {
-        Inputs::Good => make_total(s, labels, false, 0, 4294967295, out, names),
-        Inputs::Refused(r) => Made::Refused(r),
-    }
+    check_inputs(s, labels, out, names)?;
+    make_total(s, labels, false, 0, 4294967295, out, names)
 }
 
 // Flips acceptance, after totalizing where the sheet has an epsilon, an overlap or a hole.
-pub fn complement(s: &[u32], labels: &[u8], out: &mut [u32], names: &mut [u8]) -> Made
+#[tactic(auto, using(crate::proofs::Answers::complemented_laws))]
+pub fn complement(
+    s: &[u32],
+    labels: &[u8],
+    out: &mut [u32],
+    names: &mut [u8],
+) -> Result<Made, Refusal>
     ensures { output_of result out.new names.new ≡ outputs out.old names.old (complement_answer 0 last_symbol s.now labels.now out.old names.old) }
 {
-    match check_inputs(s, labels, out, names) {
-        Inputs::Good => make_complement(s, labels, 0, 4294967295, out, names),
-        Inputs::Refused(r) => Made::Refused(r),
-    }
+    check_inputs(s, labels, out, names)?;
+    make_complement(s, labels, 0, 4294967295, out, names)
 }

@@ -15,14 +15,8 @@ fn records_before(run: &[u32], i: usize, first: u32) -> usize
     requires { i ≤ length run.now }
     ensures { (result ≡ i + 5 * leading first (read_records (drop i run.now))) × (result ≤ length run.now) }
 {
-    let mut k = i;
-    while 5 <= run.len() - k {
-        if first < run[k + 2] {
-            return k;
-        }
-        k += 5;
-    }
-    k
+    let (records, _) = run[i..].as_chunks::<5>();
+    i + 5 * records.iter().take_while(|r| r[2] <= first).count()
 }
 
 // Writes the records of the run and the holes of its state q, led to the sink, in order: the records before each hole, and then the hole.
@@ -32,17 +26,16 @@ fn put_merged(run: &[u32], holes: &[u32], q: u32, sink: u32, out: &mut [u32], at
     requires holes_in_bounds { at + length (write_records (merged sink q run.now holes.now)) ≤ length out.old }
     ensures { Written out.old at (write_records (merged sink q run.now holes.now)) out.new result }
 {
+    let (spans, _) = holes.as_chunks::<2>();
     let mut end = at;
     let mut i: usize = 0;
-    let mut j: usize = 0;
-    while 2 <= holes.len() - j {
-        let k = records_before(run, i, holes[j]);
-        end = stores::put_words(out, end, &run[i..k]);
-        end = output::put_record(out, end, q, 1, holes[j], holes[j + 1], sink);
+    for hole in spans {
+        let k = records_before(run, i, hole[0]);
+        end = stores::put_all(out, end, &run[i..k]);
+        end = output::put_record(out, end, q, 1, hole[0], hole[1], sink);
         i = k;
-        j += 2;
     }
-    stores::put_words(out, end, &run[i..])
+    stores::put_all(out, end, &run[i..])
 }
 
 // Writes the records of the run of the state q with its holes from lower to upper.
@@ -80,11 +73,9 @@ fn put_rows(
 {
     let n = s[2];
     let mut end = at;
-    let mut q: u32 = 0;
-    while q < n {
+    for q in 0..n {
         let run = sheets::run(s, starts, q);
         end = put_filled(run, q, n, lower, upper, holes, out, end);
-        q += 1;
     }
     end
 }
@@ -108,11 +99,9 @@ fn put_accepts(words: &[u32], flip: bool, out: &mut [u32], at: usize) -> usize
     ensures { Written out.old at (map (flipped_word_if flip) words.now) out.new result }
 {
     let mut end = at;
-    let mut i = 0;
-    while i < words.len() {
-        out[end] = flipped_word_if(flip, words[i]);
+    for word in words {
+        out[end] = flipped_word_if(flip, *word);
         end += 1;
-        i += 1;
     }
     end
 }
@@ -133,8 +122,8 @@ fn put_front(s: &[u32], flip: bool, count: u32, out: &mut [u32]) -> usize
     ensures { Written out.old 0 (front_words flip s.now count) out.new result }
 {
     let sink = put_head(s, flip, s[2] + 1, out);
-    let at = stores::put_word(out, sink, flipped_word_if(flip, 0));
-    stores::put_word(out, at, count)
+    let at = stores::put(out, sink, flipped_word_if(flip, 0));
+    stores::put(out, at, count)
 }
 
 // Writes the totalized sheet, which has count transitions, with its acceptance flipped or not.

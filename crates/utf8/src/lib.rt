@@ -67,13 +67,6 @@ fn least_value(n: u32) -> u32
     }
 }
 
-// A byte as a word.
-fn wide(b: u8) -> u32
-    ensures { result ≡ b }
-{
-    b as u32
-}
-
 // The bits x, and behind them the last six of b.
 fn with_six(x: u32, b: u8) -> u32
     requires { x < 2 ^ 26 }
@@ -105,7 +98,7 @@ fn two(text: &[u8], at: usize) -> Step
     if !is_continuation(b) {
         return Step::Malformed;
     }
-    scalar(2, with_six(wide(text[at] % 32), b), at)
+    scalar(2, with_six(u32::from(text[at] % 32), b), at)
 }
 
 // What the sequence of three bytes at the place at stands for.
@@ -124,7 +117,7 @@ fn three(text: &[u8], at: usize) -> Step
     if !is_continuation(c) {
         return Step::Malformed;
     }
-    scalar(3, with_six(with_six(wide(text[at] % 16), b), c), at)
+    scalar(3, with_six(with_six(u32::from(text[at] % 16), b), c), at)
 }
 
 // What the sequence of four bytes at the place at stands for.
@@ -149,7 +142,7 @@ fn four(text: &[u8], at: usize) -> Step
     }
     scalar(
         4,
-        with_six(with_six(with_six(wide(text[at] % 8), b), c), d),
+        with_six(with_six(with_six(u32::from(text[at] % 8), b), c), d),
         at,
     )
 }
@@ -164,7 +157,7 @@ pub fn next(text: &[u8], at: usize) -> Step
     let a = text[at];
     let n = sequence_length(a);
     match n {
-        1 => Step::Point(wide(a), at + 1),
+        1 => Step::Point(u32::from(a), at + 1),
         2 => two(text, at),
         3 => three(text, at),
         4 => four(text, at),

@@ -7,6 +7,7 @@ use native.Mathlib.Omega.{arith}
 use borrow.Author.Rules.{rules}
 use borrow.Author.Tests.{lt-ltb, le-ltb}
 use lib.Dec.{ltb}
+use Rattle.std.proofs.Common.{Option, Some, None, Result, Ok}
 use lib.ListN.{length, take, drop}
 use lib.Seq.{length-take-le}
 use Rattle.automata.specs.Automaton.{Automaton}
@@ -24,7 +25,6 @@ use Rattle.sheets.specs.Fault.{fault}
 use Rattle.sheets.specs.Sheet.{read}
 use Rattle.parser.specs.Pattern.{Reading, reading_answer}
 use Rattle.parser.specs.declared.Parsed.{Parsed}
-use Rattle.parser.specs.declared.Parsed.TheVariants.{Read}
 use Rattle.parser.proofs.Outcomes.{answers_given}
 use Rattle.determinizations.specs.Two.{Two, total_size}
 use Rattle.determinizations.specs.Determinizations.{determinized}
@@ -33,8 +33,6 @@ use Rattle.equality.specs.Verdict.{Decided}
 use Rattle.equality.specs.Equality.{equality_answer, Judged}
 use Rattle.equality.specs.declared.Verdict.{Verdict}
 use Rattle.equality.specs.declared.Verdict.TheVariants.{Same, Different, Refused}
-use Rattle.verdict_line.specs.declared.Second.{Second}
-use Rattle.verdict_line.specs.declared.Second.TheVariants.{At, Outside}
 use Rattle.verdict_line.specs.Texts.{two_texts, with_second_text, with_first_text, on_texts, verdict_answer}
 use Rattle.verdict_line.specs.Line.{VerdictLine, refuses, same, differs, Printed, short, printed}
 use Rattle.verdict_line.specs.inner.Code.{second_of, SheetRead, verdict_line, Short}
@@ -78,26 +76,26 @@ module _ (lower upper : ℕ) (o : List ℕ) where
     unfolding verdict_answer
     input_long h = judged_refused _ o (Input Grammar) (rw (lt-ltb 65536 (length t) h) refl)
 
-    module _ (s : Second) (e : second_of s ≡ two_texts t) (h : length t ≤ 65536) where
+    module _ (s : Option ℕ) (e : second_of s ≡ two_texts t) (h : length t ≤ 65536) where
       is_compared : verdict_answer lower upper t ≡ on_texts lower upper t (second_of s)
       unfolding verdict_answer
       is_compared = rw (le-ltb 65536 (length t) h) (ap (on_texts lower upper t) (sym e))
 
-      pub input_outside : s ≡ Outside → Judged (verdict_answer lower upper t) o o (Refused (Input Grammar))
-      input_outside f = judged_refused _ o (Input Grammar) (is_compared ∙ ap (λ (x : Second). on_texts lower upper t (second_of x)) f)
+      pub input_outside : s ≡ None → Judged (verdict_answer lower upper t) o o (Refused (Input Grammar))
+      input_outside f = judged_refused _ o (Input Grammar) (is_compared ∙ ap (λ (x : Option ℕ). on_texts lower upper t (second_of x)) f)
 
-      pub input_judged : (at : ℕ) → s ≡ At at → (o' : List ℕ) (v : Verdict)
+      pub input_judged : (at : ℕ) → s ≡ Some at → (o' : List ℕ) (v : Verdict)
           → Judged (with_first_text lower upper (reading_answer t) (reading_answer (take (length t - at) (drop at t)))) o o' v
           → Judged (verdict_answer lower upper t) o o' v
       input_judged at f o' v j =
-          let z : verdict_answer lower upper t ≡ with_first_text lower upper (reading_answer t) (reading_answer (take (length t - at) (drop at t))) = is_compared ∙ ap (λ (x : Second). on_texts lower upper t (second_of x)) f ∙ ap (λ (x : List ℕ). with_first_text lower upper (reading_answer t) (reading_answer x)) (sym (part_all at t)) in
+          let z : verdict_answer lower upper t ≡ with_first_text lower upper (reading_answer t) (reading_answer (take (length t - at) (drop at t))) = is_compared ∙ ap (λ (x : Option ℕ). on_texts lower upper t (second_of x)) f ∙ ap (λ (x : List ℕ). with_first_text lower upper (reading_answer t) (reading_answer x)) (sym (part_all at t)) in
           subst (λ (x : Answer Two). Judged x o o' v) (sym z) j
 
 -- the sheet of a text has no fault
-pub sheet_accepted : (t o : List ℕ) (p : Parsed) (m n b : ℕ) → SheetRead (reading_answer t) o p → p ≡ Read m n b → fault (take (n - 0) o) ≡ 0
-sheet_accepted t o p m n b s e = (sheet_is t o p m n b s e).accepted
+pub sheet_accepted : (t o : List ℕ) (p : Result Parsed Refusal) (m : Parsed) → SheetRead (reading_answer t) o p → p ≡ Ok m → fault (take (m.words - 0) o) ≡ 0
+sheet_accepted t o p m s e = (sheet_is t o p m s e).accepted
 
-pub at_inside : (t : List ℕ) (s : Second) (at : ℕ) → second_of s ≡ two_texts t → s ≡ At at → at ≤ length t
+pub at_inside : (t : List ℕ) (s : Option ℕ) (at : ℕ) → second_of s ≡ two_texts t → s ≡ Some at → at ≤ length t
 at_inside t s at e f = two_inside t at (sym e ∙ ap second_of f)
 
 pub ruleset text_laws = (second_refuses, second_judged, first_refuses, first_judged, sheet_refused, sheet_inside, sheet_is, sheet_accepted, rules)

@@ -20,39 +20,19 @@ use Rattle.equality.specs.declared.Verdict.TheVariants.{Same, Different, Refused
 use Rattle.verdict_line.specs.Line.{same_line, symbols, differ_line, refused_line}
 use Rattle.verdict_line.specs.inner.Code.{verdict_line, Short}
 
--- the parts of a line, one behind the other
-module _ (l m n o : List ℕ) (x i j r : ℕ) where
-  pub same_put : Written l 0 (115 ∷ 97 ∷ 109 ∷ 101 ∷ 32 ∷ []) m i → Written m i (digits x) n j → Written n j (10 ∷ []) o r → Written l 0 (same_line x) o r
-  same_put a b c = written_append l m o _ (digits x ++ 10 ∷ []) 0 i r a (written_append m n o (digits x) (10 ∷ []) i j r b c)
+-- the parts of a line, one behind the other, and room for the line feed
+module _ (l m n v : List ℕ) (x i j : ℕ) (a : Written l 0 v m i) (b : Written m i (digits x) n j) where
+  pub line_room : 5617 ≤ length l → length v ≤ 8 → x < 2 ^ 32 → j < length n
+  line_room r k h = omega (arith, a.behind, b.behind, length_word x h, written_length l m v 0 i a, written_length m n (digits x) i j b)
 
-  pub refused_put : Written l 0 (114 ∷ 101 ∷ 102 ∷ 117 ∷ 115 ∷ 101 ∷ 100 ∷ 32 ∷ []) m i → Written m i (digits x) n j → Written n j (10 ∷ []) o r → Written l 0 (refused_line x) o r
-  refused_put a b c = written_append l m o _ (digits x ++ 10 ∷ []) 0 i r a (written_append m n o (digits x) (10 ∷ []) i j r b c)
-
--- room for the line feed
-module _ (l m n : List ℕ) (x i j : ℕ) (r : 5617 ≤ length l) (h : x < 2 ^ 32) where
-  feed_room : (v : List ℕ) → length v ≤ 8 → Written l 0 v m i → Written m i (digits x) n j → j < length n
-  feed_room v k a b = omega (arith, a.behind, b.behind, length_word x h, written_length l m v 0 i a, written_length m n (digits x) i j b)
-
-  pub same_room : Written l 0 (115 ∷ 97 ∷ 109 ∷ 101 ∷ 32 ∷ []) m i → Written m i (digits x) n j → j < length n
-  same_room = feed_room _ (omega arith)
-
-  pub refused_room : Written l 0 (114 ∷ 101 ∷ 102 ∷ 117 ∷ 115 ∷ 101 ∷ 100 ∷ 32 ∷ []) m i → Written m i (digits x) n j → j < length n
-  refused_room = feed_room _ (omega arith)
-
-  -- the place behind the line feed
   module _ (o : List ℕ) (k : ℕ) (c : Written n j (10 ∷ []) o k) where
-    feed_end : (v : List ℕ) → length v ≤ 8 → Written l 0 v m i → Written m i (digits x) n j → k ≤ 5617
-    feed_end v e a b = omega (arith, a.behind, b.behind, c.behind, length_word x h)
+    pub line_put : Written l 0 (v ++ (digits x ++ 10 ∷ [])) o k
+    line_put = written_append l m o v (digits x ++ 10 ∷ []) 0 i k a (written_append m n o (digits x) (10 ∷ []) i j k b c)
 
-    pub same_end : Written l 0 (115 ∷ 97 ∷ 109 ∷ 101 ∷ 32 ∷ []) m i → Written m i (digits x) n j → k ≤ 5617
-    same_end = feed_end _ (omega arith)
+    pub line_end : length v ≤ 8 → x < 2 ^ 32 → k ≤ 5617
+    line_end e h = omega (arith, a.behind, b.behind, c.behind, length_word x h)
 
-    pub refused_end : Written l 0 (114 ∷ 101 ∷ 102 ∷ 117 ∷ 115 ∷ 101 ∷ 100 ∷ 32 ∷ []) m i → Written m i (digits x) n j → k ≤ 5617
-    refused_end = feed_end _ (omega arith)
-
-pub ruleset same_laws = (same_put, same_room, same_end, rules)
-
-pub ruleset refused_laws = (refused_put, refused_room, refused_end, rules)
+pub ruleset numbered_laws = (line_put, line_room, line_end, written_length, rules)
 
 -- a blank and the digits of a word
 module _ (l m n : List ℕ) (at x i j : ℕ) (v : Written l at (32 ∷ []) m i) (w : Written m i (digits x) n j) where

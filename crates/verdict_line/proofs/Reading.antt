@@ -7,17 +7,15 @@ use native.Mathlib.Omega.{arith}
 use mir.Syntax.{w64}
 use mir.Val.{Fits}
 use borrow.Author.Rules.{rules}
-use borrow.Author.Tests.{lt-ltb, le-ltb}
+use borrow.Author.Tests.{le-ltb}
 use lib.Dec.{ltb}
+use Rattle.std.proofs.Common.{Option, Some, None, Result, Ok, Err}
 use lib.ListN.{length, take, drop, length-drop}
 use lib.Seq.{sets, sets-eq, length-sets, take-append_seam}
-use Rattle.grammar.specs.Grammar.{nothing, found, follow, Mark, mark, TextParts, space, whole_text}
-use Rattle.grammar.specs.Places.{told_at}
+use Rattle.grammar.specs.Grammar.{nothing, found, Mark, mark, TextParts, space, whole_text}
 use Rattle.grammar.specs.Pieces.{text_of}
 use Rattle.grammar.specs.declared.tokens.Cursor.{Cursor}
 use Rattle.grammar.specs.declared.text.Layout.{Layout}
-use Rattle.grammar.specs.declared.text.TextPiece.{TextPiece}
-use Rattle.grammar.specs.declared.text.TextPiece.TheVariants.{Read as TextRead, Nothing as NoText}
 use Rattle.grammar.proofs.Progress.{Holds, holds_found, holds_follow, text_inside}
 use Rattle.grammar.proofs.Runs.{space_inside}
 use Rattle.lists.proofs.Parts.{part_all}
@@ -31,59 +29,25 @@ use Rattle.sheets.proofs.Meaning.{read_write_sheet, write_accepted, write_room}
 use Rattle.parser.specs.Parsed.{ReadLengths, read_lengths_of, parsed, parsed_of}
 use Rattle.parser.specs.Pattern.{Reading, reading_answer, parse_answer}
 use Rattle.parser.specs.declared.Parsed.{Parsed}
-use Rattle.parser.specs.declared.Parsed.TheVariants.{Read, Refused}
 use Rattle.parser.proofs.Outcomes.{answers_given}
 use Rattle.verdict_line.specs.Texts.{two_texts}
 use Rattle.verdict_line.specs.inner.Code.{SheetRead, refuses, reads}
 
--- the first text: p is the answer of `whole_text`
-module _ (t : List ℕ) (p : TextPiece) (told : text_of t p ≡ whole_text t) where
-  pub first_outside : p ≡ NoText → nothing ≡ two_texts t
-  unfolding two_texts follow
-  first_outside e = let z : whole_text t ≡ nothing = sym told ∙ ap (text_of t) e in rw z
+-- the first text: p is the answer of `whole_text`, and at the place behind it and behind optional space
+module _ (t : List ℕ) (p : Option (Layout × Cursor)) (told : text_of t p ≡ whole_text t) (l : Layout) (c : Cursor) (e : p ≡ Some (l, c)) (at : ℕ) (is_at : at ≡ space t c.at) where
+  pub second_inside : at ≤ length t
+  second_inside = let h = space_inside t c.at (holds_found _ (text_inside t) (sym told ∙ ap (text_of t) e)) in omega arith
 
-  -- the place behind it and behind optional space
-  module _ (l : Layout) (c : Cursor) (e : p ≡ TextRead l c) (at : ℕ) (is_at : at ≡ space t c.at) where
-    first_is : whole_text t ≡ found (told_at t l) c.at
-    first_is = sym told ∙ ap (text_of t) e
+  -- the second text: q is the answer of `whole_text`
+  module _ (q : Option (Layout × Cursor)) (told2 : text_of (take (length t - at) (drop at t)) q ≡ whole_text (take (length t - at) (drop at t)))
+      (k : Layout) (d : Cursor) (f : q ≡ Some (k, d)) where
+    both_inside : at + d.at ≤ length t
+    both_inside =
+        let h = holds_found _ (text_inside _) (sym told2 ∙ ap (text_of _) f) in
+        omega (arith, ap length (part_all at t), length-drop at t, second_inside)
 
-    pub second_inside : at ≤ length t
-    second_inside = let h = space_inside t c.at (holds_found _ (text_inside t) first_is) in omega arith
-
-    -- the second text: q is the answer of `whole_text`
-    module _ (q : TextPiece) (told2 : text_of (take (length t - at) (drop at t)) q ≡ whole_text (take (length t - at) (drop at t))) where
-      pub second_outside : q ≡ NoText → nothing ≡ two_texts t
-      unfolding two_texts follow
-      second_outside f =
-          let z : whole_text (drop (space t c.at) t) ≡ nothing = ap (λ (k : ℕ). whole_text (drop k t)) (sym is_at) ∙ ap whole_text (sym (part_all at t)) ∙ sym told2 ∙ ap (text_of _) f in
-          rw (first_is, z)
-
-      module _ (k : Layout) (d : Cursor) (f : q ≡ TextRead k d) where
-        second_is : whole_text (take (length t - at) (drop at t)) ≡ found (told_at (take (length t - at) (drop at t)) k) d.at
-        second_is = sym told2 ∙ ap (text_of _) f
-
-        pub both_inside : at + d.at ≤ length t
-        both_inside =
-            let h = holds_found _ (text_inside _) second_is in
-            omega (arith, ap length (part_all at t), length-drop at t, second_inside)
-
-        pub both_fits : length t < 2 ^ 64 → Fits w64 (at + d.at)
-        both_fits h = let i = both_inside in record { fits = omega arith }
-
-        two_is : two_texts t ≡ cond (ltb (space t (space t c.at + d.at)) (length t)) nothing (found mark (space t c.at))
-        unfolding two_texts follow
-        two_is =
-            let z : whole_text (drop (space t c.at) t) ≡ found (told_at (take (length t - at) (drop at t)) k) d.at = ap (λ (k : ℕ). whole_text (drop k t)) (sym is_at) ∙ ap whole_text (sym (part_all at t)) ∙ second_is in
-            rw (first_is, z)
-
-        module _ (end : ℕ) (is-end : end ≡ space t (at + d.at)) where
-          pub more_behind : end < length t → nothing ≡ two_texts t
-          more_behind h = sym (two_is ∙ rw (sym is_at, sym is-end, lt-ltb end (length t) h))
-
-          pub none_behind : length t ≤ end → found mark at ≡ two_texts t
-          none_behind h = sym (two_is ∙ rw (sym is_at, sym is-end, le-ltb end (length t) h))
-
-pub ruleset second_laws = (first_outside, second_inside, second_outside, both_fits, more_behind, none_behind, rules)
+    pub both_fits : length t < 2 ^ 64 → Fits w64 (at + d.at)
+    both_fits h = let i = both_inside in record { fits = omega arith }
 
 -- the second text begins within the input
 pub two_inside : (t : List ℕ) (at : ℕ) → two_texts t ≡ found mark at → at ≤ length t
@@ -108,7 +72,7 @@ pub record IsSheet (t s : List ℕ) : Type 0 where
   pub is : read s ≡ reading.pattern.automaton
 
 -- the answer p of `parse_automaton` on buffers that have room
-module _ (t o n o' n' : List ℕ) (p : Parsed) (e : parsed_of p o' n' ≡ parsed o n (parse_answer t o n)) (long : length o ≡ 10500) (longer : length n ≡ 16642) where
+module _ (t o n o' n' : List ℕ) (p : Result Parsed Refusal) (e : parsed_of p o' n' ≡ parsed o n (parse_answer t o n)) (long : length o ≡ 10500) (longer : length n ≡ 16642) where
   is_parsed : parsed_of p o' n' ≡ parsed o n (reading_answer t)
   unfolding parse_answer room_first
   is_parsed = e ∙ ap (parsed o n) (rw (le-ltb (length o) 10500 (omega arith), le-ltb (length n) 16642 (omega arith)) refl)
@@ -117,60 +81,61 @@ module _ (t o n o' n' : List ℕ) (p : Parsed) (e : parsed_of p o' n' ≡ parsed
   unfolding parsed
   sheet_read = by_answer (reading_answer t) p refl refl
     where
-      by_answer : (a : Answer Reading) (q : Parsed) → reading_answer t ≡ a → p ≡ q → SheetRead a o' q
-      by_answer (refused k) (Refused r) h g =
-          let z : parsed_of (Refused r) o' n' ≡ parsed o n (refused k) = ap (λ (x : Parsed). parsed_of x o' n') (sym g) ∙ is_parsed ∙ ap (parsed o n) h in
+      by_answer : (a : Answer Reading) (q : Result Parsed Refusal) → reading_answer t ≡ a → p ≡ q → SheetRead a o' q
+      by_answer (refused k) (Err r) h g =
+          let z : parsed_of (Err r) o' n' ≡ parsed o n (refused k) = ap (λ (x : Result Parsed Refusal). parsed_of x o' n') (sym g) ∙ is_parsed ∙ ap (parsed o n) h in
           let y = ap (λ x. x.answer) z in
           let w : number_of r ≡ k = cc in
-          subst (λ (x : ℕ). SheetRead (refused x) o' (Refused r)) w (refuses {o = o'} r)
-      by_answer (refused k) (Read m w b) h g =
-          let z : parsed_of (Read m w b) o' n' ≡ parsed o n (refused k) = ap (λ (x : Parsed). parsed_of x o' n') (sym g) ∙ is_parsed ∙ ap (parsed o n) h in
+          subst (λ (x : ℕ). SheetRead (refused x) o' (Err r)) w (refuses {o = o'} r)
+      by_answer (refused k) (Ok m) h g =
+          let z : parsed_of (Ok m) o' n' ≡ parsed o n (refused k) = ap (λ (x : Result Parsed Refusal). parsed_of x o' n') (sym g) ∙ is_parsed ∙ ap (parsed o n) h in
           let y = ap (λ x. x.answer) z in
           absurd (let w : ◌≡◌ {A = ℕ} 0 1 = cc in omega arith)
-      by_answer (given R) (Refused r) h g =
-          let z : parsed_of (Refused r) o' n' ≡ parsed o n (given R) = ap (λ (x : Parsed). parsed_of x o' n') (sym g) ∙ is_parsed ∙ ap (parsed o n) h in
+      by_answer (given R) (Err r) h g =
+          let z : parsed_of (Err r) o' n' ≡ parsed o n (given R) = ap (λ (x : Result Parsed Refusal). parsed_of x o' n') (sym g) ∙ is_parsed ∙ ap (parsed o n) h in
           let y = ap (λ x. x.answer) z in
           absurd (let w : ◌≡◌ {A = ℕ} 0 1 = cc in omega arith)
-      by_answer (given R) (Read m w b) h g =
+      by_answer (given R) (Ok m) h g =
           let A = R.pattern.automaton in
-          let z : parsed_of (Read m w b) o' n' ≡ parsed o n (given R) = ap (λ (x : Parsed). parsed_of x o' n') (sym g) ∙ is_parsed ∙ ap (parsed o n) h in
+          let z : parsed_of (Ok m) o' n' ≡ parsed o n (given R) = ap (λ (x : Result Parsed Refusal). parsed_of x o' n') (sym g) ∙ is_parsed ∙ ap (parsed o n) h in
           let y = ap (λ x. x.answer) z in
-          let v : ◌≡◌ {A = ReadLengths} (record { read = m; outputs = record { words = w; bytes = b } }) (read_lengths_of R) = cc in
-          let is-w : w ≡ length (write A) = ap (λ (x : ReadLengths). x.outputs.words) v in
+          let v : ◌≡◌ {A = ReadLengths} (record { read = m.read; outputs = record { words = m.words; bytes = m.bytes } }) (read_lengths_of R) = cc in
+          let is-w : m.words ≡ length (write A) = ap (λ (x : ReadLengths). x.outputs.words) v in
           let is-o : o' ≡ sets o 0 (write A) = ap (λ x. x.memory.sheet) z in
           let right = (answers_given t R h).writable in
           let l = write_room A right.well.accepts right.fits in
-          reads {o = o'} R m w b (omega (arith, ap length is-o, length-sets o 0 (write A)))
-          (ap (take w) (is-o ∙ sets-eq (write A) o 0 (omega arith)) ∙ ap (λ (k : ℕ). take k (write A ++ drop (0 + length (write A)) o)) is-w ∙ take-append_seam (write A) _)
+          reads {o = o'} R m (omega (arith, ap length is-o, length-sets o 0 (write A)))
+          (ap (take m.words) (is-o ∙ sets-eq (write A) o 0 (omega arith)) ∙ ap (λ (k : ℕ). take k (write A ++ drop (0 + length (write A)) o)) is-w ∙ take-append_seam (write A) _)
 
 pub ruleset read_laws = (sheet_read, rules)
 
 -- what the answer of `read_sheet` says
-module _ (t o : List ℕ) (p : Parsed) where
-  pub sheet_refused : (r : Refusal) → SheetRead (reading_answer t) o p → p ≡ Refused r → reading_answer t ≡ refused (number_of r)
+module _ (t o : List ℕ) (p : Result Parsed Refusal) where
+  pub sheet_refused : (r : Refusal) → SheetRead (reading_answer t) o p → p ≡ Err r → reading_answer t ≡ refused (number_of r)
   sheet_refused r s e = by_case (reading_answer t) p s e
     where
-      by_case : (a : Answer Reading) (q : Parsed) → SheetRead a o q → q ≡ Refused r → a ≡ refused (number_of r)
+      by_case : (a : Answer Reading) (q : Result Parsed Refusal) → SheetRead a o q → q ≡ Err r → a ≡ refused (number_of r)
       by_case a q (refuses x) h = let z : x ≡ r = cc in ap (λ (y : Refusal). refused (number_of y)) z
-      by_case a q (reads R m w b i g) h = absurd (let z : ◌≡◌ {A = ℕ} 0 1 = cc in omega arith)
+      by_case a q (reads R k i g) h = absurd (let z : ◌≡◌ {A = ℕ} 0 1 = cc in omega arith)
 
-  module _ (m n b : ℕ) (s : SheetRead (reading_answer t) o p) (e : p ≡ Read m n b) where
-    pub sheet_inside : n ≤ length o
+  module _ (m : Parsed) (s : SheetRead (reading_answer t) o p) (e : p ≡ Ok m) where
+    pub sheet_inside : m.words ≤ length o
     sheet_inside = by_case (reading_answer t) p s e
       where
-        by_case : (a : Answer Reading) (q : Parsed) → SheetRead a o q → q ≡ Read m n b → n ≤ length o
+        by_case : (a : Answer Reading) (q : Result Parsed Refusal) → SheetRead a o q → q ≡ Ok m → m.words ≤ length o
         by_case a q (refuses x) h = absurd (let z : ◌≡◌ {A = ℕ} 0 1 = cc in omega arith)
-        by_case a q (reads R k w c i g) h = let z : w ≡ n = cc in omega arith
+        by_case a q (reads R k i g) h = let z : k ≡ m = cc in omega (arith, ap (λ (x : Parsed). x.words) z)
 
-    pub sheet_is : IsSheet t (take (n - 0) o)
+    pub sheet_is : IsSheet t (take (m.words - 0) o)
     sheet_is = by_case (reading_answer t) p refl s e
       where
-        by_case : (a : Answer Reading) (q : Parsed) → reading_answer t ≡ a → SheetRead a o q → q ≡ Read m n b → IsSheet t (take (n - 0) o)
+        by_case : (a : Answer Reading) (q : Result Parsed Refusal) → reading_answer t ≡ a → SheetRead a o q → q ≡ Ok m → IsSheet t (take (m.words - 0) o)
         by_case a q f (refuses x) h = absurd (let z : ◌≡◌ {A = ℕ} 0 1 = cc in omega arith)
-        by_case a q f (reads R k w c i g) h =
-            let z : w ≡ n - 0 = let y : w ≡ n = cc in omega arith in
+        by_case a q f (reads R k i g) h =
+            let y : k ≡ m = cc in
+            let z : k.words ≡ m.words - 0 = omega (arith, ap (λ (x : Parsed). x.words) y) in
             let right = (answers_given t R f).writable in
-            let d : take (n - 0) o ≡ write R.pattern.automaton = ap (λ (k : ℕ). take k o) (sym z) ∙ g in
+            let d : take (m.words - 0) o ≡ write R.pattern.automaton = ap (λ (k : ℕ). take k o) (sym z) ∙ g in
             record {
               reading = R;
               is_reading_lem = f;

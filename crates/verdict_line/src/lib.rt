@@ -13,40 +13,34 @@ ghost use Rattle.verdict_line.specs.inner.Code.{second_of, SheetRead};
 ghost use Rattle.output.specs.Output.{sheet_size};
 
 use equality::Verdict;
-use grammar::{Cursor, TextPiece};
+use grammar::Cursor;
 use parser::Parsed;
 use refusal::{InputRefusal, Refusal};
 
 mod lines;
 
-// Where the second of two texts begins, or that the input is not two texts with nothing but space between and after.
-#[derive(Drop)]
-pub enum Second {
-    At(usize),
-    Outside,
-}
-
-// The place of the second text.
-fn second_text(input: &[u8]) -> Second
+// Where the second of two texts begins, or nothing where the input is not two texts with nothing but space between and after.
+#[tactic(auto, using(std::proofs::lemmas::List::take_rest, crate::proofs::Reading::second_inside, crate::proofs::Reading::both_fits), unfolding(crate::specs::Texts::two_texts, grammar::specs::Grammar::follow))]
+fn second_text(input: &[u8]) -> Option<usize>
     ensures { second_of result ≡ two_texts input.now }
 {
-    let TextPiece::Read(_, c) = grammar::whole_text(input) else {
-        return Second::Outside;
+    let Some((_, c)) = grammar::whole_text(input) else {
+        return None;
     };
     let from = grammar::space(input, c);
     let at = from.at;
-    let TextPiece::Read(_, d) = grammar::whole_text(&input[at..]) else {
-        return Second::Outside;
+    let Some((_, d)) = grammar::whole_text(&input[at..]) else {
+        return None;
     };
     let end = grammar::space(input, Cursor { at: at + d.at });
     if end.at < input.len() {
-        return Second::Outside;
+        return None;
     }
-    Second::At(at)
+    Some(at)
 }
 
 // The sheet of a text at the front of out.
-fn read_sheet(text: &[u8], out: &mut [u32]) -> Parsed
+fn read_sheet(text: &[u8], out: &mut [u32]) -> Result<Parsed, Refusal>
     requires { length out.old ≡ sheet_size }
     ensures { SheetRead (reading_answer text.now) out.new result }
 {
@@ -61,8 +55,8 @@ fn compare_second(a: &[u32], second: &[u8], word: &mut [u32]) -> Verdict
 {
     let mut b = [0u32; 10500];
     match read_sheet(second, &mut b) {
-        Parsed::Read(_, n, _) => equality::equality(a, &b[0..n], word),
-        Parsed::Refused(r) => Verdict::Refused(r),
+        Ok(p) => equality::equality(a, &b[0..p.words], word),
+        Err(r) => Verdict::Refused(r),
     }
 }
 
@@ -73,12 +67,13 @@ fn compare_texts(first: &[u8], second: &[u8], word: &mut [u32]) -> Verdict
 {
     let mut a = [0u32; 10500];
     match read_sheet(first, &mut a) {
-        Parsed::Read(_, n, _) => compare_second(&a[0..n], second, word),
-        Parsed::Refused(r) => Verdict::Refused(r),
+        Ok(p) => compare_second(&a[0..p.words], second, word),
+        Err(r) => Verdict::Refused(r),
     }
 }
 
 // The verdict on the two texts of an input.
+#[tactic(auto, using(crate::proofs::Judging::input_long))]
 fn compare(input: &[u8], word: &mut [u32]) -> Verdict
     requires { word_size ≤ length word.old }
     ensures { Judged (verdict_answer 0 last_symbol input.now) word.old word.new result }
@@ -87,8 +82,8 @@ fn compare(input: &[u8], word: &mut [u32]) -> Verdict
         return Verdict::Refused(Refusal::Input(InputRefusal::Grammar));
     }
     match second_text(input) {
-        Second::At(at) => compare_texts(input, &input[at..], word),
-        Second::Outside => Verdict::Refused(Refusal::Input(InputRefusal::Grammar)),
+        Some(at) => compare_texts(input, &input[at..], word),
+        None => Verdict::Refused(Refusal::Input(InputRefusal::Grammar)),
     }
 }
 

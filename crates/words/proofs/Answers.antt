@@ -5,6 +5,7 @@ use mathlib.Core.List.{List, [], ◌∷◌}
 use mathlib.Core.Path.{◌≡◌, refl, sym, ◌∙◌, ap, subst}
 use borrow.Author.Rules.{rules}
 use lib.ListN.{length, get_or, drop, drop_of_length-le}
+use Rattle.std.specs.Prelude.{Result, Ok, Err}
 use Rattle.automata.specs.Automaton.{Automaton}
 use Rattle.refusal.specs.declared.InputRefusal.{InputRefusal}
 use Rattle.refusal.specs.Answer.{Answer, refused, given}
@@ -13,12 +14,9 @@ use Rattle.sets.specs.Sets.{Set, is_empty}
 use Rattle.sets.specs.inner.Members.{Canon}
 use Rattle.sets.specs.inner.BitSet.{set_at}
 use Rattle.sets.proofs.Sets.{empty_yes}
-use Rattle.sheets.specs.declared.Checked.{Checked}
-use Rattle.sheets.specs.declared.Checked.TheVariants.{Accepted, Refused}
 use Rattle.sheets.specs.Checked.{checked_number}
 use Rattle.sheets.specs.Fault.{fault}
 use Rattle.sheets.specs.Sheet.{state_count, read}
-use Rattle.sheets.proofs.Accepted.{check_accepted}
 use Rattle.sheets.proofs.Checking.{sheet_passed, sheet_refused}
 use Rattle.sheets.proofs.Meaning.{read_well}
 use Rattle.utf8.specs.declared.Step.{Step}
@@ -99,22 +97,22 @@ end_canon s starts c set S w t n e = subst (Canon (state_count s)) (sym e) (simu
 abbrev pub text_answer : Automaton → Decoded → Answer ℕ
 text_answer A d = decoded_first d (λ w. given (kind A w))
 
-module _ (s w : List ℕ) (r : Checked) (e : checked_number r ≡ fault s) where
-  pub words_given : r ≡ Accepted → (k : ℕ) → k ≡ kind (read s) w → given k ≡ accepts_words_answer s w
+module _ (s w : List ℕ) (r : Result (Unit {0}) InputRefusal) (e : checked_number r ≡ fault s) where
+  pub words_given : r ≡ Ok tt → (k : ℕ) → k ≡ kind (read s) w → given k ≡ accepts_words_answer s w
   unfolding accepts_words_answer
   words_given h k q = ap given q ∙ sym (sheet_passed s _ r e h)
 
-  pub words_refused : (i : InputRefusal) → r ≡ Refused i → refused (input_number i) ≡ accepts_words_answer s w
+  pub words_refused : (i : InputRefusal) → r ≡ Err i → refused (input_number i) ≡ accepts_words_answer s w
   unfolding accepts_words_answer
   words_refused i h = sym (sheet_refused s _ r e i h)
 
-  pub text_given : r ≡ Accepted → (b : Bool) → b ≡ wellformed w → b ≡ true → (k : ℕ) → k ≡ kind (read s) (points_of (decode w)) → given k ≡ accepts_text_answer s w
+  pub text_given : r ≡ Ok tt → (b : Bool) → b ≡ wellformed w → b ≡ true → (k : ℕ) → k ≡ kind (read s) (points_of (decode w)) → given k ≡ accepts_text_answer s w
   unfolding accepts_text_answer points_of
   text_given h b f g k q =
       let p = (wellformed_points w).0 (sym f ∙ g) in
       ap given (q ∙ ap (λ d. kind (read s) (points_of d)) p.1) ∙ ap (text_answer (read s)) (sym p.1) ∙ sym (sheet_passed s _ r e h)
 
-  pub text_bad : r ≡ Accepted → (b : Bool) → b ≡ wellformed w → b ≡ false → refused 9 ≡ accepts_text_answer s w
+  pub text_bad : r ≡ Ok tt → (b : Bool) → b ≡ wellformed w → b ≡ false → refused 9 ≡ accepts_text_answer s w
   unfolding accepts_text_answer
   text_bad h b f g = go (decode w) refl ∙ sym (sheet_passed s _ r e h)
     where
@@ -122,11 +120,8 @@ module _ (s w : List ℕ) (r : Checked) (e : checked_number r ≡ fault s) where
       go malformed p = ap (text_answer (read s)) (sym p)
       go (points ps) p = absurd (false≢true (sym g ∙ f ∙ (wellformed_points w).1 (ps, p)))
 
-  pub text_refused : (i : InputRefusal) → r ≡ Refused i → refused (input_number i) ≡ accepts_text_answer s w
+  pub text_refused : (i : InputRefusal) → r ≡ Err i → refused (input_number i) ≡ accepts_text_answer s w
   unfolding accepts_text_answer
   text_refused i h = sym (sheet_refused s _ r e i h)
 
-pub is_well : (t : List ℕ) (b : Bool) → b ≡ wellformed t → b ≡ true → wellformed t ≡ true
-is_well t b e h = sym e ∙ h
-
-pub ruleset answer_laws = (check_accepted, is_well, words_given, words_refused, text_given, text_bad, text_refused, rules)
+pub ruleset answer_laws = (words_given, words_refused, text_given, text_bad, text_refused, rules)

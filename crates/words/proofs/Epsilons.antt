@@ -1,9 +1,9 @@
 -- The laws by which the closures are proved: the table's rows get their own numbers, then the targets of epsilons, then Warshall's rounds.
-use Prim.Native.Nat.{ℕ, suc, ◌+◌, ◌-◌, ◌*◌, ◌≤◌, ◌<◌}
+use Prim.Native.Nat.{ℕ, suc, ◌+◌, ◌-◌, ◌*◌, ◌/◌, ◌≤◌, ◌<◌}
 use mathlib.Core.Bool.{true, false, ◌||◌}
 use mathlib.Core.List.{List, [], ◌∷◌}
 use mathlib.Core.Logic.{⊎_elim}
-use mathlib.Core.Path.{◌≡◌, refl, sym, ◌∙◌, ap, subst, subst⁻¹}
+use mathlib.Core.Path.{◌≡◌, sym, ◌∙◌, ap, subst, subst⁻¹}
 use native.Mathlib.Nat.{eq-or-lt_of_le}
 use native.Mathlib.Omega.{arith}
 use borrow.Author.Rules.{rules}
@@ -17,7 +17,9 @@ use Rattle.lists.proofs.Tests.{test, true_same, and_parts}
 use Rattle.automata.specs.Automaton.{Transition, InBounds}
 use Rattle.automata.specs.Records.{read_records}
 use Rattle.automata.specs.inner.Records.{record_at}
-use Rattle.automata.proofs.Records.{records_at_lem, records_end, part_record}
+use Rattle.std.specs.Simd.{first_chunks}
+use Rattle.automata.specs.inner.Chunks.{records_of}
+use Rattle.automata.proofs.Chunks.{records_are, records_next, records_done}
 use Rattle.sets.specs.Sets.{has}
 use Rattle.sets.specs.inner.Members.{Canon}
 use Rattle.sets.specs.inner.BitSet.{set_at, entries}
@@ -30,20 +32,17 @@ use Rattle.sets.proofs.Stores.{inserted, insert_other, length_insert}
 use Rattle.sheets.specs.inner.Accepted.{Accepted}
 use Rattle.sheets.specs.Sheet.{state_count, records_at, read}
 use Rattle.sheets.proofs.Meaning.{read_well}
-use Rattle.sheets.proofs.Named.{named_to, named_next, sheet_named}
+use Rattle.sheets.proofs.Named.{sheet_named}
 use Rattle.words.specs.Simulation.{is_epsilon, epsilon_row, closures}
 use Rattle.words.specs.inner.Gather.{with_all, RowsFor}
 use Rattle.words.specs.inner.Epsilons.{Fresh, SelvesAdded, with_epsilons, EpsilonsAdded, EpsilonsLeft}
 use Rattle.words.proofs.Gather.{all_none, all_cons, all_skip, all_one}
-use Rattle.words.proofs.Rows.{rows_from, rows_next, sheet_rows}
+use Rattle.words.proofs.Rows.{sheet_rows}
 
 eqb_comm : (a b : ℕ) → eqb a b ≡ eqb b a
 eqb_comm a b = true_same _ _ (λ h. eq-eqb b a (sym (eqb-true a b h))) (λ h. eq-eqb a b (sym (eqb-true b a h)))
 
 -- rows get their own numbers
-pub selves_none : (t : List ℕ) → SelvesAdded t t 0
-selves_none t = record { below = λ p l. absurd (omega arith); above = λ p l. refl }
-
 pub selves_next : (t u v : List ℕ) (n m : ℕ) → SelvesAdded t u n → n < m → m ≤ 256 → length u ≡ length t → 4 * m ≤ length t → v ≡ insert_at u (4 * n) n → SelvesAdded t v (n + 1)
 selves_next t u v n m s g h j k e =
     let l : n < 256 = omega arith in
@@ -61,10 +60,7 @@ selves_next t u v n m s g h j k e =
     le_of : {p : ℕ} → p < n + 1 → suc p ≤ suc n
     le_of h = omega arith
 
-pub selves_all : (t u : List ℕ) (p n : ℕ) → SelvesAdded t u p → p ≤ n → n ≤ p → SelvesAdded t u n
-selves_all t u p n s l h = subst (SelvesAdded t u) (omega arith) s
-
-pub ruleset self_laws = (selves_none, selves_next, selves_all, length_insert, rules)
+pub ruleset self_laws = (selves_next, length_insert, rules)
 
 -- a record that the code tests
 pub epsilon_not : (t r : List ℕ) → (get_or r 1 0 ≡ 0 → ⊥) → EpsilonsAdded t t (record_at r 0 ∷ [])
@@ -90,34 +86,35 @@ epsilon_put t u r k f g e =
 
 pub ruleset epsilon_laws = (epsilon_not, epsilon_put, length_insert, rules)
 
--- the records from a place on
-pub epsilons_begin : (t run : List ℕ) → EpsilonsLeft t (read_records run) t (read_records (drop 0 run))
-epsilons_begin t run = record { row = λ p l. refl }
+-- the records from an index on
+pub epsilons_begin : (t run : List ℕ) (rs : List (List ℕ)) → rs ≡ first_chunks 5 (length run / 5) run → EpsilonsLeft t (read_records run) t (records_of (drop 0 rs))
+epsilons_begin t run rs q = record { row = λ p l. ap (with_epsilons t p) (records_are run rs q) }
 
-pub epsilons_next : (t run u v : List ℕ) (at : ℕ) → EpsilonsLeft t (read_records run) u (read_records (drop at run)) → 5 ≤ length run - at
-    → EpsilonsAdded u v (record_at (take (at + 5 - at) (drop at run)) 0 ∷ []) → EpsilonsLeft t (read_records run) v (read_records (drop (at + 5) run))
-unfolding with_epsilons
-epsilons_next t run u v at s h e =
-    record {
-      row = λ p l.
-          ap (λ S. with_all S (is_epsilon p) (read_records (drop (at + 5) run))) (e.row p l ∙ ap (λ x. with_all (set_at u (4 * p)) (is_epsilon p) (x ∷ [])) (part_record run at))
-          ∙ sym (all_cons (is_epsilon p) (set_at u (4 * p)) (record_at run at) (read_records (drop (at + 5) run)))
-          ∙ ap (with_all (set_at u (4 * p)) (is_epsilon p)) (sym (records_at_lem run at h)) ∙ s.row p l;
-    }
+module _ (es : List Transition) (t u : List ℕ) (rs : List (List ℕ)) (i : ℕ) (s : EpsilonsLeft t es u (records_of (drop i rs))) where
+  pub epsilons_next : (v : List ℕ) → i < length rs → EpsilonsAdded u v (record_at (get_or rs i []) 0 ∷ []) → EpsilonsLeft t es v (records_of (drop (i + 1) rs))
+  unfolding with_epsilons
+  epsilons_next v h e =
+      record {
+        row = λ p l.
+            ap (λ S. with_all S (is_epsilon p) (records_of (drop (i + 1) rs))) (e.row p l)
+            ∙ sym (all_cons (is_epsilon p) (set_at u (4 * p)) (record_at (get_or rs i []) 0) (records_of (drop (i + 1) rs)))
+            ∙ ap (with_all (set_at u (4 * p)) (is_epsilon p)) (sym (records_next rs i h)) ∙ s.row p l;
+      }
 
-pub epsilons_end : (t run u : List ℕ) (at : ℕ) → EpsilonsLeft t (read_records run) u (read_records (drop at run)) → length run - at < 5 → EpsilonsAdded t u (read_records run)
-unfolding with_epsilons
-epsilons_end t run u at s h =
-    record { row = λ p l. sym (all_none (is_epsilon p) (set_at u (4 * p)) (at_canon u (4 * p))) ∙ ap (with_all (set_at u (4 * p)) (is_epsilon p)) (sym (records_end run at h)) ∙ s.row p l }
+  pub epsilons_end : length rs ≤ i → EpsilonsAdded t u es
+  unfolding with_epsilons
+  epsilons_end h =
+      record { row = λ p l. sym (all_none (is_epsilon p) (set_at u (4 * p)) (at_canon u (4 * p))) ∙ ap (with_all (set_at u (4 * p)) (is_epsilon p)) (sym (records_done rs i h)) ∙ s.row p l }
 
-pub ruleset epsilons_laws = (epsilons_begin, epsilons_next, epsilons_end, named_to, named_next, rows_from, rows_next, rules)
+-- a table of zeros that is long enough; one for 256 states, and one where there are at most 32
+pub fresh_zeros : (s : List ℕ) (n : ℕ) → 4 * state_count s ≤ n → Fresh (state_count s) (replicate n 0)
+fresh_zeros s n h = record { long = omega (arith, length-replicate {A = ℕ} n 0); empty = fresh_at n }
 
--- the large table, and the small one where there are at most 32 states
 pub fresh_large : (s : List ℕ) → Accepted s → Fresh (state_count s) (replicate 1024 0)
-fresh_large s a = record { long = omega (arith, length-replicate {A = ℕ} 1024 0, a.few_states); empty = fresh_at 1024 }
+fresh_large s a = fresh_zeros s 1024 (omega (arith, a.few_states))
 
 pub fresh_small : (s : List ℕ) → state_count s ≤ 32 → Fresh (state_count s) (replicate 128 0)
-fresh_small s h = record { long = omega (arith, length-replicate {A = ℕ} 128 0); empty = fresh_at 128 }
+fresh_small s h = fresh_zeros s 128 (omega arith)
 
 -- the table of an accepted sheet
 module _ (s : List ℕ) (a : Accepted s) where

@@ -1,5 +1,5 @@
 -- The laws by which a step is proved: gathering record by record, and member by member.
-use Prim.Native.Nat.{ℕ, ◌+◌, ◌-◌, ◌*◌, ◌≤◌, ◌<◌}
+use Prim.Native.Nat.{ℕ, ◌+◌, ◌*◌, ◌≤◌, ◌<◌}
 use mathlib.Core.Bool.{Bool, true, false, ◌&&◌, ◌||◌, or-false}
 use mathlib.Core.List.{List, [], ◌∷◌}
 use mathlib.Core.Logic.{⊎_elim}
@@ -12,9 +12,9 @@ use Rattle.lists.specs.Lists.{◌∈◌, any}
 use Rattle.lists.proofs.Lists.{any_ext, filter_in}
 use Rattle.lists.proofs.Tests.{test}
 use Rattle.automata.specs.Automaton.{Transition, holds, ranges_of}
-use Rattle.automata.specs.Records.{read_records}
+use Rattle.automata.specs.inner.Chunks.{records_of}
 use Rattle.automata.specs.inner.Records.{record_at}
-use Rattle.automata.proofs.Records.{records_at_lem, records_end}
+use Rattle.automata.proofs.Chunks.{records_next, records_done}
 use Rattle.ranges.specs.Missing.{SortedRanges}
 use Rattle.ranges.proofs.Runs.{ranges_in, ranges_at}
 use Rattle.ranges.proofs.SortedCuts.{sorted_above}
@@ -96,35 +96,35 @@ takes_none a es h e m =
     ⊎_elim (λ (t : eqb e.kind 1 ≡ true). rw (t, lt-leb e.first a (h e (filter_in (λ e. eqb e.kind 1) m t)))) (λ (t : eqb e.kind 1 ≡ false). rw t)
     (test (eqb e.kind 1))
 
--- the run of a state, from the record at a place on
-module _ (old c : List ℕ) (a : ℕ) (run : List ℕ) (t : List ℕ) (at : ℕ) (e : gathered t c a (read_records (drop at run)) ≡ gathered old c a (read_records run)) where
-  pub run_ended : length run - at < 5 → set_at t 0 ≡ gathered old c a (read_records run)
-  run_ended h = sym (gather_none c a t) ∙ ap (gathered t c a) (sym (records_end run at h)) ∙ e
+-- the run of a state, from the record at an index on
+module _ (old c : List ℕ) (a : ℕ) (rs : List (List ℕ)) (t : List ℕ) (i : ℕ) (es : List Transition) (e : gathered t c a (records_of (drop i rs)) ≡ gathered old c a es) where
+  pub run_ended : length rs ≤ i → set_at t 0 ≡ gathered old c a es
+  run_ended h = sym (gather_none c a t) ∙ ap (gathered t c a) (sym (records_done rs i h)) ∙ e
 
-  module _ (h : 5 ≤ length run - at) where
-    next : (u : List ℕ) → set_at u 0 ≡ gathered t c a (record_at run at ∷ []) → gathered u c a (read_records (drop (at + 5) run)) ≡ gathered old c a (read_records run)
-    next u k = sym (gather_cons c a t u (record_at run at) (read_records (drop (at + 5) run)) k) ∙ ap (gathered t c a) (sym (records_at_lem run at h)) ∙ e
+  module _ (h : i < length rs) where
+    next : (u : List ℕ) → set_at u 0 ≡ gathered t c a (record_at (get_or rs i []) 0 ∷ []) → gathered u c a (records_of (drop (i + 1) rs)) ≡ gathered old c a es
+    next u k = sym (gather_cons c a t u (record_at (get_or rs i []) 0) (records_of (drop (i + 1) rs)) k) ∙ ap (gathered t c a) (sym (records_next rs i h)) ∙ e
 
-    pub run_skip : (get_or run (at + 1) 0 ≡ 1 → ⊥) → gathered t c a (read_records (drop (at + 5) run)) ≡ gathered old c a (read_records run)
+    pub run_skip : (get_or (get_or rs i []) 1 0 ≡ 1 → ⊥) → gathered t c a (records_of (drop (i + 1) rs)) ≡ gathered old c a es
     unfolding takes
-    run_skip k = next t (gather_skip c a t (record_at run at) (rw (ne_eqb (get_or run (at + 1) 0) 1 k)))
+    run_skip k = next t (gather_skip c a t (record_at (get_or rs i []) 0) (rw (ne_eqb (get_or (get_or rs i []) 1 0) 1 k)))
 
-    module _ (k : get_or run (at + 1) 0 ≡ 1) where
-      pub run_below : get_or run (at + 2) 0 ≤ a → get_or run (at + 3) 0 < a → gathered t c a (read_records (drop (at + 5) run)) ≡ gathered old c a (read_records run)
+    module _ (k : get_or (get_or rs i []) 1 0 ≡ 1) where
+      pub run_below : get_or (get_or rs i []) 2 0 ≤ a → get_or (get_or rs i []) 3 0 < a → gathered t c a (records_of (drop (i + 1) rs)) ≡ gathered old c a es
       unfolding takes holds
-      run_below l g = next t (gather_skip c a t (record_at run at) (rw (eq-eqb (get_or run (at + 1) 0) 1 k, le-leb (get_or run (at + 2) 0) a l, lt-leb a (get_or run (at + 3) 0) g)))
+      run_below l g = next t (gather_skip c a t (record_at (get_or rs i []) 0) (rw (eq-eqb (get_or (get_or rs i []) 1 0) 1 k, le-leb (get_or (get_or rs i []) 2 0) a l, lt-leb a (get_or (get_or rs i []) 3 0) g)))
 
-      pub run_holds : get_or run (at + 2) 0 ≤ a → a ≤ get_or run (at + 3) 0 → length t ≡ length old → 4 ≤ length old → (u : List ℕ) → u ≡ union_at t 0 c (4 * get_or run (at + 4) 0)
-          → gathered u c a (read_records (drop (at + 5) run)) ≡ gathered old c a (read_records run)
+      pub run_holds : get_or (get_or rs i []) 2 0 ≤ a → a ≤ get_or (get_or rs i []) 3 0 → length t ≡ length old → 4 ≤ length old → (u : List ℕ) → u ≡ union_at t 0 c (4 * get_or (get_or rs i []) 4 0)
+          → gathered u c a (records_of (drop (i + 1) rs)) ≡ gathered old c a es
       unfolding takes holds
       run_holds l g n m u q =
           next u
           (ap (λ x. set_at x 0) q
-          ∙ gather_take c a t (record_at run at) (rw (eq-eqb (get_or run (at + 1) 0) 1 k, le-leb (get_or run (at + 2) 0) a l, le-leb a (get_or run (at + 3) 0) g)) (omega arith))
+          ∙ gather_take c a t (record_at (get_or rs i []) 0) (rw (eq-eqb (get_or (get_or rs i []) 1 0) 1 k, le-leb (get_or (get_or rs i []) 2 0) a l, le-leb a (get_or (get_or rs i []) 3 0) g)) (omega arith))
 
-      pub run_above : SortedRanges (ranges_in (drop at run)) → a < get_or run (at + 2) 0 → set_at t 0 ≡ gathered old c a (read_records run)
+      pub run_above : SortedRanges (ranges_in (drop i rs)) → a < get_or (get_or rs i []) 2 0 → set_at t 0 ≡ gathered old c a es
       run_above s g =
-          let r = ranges_at run at h k in
-          let f : (d : Transition) → d ∈ ranges_in (drop at run) → a < d.first =
-          λ d m. sorted_above a (record_at run at) (ranges_in (drop (at + 5) run)) (subst SortedRanges r s) g d (rw r at m) in
-          gather_nothing c a t (read_records (drop at run)) (takes_none a (read_records (drop at run)) f) ∙ e
+          let r = ranges_at rs i h k in
+          let f : (d : Transition) → d ∈ ranges_in (drop i rs) → a < d.first =
+          λ d m. sorted_above a (record_at (get_or rs i []) 0) (ranges_in (drop (i + 1) rs)) (subst SortedRanges r s) g d (rw r at m) in
+          gather_nothing c a t (records_of (drop i rs)) (takes_none a (records_of (drop i rs)) f) ∙ e

@@ -1,8 +1,7 @@
--- A table has a row for each state that the records of an accepted sheet, or those of a state's run, name: of all records, of the one at a place, and of those behind it.
-use Prim.Native.Nat.{ℕ, ◌+◌, ◌-◌, ◌*◌, ◌≤◌}
-use mathlib.Core.List.Memᴰ
-use mathlib.Core.List.{List}
-use mathlib.Core.Path.{◌≡◌, refl, sym, ◌∙◌, ap, subst}
+-- A table has a row for each state that the records of an accepted sheet, or those of a state's run, name: of all records, and of the one at an index.
+use Prim.Native.Nat.{ℕ, ◌+◌, ◌-◌, ◌*◌, ◌/◌, ◌≤◌, ◌<◌}
+use mathlib.Core.List.{List, []}
+use mathlib.Core.Path.{◌≡◌, sym, ◌∙◌, ap, subst}
 use native.Mathlib.Omega.{arith}
 use lib.ListN.{length, get_or, take, drop}
 use Rattle.lists.specs.Lists.{◌∈◌}
@@ -10,25 +9,25 @@ use Rattle.lists.proofs.Parts.{part_all}
 use Rattle.automata.specs.Automaton.{Transition, leaving}
 use Rattle.automata.specs.Records.{read_records, write_records}
 use Rattle.automata.specs.inner.Records.{record_at}
+use Rattle.std.specs.Simd.{first_chunks}
+use Rattle.automata.proofs.Chunks.{records_are, record_in_chunks}
 use Rattle.automata.proofs.Leaving.{leaves}
-use Rattle.automata.proofs.Records.{read_write, records_at_lem, part_record}
+use Rattle.automata.proofs.Records.{read_write}
 use Rattle.sheets.specs.inner.Accepted.{Accepted}
 use Rattle.sheets.specs.Sheet.{state_count, records_at, read}
 use Rattle.sheets.proofs.Meaning.{read_well}
 use Rattle.words.specs.inner.Gather.{RowsFor}
 
--- the record at a place, as it is handed on, and the records behind it
-module _ (k : ℕ) (t : List ℕ) (at : ℕ) (n : RowsFor k (read_records (drop at t))) (h : 5 ≤ length t - at) where
-  pub rows_from : (u : List ℕ) → length u ≡ k → 4 * get_or (take (at + 5 - at) (drop at t)) 0 0 + 4 ≤ length u
-  rows_from u e =
-      let m = subst (λ (es : List Transition). record_at (take (at + 5 - at) (drop at t)) 0 ∈ es) (sym (records_at_lem t at h)) (Memᴰ.head (part_record t at)) in
-      omega (arith, n.froms _ m)
+-- the record at an index of the chunks of words
+module _ (k : ℕ) (t : List ℕ) (rs : List (List ℕ)) (i : ℕ) (q : rs ≡ first_chunks 5 (length t / 5) t) (n : RowsFor k (read_records t)) (h : i < length rs) where
+  among : record_at (get_or rs i []) 0 ∈ read_records t
+  among = subst (λ (es : List Transition). record_at (get_or rs i []) 0 ∈ es) (records_are t rs q) (record_in_chunks rs i h)
 
-  pub rows_target : 4 * get_or t (at + 4) 0 + 4 ≤ k
-  rows_target = n.tos (record_at t at) (rw (records_at_lem t at h) (Memᴰ.head refl))
+  pub chunk_row : 4 * get_or (get_or rs i []) 0 0 + 4 ≤ k
+  chunk_row = n.froms _ among
 
-  pub rows_next : RowsFor k (read_records (drop (at + 5) t))
-  rows_next = let r = rw (records_at_lem t at h) at n in record { froms = λ e m. r.froms e (Memᴰ.tail m); tos = λ e m. r.tos e (Memᴰ.tail m) }
+  pub chunk_target : 4 * get_or (get_or rs i []) 4 0 + 4 ≤ k
+  chunk_target = n.tos _ among
 
 -- the records of an accepted sheet
 module _ (s : List ℕ) (a : Accepted s) (k : ℕ) (l : 4 * state_count s ≤ k) where

@@ -12,9 +12,11 @@ use mathlib.Core.List.{List, [], ◌∷◌}
 use mathlib.Core.Logic.{◌↔◌}
 use mathlib.Core.Path.{◌≡◌, refl, sym, ◌∙◌, ap, subst}
 use native.Mathlib.Omega.{arith}
+use Rattle.std.specs.Prelude.{Result, Ok, Err}
 use Rattle.lists.specs.Lists.{◌∈◌, Ascending, none, more}
 use Rattle.automata.specs.Automaton.{Automaton, Run, stay, Accepts, InBounds}
 use Rattle.automata.specs.WellFormed.{WellFormed}
+use Rattle.refusal.specs.declared.InputRefusal.{InputRefusal}
 use Rattle.refusal.specs.Answer.{refused, given}
 use Rattle.sets.specs.Sets.{has, pick_from}
 use Rattle.sets.proofs.Sets.{pick_out, mem_has, has_mem}
@@ -27,8 +29,6 @@ use Rattle.sheets.proofs.Numbers.{sheet_first_lem, sheet_given, sheet_number, sh
 use Rattle.utf8.specs.Encode.{Encoded}
 use Rattle.utf8.specs.Utf8.{Decoded, malformed, points, decode}
 use Rattle.utf8.proofs.Exact.{decode_exact}
-use Rattle.words.specs.declared.Acceptance.{Acceptance}
-use Rattle.words.specs.declared.Acceptance.TheVariants.{Kind, Refused}
 use Rattle.words.specs.Acceptance.{accepts_words_answer, accepts_text_answer, acceptance_of, acceptance_number}
 use Rattle.words.specs.Kinds
 use Rattle.words.specs.Simulation.{closure, simulate, start_set, kind_of, kind}
@@ -83,17 +83,17 @@ kind_most A well w = go (kind_of A (simulate A (start_set A) w)) refl
     go (suc k) e = let r = kind_of_some A (simulate A (start_set A) w) (rw e (omega arith)) in let b = well.accept_words_lem r.0 in omega (arith, r.2, b, e)
 
 -- the number of an answer as the model's
-number_refused : (r : Acceptance) (n : ℕ) → 0 < n → (acceptance_number r ≡ n) ↔ (acceptance_of r ≡ refused n)
-number_refused (Kind k) n l = (λ e. absurd (omega arith), λ e. let z : ◌≡◌ {A = ℕ} 0 1 = cc in absurd (omega arith))
-number_refused (Refused i) n l = (λ e. ap refused e, λ e. cc)
+number_refused : (r : Result ℕ InputRefusal) (n : ℕ) → 0 < n → (acceptance_number r ≡ n) ↔ (acceptance_of r ≡ refused n)
+number_refused (Ok k) n l = (λ e. absurd (omega arith), λ e. let z : ◌≡◌ {A = ℕ} 0 1 = cc in absurd (omega arith))
+number_refused (Err i) n l = (λ e. ap refused e, λ e. cc)
 
-number_given : (r : Acceptance) → acceptance_number r ≡ 0 → (k : ℕ) × (acceptance_of r ≡ given k)
-number_given (Kind k) e = (k, refl)
-number_given (Refused i) e = absurd (refused_some i e)
+number_given : (r : Result ℕ InputRefusal) → acceptance_number r ≡ 0 → (k : ℕ) × (acceptance_of r ≡ given k)
+number_given (Ok k) e = (k, refl)
+number_given (Err i) e = absurd (refused_some i e)
 
-given_number : (r : Acceptance) (k : ℕ) → acceptance_of r ≡ given k → acceptance_number r ≡ 0
-given_number (Kind j) k e = refl
-given_number (Refused i) k e = let z : ◌≡◌ {A = ℕ} 0 1 = cc in absurd (omega arith)
+given_number : (r : Result ℕ InputRefusal) (k : ℕ) → acceptance_of r ≡ given k → acceptance_number r ≡ 0
+given_number (Ok j) k e = refl
+given_number (Err i) k e = let z : ◌≡◌ {A = ℕ} 0 1 = cc in absurd (omega arith)
 
 -- an answer that is the kind of a word in a sheet without a fault
 module _ (s w : List ℕ) (f : fault s ≡ 0) (k : ℕ) (e : kind (read s) w ≡ k) where
@@ -106,17 +106,17 @@ module _ (s w : List ℕ) (f : fault s ≡ 0) (k : ℕ) (e : kind (read s) w ≡
   kind_bit = subst (λ n. n ≤ 1) e (kind_most (read s) (read_well s (accepted s f)) w)
 
 -- the contract of `accepts_words`: r is its answer
-module _ (s w : List ℕ) (r : Acceptance) (call : acceptance_of r ≡ accepts_words_answer s w) where
-  words_kind : (k : ℕ) → r ≡ Kind k → (fault s ≡ 0) × (kind (read s) w ≡ k)
+module _ (s w : List ℕ) (r : Result ℕ InputRefusal) (call : acceptance_of r ≡ accepts_words_answer s w) where
+  words_kind : (k : ℕ) → r ≡ Ok k → (fault s ≡ 0) × (kind (read s) w ≡ k)
   unfolding accepts_words_answer
   words_kind k h = let p = (sheet_given s (given (kind (read s) w)) k).0 (sym call ∙ ap acceptance_of h) in (p.0, cc p.1)
 
   -- the kind that is answered is not 0 exactly where a run accepts the word
-  pub accepts_words : (k : ℕ) → r ≡ Kind k → (0 < k) ↔ Accepts (read s) w
+  pub accepts_words : (k : ℕ) → r ≡ Ok k → (0 < k) ↔ Accepts (read s) w
   accepts_words k h = let p = words_kind k h in kind_accepts s w p.0 k p.1
 
   -- it is 0 or 1
-  pub accepts_words_bit : (k : ℕ) → r ≡ Kind k → k ≤ 1
+  pub accepts_words_bit : (k : ℕ) → r ≡ Ok k → k ≤ 1
   accepts_words_bit k h = let p = words_kind k h in kind_bit s w p.0 k p.1
 
   -- a refusal's number is answered exactly where the sheet has that fault
@@ -131,7 +131,7 @@ malformed_none : (t : List ℕ) → decode t ≡ malformed → (ps : List ℕ) �
 malformed_none t e ps c = let z : malformed ≡ points ps = sym e ∙ (decode_exact t ps).1 c in let y : ◌≡◌ {A = ℕ} 0 1 = cc in omega arith
 
 -- the contract of `accepts_text`: r is its answer
-module _ (s t : List ℕ) (r : Acceptance) (call : acceptance_of r ≡ accepts_text_answer s t) where
+module _ (s t : List ℕ) (r : Result ℕ InputRefusal) (call : acceptance_of r ≡ accepts_text_answer s t) where
   -- the answer behind the sheet's faults, by what the text decodes to
   data Text : Type 0 where
     bad : text_answer (read s) (decode t) ≡ refused 9 → ((ps : List ℕ) → Encoded t ps → ⊥) → Text
@@ -144,7 +144,7 @@ module _ (s t : List ℕ) (r : Acceptance) (call : acceptance_of r ≡ accepts_t
       go malformed e = bad (ap (text_answer (read s)) e) (malformed_none t e)
       go (points ps) e = good ps (ap (text_answer (read s)) e) ((decode_exact t ps).0 e)
 
-  text_kind : (k : ℕ) → r ≡ Kind k → (fault s ≡ 0) × ((ps : List ℕ) × Encoded t ps × (kind (read s) ps ≡ k))
+  text_kind : (k : ℕ) → r ≡ Ok k → (fault s ≡ 0) × ((ps : List ℕ) × Encoded t ps × (kind (read s) ps ≡ k))
   unfolding accepts_text_answer
   text_kind k h = go text
     where
@@ -156,11 +156,11 @@ module _ (s t : List ℕ) (r : Acceptance) (call : acceptance_of r ≡ accepts_t
       go (good ps e c) = let q : given (kind (read s) ps) ≡ given k = sym e ∙ p.1 in (p.0, (ps, c, cc))
 
   -- the kind that is answered is not 0 exactly where a run accepts the code points that the text encodes
-  pub accepts_text : (k : ℕ) → r ≡ Kind k → (ps : List ℕ) × Encoded t ps × ((0 < k) ↔ Accepts (read s) ps)
+  pub accepts_text : (k : ℕ) → r ≡ Ok k → (ps : List ℕ) × Encoded t ps × ((0 < k) ↔ Accepts (read s) ps)
   accepts_text k h = let (f, (ps, c, e)) = text_kind k h in (ps, c, kind_accepts s ps f k e)
 
   -- it is 0 or 1
-  pub accepts_text_bit : (k : ℕ) → r ≡ Kind k → k ≤ 1
+  pub accepts_text_bit : (k : ℕ) → r ≡ Ok k → k ≤ 1
   accepts_text_bit k h = let (f, (ps, c, e)) = text_kind k h in kind_bit s ps f k e
 
   -- a kind is answered exactly where the sheet has no fault and the text encodes code points

@@ -2,3 +2,4 @@
 pub mod Acceptance
 pub mod Epsilons
 pub mod Gather
+pub mod Input

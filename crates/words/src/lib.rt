@@ -22,25 +22,23 @@ ghost use Rattle.utf8.specs.Utf8.{decode};
 ghost use Rattle.utf8.specs.inner.Steps.{wellformed};
 ghost use Rattle.words.specs.Acceptance.{accepts_words_answer, accepts_text_answer, acceptance_of};
 ghost use Rattle.words.specs.inner.Acceptance.{points_of};
+ghost use Rattle.words.specs.inner.Input.{symbols_of, IsWellformed};
 
 use refusal::InputRefusal;
-use sheets::Checked;
 
 // Each of the first n rows gets its own number.
 fn add_selves(rows: &mut [u64], n: usize)
     requires { (n ≤ 256) × (4 * n ≤ length rows.old) }
     ensures { SelvesAdded rows.old rows.new n }
 {
-    let mut p: usize = 0;
-    while p < n {
+    for p in 0..n {
         sets::insert(rows, p, p);
-        p += 1;
     }
 }
 
 // The row of the state that the record r leaves gets its target, if it is an epsilon.
-fn add_epsilon(r: &[u32], rows: &mut [u64])
-    requires { (length r.now ≡ 5) × (4 * get_or r.now 0 0 + 4 ≤ length rows.old) × (get_or r.now 4 0 < 256) }
+fn add_epsilon(r: &[u32; 5], rows: &mut [u64])
+    requires { (4 * get_or r.now 0 0 + 4 ≤ length rows.old) × (get_or r.now 4 0 < 256) }
     ensures { EpsilonsAdded rows.old rows.new (record_at r.now 0 ∷ []) }
 {
     if r[1] != 0 {
@@ -54,10 +52,9 @@ fn add_epsilons(records: &[u32], rows: &mut [u64])
     requires { Named 256 (read_records records.now) × RowsFor (length rows.old) (read_records records.now) }
     ensures { EpsilonsAdded rows.old rows.new (read_records records.now) }
 {
-    let mut at: usize = 0;
-    while 5 <= records.len() - at {
-        add_epsilon(&records[at..at + 5], rows);
-        at += 5;
+    let (records, _) = records.as_chunks::<5>();
+    for r in records {
+        add_epsilon(r, rows);
     }
 }
 
@@ -88,13 +85,9 @@ fn follow(run: &[u32], symbol: u32, closures: &[u64], next: &mut [u64], top: u64
     ensures reached { set_at next.new 0 ≡ gathered next.old closures.now symbol (read_records run.now) }
 {
     let mut found = top;
-    let mut at: usize = 0;
-    while 5 <= run.len() - at {
-        let kind = run[at + 1];
-        let first = run[at + 2];
-        let last = run[at + 3];
-        let to = run[at + 4];
-        at += 5;
+    let (records, _) = run.as_chunks::<5>();
+    for r in records {
+        let [_, kind, first, last, to] = *r;
         if kind == 1 {
             if symbol < first {
                 return ranges::until(first, found);
@@ -184,13 +177,11 @@ fn read_word(s: &[u32], starts: &[u32], closures: &[u64], word: &[u32], current:
     requires { Tables s.now starts.now closures.now × Canon (state_count s.now) (set_at current.old 0) × (4 ≤ length current.old) }
     ensures { set_at current.new 0 ≡ simulate (read s.now) (set_at current.old 0) word.now }
 {
-    let mut i: usize = 0;
-    while i < word.len() {
+    for symbol in word {
         if sets::is_empty(current) {
             return;
         }
-        advance(s, starts, closures, current, word[i]);
-        i += 1;
+        advance(s, starts, closures, current, *symbol);
     }
 }
 
@@ -225,100 +216,67 @@ fn read_text(s: &[u32], starts: &[u32], closures: &[u64], text: &[u8], current: 
     }
 }
 
-// The accept word of a word in an accepted sheet, whose closures are put into a zeroed table that has a row for each state.
-fn word_kind_in(s: &[u32], word: &[u32], closures: &mut [u64]) -> u32
-    requires { Accepted s.now × Fresh (state_count s.now) closures.old }
-    ensures { result ≡ kind (read s.now) word.now }
+// What is read: a word of u32 symbols, or a text in UTF-8, as the word of its code points.
+#[derive(Clone, Copy)]
+enum Input<'a> {
+    Word(&'a [u32]),
+    Text(&'a [u8]),
+}
+
+// The states at the end of what is read from those of current, in its place.
+fn read_input(s: &[u32], starts: &[u32], closures: &[u64], input: Input<'_>, current: &mut [u64])
+    requires { Tables s.now starts.now closures.now × Canon (state_count s.now) (set_at current.old 0) × (4 ≤ length current.old) × IsWellformed input }
+    ensures { set_at current.new 0 ≡ simulate (read s.now) (set_at current.old 0) (symbols_of input.entry) }
 {
+    match input {
+        Input::Word(word) => read_word(s, starts, closures, word, current),
+        Input::Text(text) => read_text(s, starts, closures, text, current),
+    }
+}
+
+// The accept word of what is read in an accepted sheet, with a table of N words for its closures. It stays a function of its own, so that a small
+// table does not pay for a large one.
+#[inline(never)]
+fn input_kind_within<const N: usize>(s: &[u32], input: Input<'_>) -> u32
+    requires { Accepted s.now × (4 * state_count s.now ≤ N) × (N ≤ 1024) × IsWellformed input }
+    ensures { result ≡ kind (read s.now) (symbols_of input.entry) }
+{
+    let mut closures = [0u64; N];
     let mut starts = [0u32; 257];
     let mut current = [0u64; 4];
-    begin(s, &mut starts, closures, &mut current);
-    read_word(s, &starts, closures, word, &mut current);
+    begin(s, &mut starts, &mut closures, &mut current);
+    read_input(s, &starts, &closures, input, &mut current);
     kind_of(s, &current)
 }
 
-// The same with a table for as many states as a sheet may have.
-fn word_kind_large(s: &[u32], word: &[u32]) -> u32
-    requires { Accepted s.now }
-    ensures { result ≡ kind (read s.now) word.now }
-{
-    let mut closures = [0u64; 1024];
-    word_kind_in(s, word, &mut closures)
-}
-
-// The same with a table for 32 states where they are enough.
-fn word_kind(s: &[u32], word: &[u32]) -> u32
-    requires { Accepted s.now }
-    ensures { result ≡ kind (read s.now) word.now }
+// The same with a table for 32 states where they are enough, and else for as many as a sheet may have.
+fn input_kind(s: &[u32], input: Input<'_>) -> u32
+    requires { Accepted s.now × IsWellformed input }
+    ensures { result ≡ kind (read s.now) (symbols_of input.entry) }
 {
     if 32 < s[2] {
-        return word_kind_large(s, word);
+        return input_kind_within::<1024>(s, input);
     }
-    let mut closures = [0u64; 128];
-    word_kind_in(s, word, &mut closures)
+    input_kind_within::<128>(s, input)
 }
 
-// The accept word of a text that is not malformed in an accepted sheet, whose closures are put into a zeroed table that has a row for each state.
-fn text_kind_in(s: &[u32], text: &[u8], closures: &mut [u64]) -> u32
-    requires { Accepted s.now × Fresh (state_count s.now) closures.old × (wellformed text.now ≡ true) }
-    ensures { result ≡ kind (read s.now) (points_of (decode text.now)) }
-{
-    let mut starts = [0u32; 257];
-    let mut current = [0u64; 4];
-    begin(s, &mut starts, closures, &mut current);
-    read_text(s, &starts, closures, text, &mut current);
-    kind_of(s, &current)
-}
-
-// The same with a table for as many states as a sheet may have.
-fn text_kind_large(s: &[u32], text: &[u8]) -> u32
-    requires { Accepted s.now × (wellformed text.now ≡ true) }
-    ensures { result ≡ kind (read s.now) (points_of (decode text.now)) }
-{
-    let mut closures = [0u64; 1024];
-    text_kind_in(s, text, &mut closures)
-}
-
-// The same with a table for 32 states where they are enough.
-fn text_kind(s: &[u32], text: &[u8]) -> u32
-    requires { Accepted s.now × (wellformed text.now ≡ true) }
-    ensures { result ≡ kind (read s.now) (points_of (decode text.now)) }
-{
-    if 32 < s[2] {
-        return text_kind_large(s, text);
-    }
-    let mut closures = [0u64; 128];
-    text_kind_in(s, text, &mut closures)
-}
-
-// The answer of acceptance: the accept word that the states at the word's end give, 0 where it is not accepted.
-#[derive(Drop)]
-pub enum Acceptance {
-    Kind(u32),
-    Refused(InputRefusal),
-}
-
-// Whether a sheet accepts a word of u32 symbols.
-pub fn accepts_words(s: &[u32], word: &[u32]) -> Acceptance
+// The accept word that the states at the end of a word of u32 symbols give, 0 where a sheet does not accept it.
+#[tactic(auto, using(crate::proofs::Answers::answer_laws))]
+pub fn accepts_words(s: &[u32], word: &[u32]) -> Result<u32, InputRefusal>
     ensures { acceptance_of result ≡ accepts_words_answer s.now word.now }
 {
-    match sheets::check(s) {
-        Checked::Accepted => Acceptance::Kind(word_kind(s, word)),
-        Checked::Refused(r) => Acceptance::Refused(r),
-    }
+    sheets::check(s)?;
+    Ok(input_kind(s, Input::Word(word)))
 }
 
-// Whether a sheet accepts a text in UTF-8, as the word of its code points.
-pub fn accepts_text(s: &[u32], text: &[u8]) -> Acceptance
+// The same for a text in UTF-8, as the word of its code points.
+#[tactic(auto, using(crate::proofs::Answers::answer_laws))]
+pub fn accepts_text(s: &[u32], text: &[u8]) -> Result<u32, InputRefusal>
     ensures { acceptance_of result ≡ accepts_text_answer s.now text.now }
 {
-    match sheets::check(s) {
-        Checked::Accepted => {
-            if utf8::is_wellformed(text) {
-                return Acceptance::Kind(text_kind(s, text));
-            }
-            Acceptance::Refused(InputRefusal::Utf8)
-        }
-        Checked::Refused(r) => Acceptance::Refused(r),
+    sheets::check(s)?;
+    if utf8::is_wellformed(text) {
+        return Ok(input_kind(s, Input::Text(text)));
     }
+    Err(InputRefusal::Utf8)
 }

@@ -1,21 +1,23 @@
 -- The lengths of the parts of the text.
-use Prim.Native.Nat.{ℕ, ◌+◌, ◌-◌, ◌*◌, ◌/◌, ◌^◌, ◌≤◌, ◌<◌}
+use Prim.Native.Nat.{ℕ, ◌+◌, ◌*◌, ◌/◌, ◌^◌, ◌≤◌, ◌<◌}
 use mathlib.Core.List.{List, [], ◌∷◌, ◌++◌, flat_map}
-use mathlib.Core.Path.{◌≡◌, sym, ◌∙◌, ap}
+use mathlib.Core.Path.{◌≡◌, ap}
 use native.Mathlib.Omega.{arith}
 use mir.Syntax.{w64}
 use mir.Val.{Fits}
 use borrow.Author.Rules.{rules}
-use lib.ListN.{length, get_or, take, drop, length-append, drop_of_length-le}
+use Rattle.std.specs.Simd.{first_chunks}
+use lib.ListN.{length, get_or, drop, length-append, drop_of_length-le}
 use Rattle.lists.proofs.Parts.{drop_at}
 use Rattle.automata.specs.Automaton.{Transition}
 use Rattle.automata.specs.Records.{read_records}
 use Rattle.automata.specs.inner.Records.{record_at}
-use Rattle.automata.proofs.Records.{records_at_lem, records_end, part_record}
+use Rattle.automata.specs.inner.Chunks.{records_of}
+use Rattle.automata.proofs.Chunks.{records_are, records_next, records_done}
 use Rattle.decimal.specs.Decimal.{digits}
 use Rattle.decimal.proofs.Decimal.{length_one, length_more, length_word}
 use Rattle.labels.specs.Labels.{label_count, read_labels}
-use Rattle.sheets.proofs.Named.{named_from, named_to, named_next}
+use Rattle.sheets.proofs.Named.{chunk_from, chunk_to}
 use Rattle.writer.specs.Text.{more_names_text}
 use Rattle.writer.specs.inner.Parts.{arrow_text, range_text, spaced_transition, spaced_transitions}
 use Rattle.writer.specs.inner.Tables.{LabelPlaces, state_labels}
@@ -59,47 +61,44 @@ pub transition_counted : (ls : List (List ℕ)) (r : List ℕ) (x y z w : ℕ) �
     → 11 + x + y + z + w ≡ length (spaced_transition ls (record_at r 0))
 transition_counted ls r x y z w f g h k = omega (arith, transition_length ls (record_at r 0))
 
--- the transitions from `at` on are left
-pub transitions_split : (ls : List (List ℕ)) (t : List ℕ) (at : ℕ) → 5 ≤ length t - at
-    → spaced_transitions ls (read_records (drop at t)) ≡ spaced_transition ls (record_at (take (at + 5 - at) (drop at t)) 0) ++ spaced_transitions ls (read_records (drop (at + 5) t))
+-- the transitions from the record i on are left
+pub transitions_split : (ls : List (List ℕ)) (rs : List (List ℕ)) (i : ℕ) → i < length rs
+    → spaced_transitions ls (records_of (drop i rs)) ≡ spaced_transition ls (record_at (get_or rs i []) 0) ++ spaced_transitions ls (records_of (drop (i + 1) rs))
 unfolding spaced_transitions flat_map
-transitions_split ls t at h =
-    ap (spaced_transitions ls) (records_at_lem t at h)
-    ∙ ap (λ (e : Transition). spaced_transition ls e ++ spaced_transitions ls (read_records (drop (at + 5) t))) (sym (part_record t at))
+transitions_split ls rs i h = ap (spaced_transitions ls) (records_next rs i h)
 
-pub transitions_none : (ls : List (List ℕ)) (t : List ℕ) (at : ℕ) → length t - at < 5 → spaced_transitions ls (read_records (drop at t)) ≡ []
+pub transitions_none : (ls : List (List ℕ)) (rs : List (List ℕ)) (i : ℕ) → length rs ≤ i → spaced_transitions ls (records_of (drop i rs)) ≡ []
 unfolding spaced_transitions flat_map
-transitions_none ls t at h = ap (spaced_transitions ls) (records_end t at h)
+transitions_none ls rs i h = ap (spaced_transitions ls) (records_done rs i h)
 
 -- n bytes are counted
-pub record TransitionsLeft (ls : List (List ℕ)) (t : List ℕ) (n at : ℕ) : Type 0 where
-  pub counted : n + length (spaced_transitions ls (read_records (drop at t))) ≡ length (spaced_transitions ls (read_records t))
-  pub few : n ≤ 32 * at
+pub record TransitionsLeft (ls : List (List ℕ)) (t : List ℕ) (rs : List (List ℕ)) (n i : ℕ) : Type 0 where
+  pub counted : n + length (spaced_transitions ls (records_of (drop i rs))) ≡ length (spaced_transitions ls (read_records t))
+  pub few : n ≤ 160 * i
 
-pub transitions_begin : (ls : List (List ℕ)) (t : List ℕ) → TransitionsLeft ls t 0 0
-transitions_begin ls t = record { counted = omega arith; few = omega arith }
+pub transitions_begin : (ls : List (List ℕ)) (t : List ℕ) (rs : List (List ℕ)) → rs ≡ first_chunks 5 (length t / 5) t → TransitionsLeft ls t rs 0 0
+transitions_begin ls t rs e = record { counted = omega (arith, ap (λ (es : List Transition). length (spaced_transitions ls es)) (records_are t rs e)); few = omega arith }
 
-module _ (ls : List (List ℕ)) (t : List ℕ) (n at : ℕ) (g : TransitionsLeft ls t n at) where
-  pub transitions_next : 5 ≤ length t - at → (r : ℕ) → r ≡ length (spaced_transition ls (record_at (take (at + 5 - at) (drop at t)) 0)) → r ≤ 160 → TransitionsLeft ls t (n + r) (at + 5)
+module _ (ls : List (List ℕ)) (t : List ℕ) (rs : List (List ℕ)) (n i : ℕ) (g : TransitionsLeft ls t rs n i) where
+  pub transitions_next : i < length rs → (r : ℕ) → r ≡ length (spaced_transition ls (record_at (get_or rs i []) 0)) → r ≤ 160 → TransitionsLeft ls t rs (n + r) (i + 1)
   transitions_next h r e k =
       record {
         counted = omega (
           arith,
           g.counted,
-          ap length (transitions_split ls t at h),
-          length-append (spaced_transition ls (record_at (take (at + 5 - at) (drop at t)) 0))
-              (spaced_transitions ls (read_records (drop (at + 5) t))),
+          ap length (transitions_split ls rs i h),
+          length-append (spaced_transition ls (record_at (get_or rs i []) 0)) (spaced_transitions ls (records_of (drop (i + 1) rs))),
         );
         few = omega (arith, g.few);
       }
 
-  pub transitions_counted : length t - at < 5 → n ≡ length (spaced_transitions ls (read_records t))
-  transitions_counted h = omega (arith, g.counted, ap length (transitions_none ls t at h))
+  pub transitions_counted : length rs ≤ i → n ≡ length (spaced_transitions ls (read_records t))
+  transitions_counted h = omega (arith, g.counted, ap length (transitions_none ls rs i h))
 
-  pub transitions_few : at ≤ length t → length t ≤ 10240 → n ≤ 327680
-  transitions_few h k = omega (arith, g.few)
+  pub transitions_few : i ≤ length rs → length rs ≡ length t / 5 → length t ≤ 10240 → n ≤ 327680
+  transitions_few h e k = omega (arith, g.few)
 
-pub ruleset transitions_laws = (named_from, named_to, named_next, transitions_begin, transitions_next, transitions_counted, transitions_few, rules)
+pub ruleset transitions_laws = (chunk_from, chunk_to, transitions_begin, transitions_next, transitions_counted, transitions_few, rules)
 
 -- names, each behind a comma and a blank
 pub names_split : (b qs : List ℕ) (i : ℕ) → i < length qs → more_names_text (state_labels b (drop i qs))
@@ -115,9 +114,6 @@ pub record NamesLeft (b qs : List ℕ) (n i : ℕ) : Type 0 where
   pub counted : n + length (more_names_text (state_labels b (drop i qs))) ≡ length (more_names_text (state_labels b qs))
   pub few : n ≤ 66 * i
 
-pub names_begin : (b qs : List ℕ) → NamesLeft b qs 0 0
-names_begin b qs = record { counted = omega arith; few = omega arith }
-
 module _ (b qs : List ℕ) (n i : ℕ) (g : NamesLeft b qs n i) where
   pub names_next : i < length qs → (r : ℕ) → r ≡ length (get_or (read_labels b) (get_or qs i 0) []) → r ≤ 64 → NamesLeft b qs (n + (2 + r)) (i + 1)
   names_next h r e k =
@@ -132,4 +128,4 @@ module _ (b qs : List ℕ) (n i : ℕ) (g : NamesLeft b qs n i) where
   pub names_few : i ≤ length qs → length qs ≤ 256 → n ≤ 16896
   names_few h k = omega (arith, g.few)
 
-pub ruleset names_laws = (state_below, names_begin, names_next, names_counted, names_few, rules)
+pub ruleset names_laws = (state_below, names_next, names_counted, names_few, rules)

@@ -15,7 +15,7 @@ use Rattle.automata.proofs.States.{length_states, states_out, states_at, states_
 use Rattle.sheets.specs.Sheet.{state_count, read}
 use Rattle.sheets.specs.inner.Accepted.{Accepted}
 use Rattle.stores.specs.Written.{Written}
-use Rattle.stores.proofs.Left.{Left, left_start, left_length, left_done, left_room, left_next}
+use Rattle.stores.proofs.Left.{Left, left_done, left_room, left_next}
 use Rattle.stores.proofs.Written.{written_none, written_length}
 use Rattle.writer.specs.Text.{is_written, written_states}
 use Rattle.writer.specs.inner.Tables.{written_marks, StatesBelow, accepting_among}
@@ -43,9 +43,6 @@ pub record StatesLeft (f : ℕ → Bool) (qs o₀ o : List ℕ) (end i : ℕ) : 
   pub left : Left o₀ 0 (filter f qs) o end (filter f (drop i qs))
 
 module _ (f : ℕ → Bool) (qs o₀ o : List ℕ) (end i : ℕ) (g : StatesLeft f qs o₀ o end i) where
-  pub gathered_length : length o ≡ length o₀
-  gathered_length = left_length o₀ 0 (filter f qs) o end (filter f (drop i qs)) g.left
-
   ended : drop i qs ≡ [] → Written o₀ 0 (filter f qs) o end
   unfolding filter
   ended e = left_done o₀ 0 (filter f qs) o end (filter f (drop i qs)) g.left (ap (filter f) e)
@@ -73,9 +70,6 @@ unfolding written_states
 written_in s q m = states_out (state_count s) q (filter_out _ q _ m).0
 
 -- the written states
-pub written_begin : (s o : List ℕ) → StatesLeft (is_written (read s)) (states (state_count s)) o o 0 0
-written_begin s o = record { left = left_start o 0 _ }
-
 module _ (s marks o₀ o : List ℕ) (end q : ℕ) (g : StatesLeft (is_written (read s)) (states (state_count s)) o₀ o end q) where
   pub written_ended : state_count s ≤ q → Written o₀ 0 (written_states (read s)) o end
   unfolding written_states
@@ -105,14 +99,11 @@ pub mark_room : (s marks : List ℕ) (q : ℕ) → Accepted s → marks ≡ writ
 unfolding written_marks
 mark_room s marks q a m h = omega (arith, a.few_states, ap length m, length_tabulate {X = ℕ} 256 (λ p. cond (is_written (read s) p) 1 0))
 
-pub ruleset written_laws = (written_begin, written_ended, written_room, written_next, mark_room, gathered_length, written_length, rules)
+pub ruleset written_laws = (written_ended, written_room, written_next, mark_room, written_length, rules)
 
 -- those of some states that accept
 unfoldable pub accepts : List ℕ → ℕ → Bool
 accepts s q = ltb 0 (accept_of (read s) q)
-
-pub accepting_begin : (s qs o : List ℕ) → StatesLeft (accepts s) qs o o 0 0
-accepting_begin s qs o = record { left = left_start o 0 _ }
 
 pub state_below : (n i : ℕ) (qs : List ℕ) → StatesBelow n qs → i < length qs → get_or qs i 0 < n
 state_below n i qs b h = b.at i h
@@ -131,4 +122,4 @@ module _ (s qs o₀ o : List ℕ) (end i : ℕ) (g : StatesLeft (accepts s) qs o
     unfolding accepts
     accepting_next = next _ _ o₀ o end i g (get_or qs i 0) (drop_at qs i h) (ltb 0 x) (ap (ltb 0) e)
 
-pub ruleset accepting_laws = (accepting_begin, accepting_ended, accepting_room, accepting_next, state_below, gathered_length, written_length, rules)
+pub ruleset accepting_laws = (accepting_ended, accepting_room, accepting_next, state_below, written_length, rules)

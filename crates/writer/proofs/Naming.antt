@@ -1,5 +1,5 @@
 -- Whether labels are names and no two are equal: the laws of the loop over one label, and of the loop that adds labels to a table.
-use Prim.Native.Nat.{ℕ, suc, ◌+◌, ◌≤◌, ◌<◌}
+use Prim.Native.Nat.{ℕ, suc, ◌+◌, ◌-◌, ◌≤◌, ◌<◌}
 use mathlib.Core.Bool.{Bool, true, false, not, ◌&&◌, and-true, and-false}
 use mathlib.Core.List.Memᴰ
 use mathlib.Core.List.{List, [], ◌∷◌, ◌++◌}
@@ -7,23 +7,24 @@ use mathlib.Core.Logic.{⊎_elim}
 use mathlib.Core.Path.{◌≡◌, refl, sym, ◌∙◌, ap, subst}
 use native.Mathlib.Nat.{add-sub_cancel_left}
 use native.Mathlib.Omega.{arith}
+use Rattle.std.specs.List.{list_all}
+use Rattle.std.proofs.lemmas.List.{take_rest}
 use borrow.Author.Rules.{rules}
 use borrow.Author.Tests.{not-true, not-false, lt-ltb, le-ltb, ltb-true, ltb-false}
 use lib.Dec.{ltb}
-use lib.ListN.{length, get_or, take, drop, drop_of_length-le, length-append}
+use lib.ListN.{length, get_or, take, drop, length-append}
 use lib.Seq.{take_all, split_at}
 use Rattle.lists.specs.Lists.{◌∈◌, any, all, tabulate, Distinct, none, more}
 use Rattle.lists.proofs.Every.{all_out}
 use Rattle.lists.proofs.Index.{same_equal, equal_same, same_decides, index_in}
 use Rattle.lists.proofs.Lists.{any_out, any_in, map_append}
 use Rattle.lists.proofs.Members.{map_in, at_in}
-use Rattle.lists.proofs.Parts.{drop_at, take_more}
+use Rattle.lists.proofs.Parts.{take_more}
 use Rattle.lists.proofs.Tests.{test, and_both, and_parts, or_left, or_right}
 use Rattle.labels.specs.Labels.{label_count, read_labels, same_label}
 use Rattle.labels.proofs.Reading.{seek_inside, seek_whole, label_is}
 use Rattle.grammar.specs.Bytes.{is_letter, is_name_byte}
-use Rattle.name_table.specs.declared.Added.{Added}
-use Rattle.name_table.specs.declared.Added.TheVariants.{Kept, Full}
+use Rattle.std.proofs.Common.{Option, Some, None}
 use Rattle.name_table.specs.inner.Names.{slice, names_in, Table, Addition}
 use Rattle.name_table.proofs.Adding.{table_none, added_table, added_names, added_full}
 use Rattle.name_table.proofs.Finding.{names_count}
@@ -59,26 +60,22 @@ module _ (l : List ℕ) (r : Bool) (e : r ≡ is_letter (get_or l 0 0)) where
   pub name_first : not r ≡ true → false ≡ is_name l
   name_first t = no_letter l (sym e ∙ not-true r t)
 
-  pub name_begin : 1 ≤ length l → length l ≤ 64 → not r ≡ false → is_name l ≡ all is_name_byte (drop 1 l)
+  name_begin : 1 ≤ length l → length l ≤ 64 → not r ≡ false → is_name l ≡ all is_name_byte (drop 1 l)
   name_begin h g t = letter l (sym e ∙ not-false r t) h g
 
-module _ (l : List ℕ) (i : ℕ) (e : is_name l ≡ all is_name_byte (drop i l)) where
-  pub name_ended : length l ≤ i → true ≡ is_name l
-  unfolding all
-  name_ended h = sym (e ∙ rw (drop_of_length-le l {i = i} h))
+each : (f : ℕ → Bool) (l : List ℕ) → list_all f l ≡ all f l
+unfolding all
+each f [] = refl
+each f (b ∷ l) = ap (λ (y : Bool). f b && y) (each f l)
 
-  module _ (h : i < length l) (r : Bool) (k : r ≡ is_name_byte (get_or l i 0)) where
-    at_byte : is_name l ≡ (r && all is_name_byte (drop (i + 1) l))
-    unfolding all
-    at_byte = e ∙ rw (drop_at l i h, ← k)
+-- the bytes behind the first decide
+pub name_rest : (l : List ℕ) (r : Bool) → r ≡ is_letter (get_or l 0 0) → 1 ≤ length l → length l ≤ 64 → not r ≡ false
+    → (y : Bool) → y ≡ list_all is_name_byte (take (length l - 1) (drop 1 l)) → y ≡ is_name l
+name_rest l r e h g t y k =
+    let all_of : take (length l - 1) (drop 1 l) ≡ drop 1 l = take_rest l 1 in
+    k ∙ ap (list_all is_name_byte) all_of ∙ each is_name_byte (drop 1 l) ∙ sym (name_begin l r e h g t)
 
-    pub name_stopped : not r ≡ true → false ≡ is_name l
-    name_stopped t = let s = not-true r t in sym (rw s at at_byte)
-
-    pub name_next : not r ≡ false → is_name l ≡ all is_name_byte (drop (i + 1) l)
-    name_next t = let s = not-false r t in rw s at at_byte
-
-pub ruleset name_laws = (name_empty, name_long, name_first, name_begin, name_ended, name_stopped, name_next, rules)
+pub ruleset name_laws = (name_empty, name_long, name_first, rules)
 
 -- equal labels
 once : {ls : List (List ℕ)} → Distinct ls → has_twice ls ≡ false
@@ -138,9 +135,6 @@ module _ (b p qs : List ℕ) (i : ℕ) (k : LabelPlaces b p) (w : StatesBelow (l
   pub listed_place : get_or p (get_or qs i 0) 0 < length b
   listed_place = seek_inside b (label_count b) _ (get_or qs i 0) k.accepted (k.at _ (w.at i h)) (w.at i h)
 
-  pub listed_state : get_or qs i 0 < length p
-  listed_state = omega (arith, k.few, k.long, w.at i h)
-
   module _ (next : ℕ) (e : next ≡ get_or p (get_or qs i 0) 0 + 1 + get_or b (get_or p (get_or qs i 0) 0) 0) where
     pub listed_straight : get_or p (get_or qs i 0) 0 + 1 ≤ next
     listed_straight = omega arith
@@ -163,14 +157,14 @@ module _ (b p qs : List ℕ) (i : ℕ) (k : LabelPlaces b p) (w : StatesBelow (l
         ap (state_labels b) (take_more qs i h) ∙ map_append (λ q. get_or (read_labels b) q []) (take i qs) (get_or qs i 0 ∷ [])
         ∙ ap (λ (x : List ℕ). state_labels b (take i qs) ++ x ∷ []) (sym label)
 
-    module _ (t u : List ℕ) (g : LabelsListed b qs t i) (r : Added) (a : Addition b (add same_label (slice b (get_or p (get_or qs i 0) 0 + 1) next) (names_in b t i)) u r) where
+    module _ (t u : List ℕ) (g : LabelsListed b qs t i) (r : Option ℕ) (a : Addition b (add same_label (slice b (get_or p (get_or qs i 0) 0 + 1) next) (names_in b t i)) u r) where
       abbrev x : List ℕ
       x = slice b (get_or p (get_or qs i 0) 0 + 1) next
 
-      pub listed_full : length qs ≤ 256 → r ≡ Full → false ≡ are_names (state_labels b qs)
+      pub listed_full : length qs ≤ 256 → r ≡ None → false ≡ are_names (state_labels b qs)
       listed_full m q = absurd (omega (arith, added_full b _ u r a q, add_length same_label x (names_in b t i), names_count b t i))
 
-      module _ (v : ℕ) (q : r ≡ Kept v) where
+      module _ (v : ℕ) (q : r ≡ Some v) where
         grown : v ≡ length (add same_label x (names_in b t i))
         grown = sym (names_count b u v) ∙ ap length (added_names b _ u r a v q)
 
@@ -215,7 +209,6 @@ pub ruleset listed_laws = (
   listed_ended,
   listed_no_name,
   listed_place,
-  listed_state,
   listed_straight,
   listed_inside,
   listed_full,

@@ -3,7 +3,6 @@ use Prim.Native.Nat.{ℕ, ◌+◌, ◌≤◌, ◌<◌}
 use mathlib.Core.List.Memᴰ
 use mathlib.Core.List.{List, []}
 use mathlib.Core.Path.{◌≡◌, refl, sym, ◌∙◌, ap, ap₂, subst}
-use native.Mathlib.Nat.{le_antisymm}
 use native.Mathlib.Omega.{arith}
 use borrow.Author.Rules.{rules}
 use lib.ListN.{length, get_or, take, drop, set}
@@ -24,21 +23,15 @@ unfolding tabulate places_below
 placed_none b old = refl
 
 module _ (b old p : List ℕ) (q : ℕ) (e : p ≡ places_below b old q) where
-  pub placed_long : length p ≡ length old
+  placed_long : length p ≡ length old
   unfolding places_below
   placed_long = ap length e ∙ length-sets old 0 (tabulate q (label_place b))
-
-  pub placed_room : (n : ℕ) → q < n → n ≤ 256 → length old ≡ 256 → q < length p
-  placed_room n h g l = omega (arith, placed_long)
 
   pub placed_more : (at : ℕ) → at ≡ label_place b q → set p q at ≡ places_below b old (q + 1)
   unfolding places_below
   placed_more at h = ap₂ (λ l x. set l q x) e h ∙ table_next old (label_place b) q
 
-  pub placed_ended : (n : ℕ) → q ≤ n → n ≤ q → p ≡ places_below b old n
-  placed_ended n h g = e ∙ ap (places_below b old) (le_antisymm h g)
-
-pub ruleset placing_laws = (place_first, seek_inside, seek_next, placed_none, placed_long, placed_room, placed_more, placed_ended, rules)
+pub ruleset placing_laws = (place_first, seek_inside, seek_next, placed_none, placed_more, rules)
 
 pub labels_placed : (b old p : List ℕ) (n : ℕ) → labels_fault n b ≡ 0 → n ≤ 256 → length old ≡ 256 → p ≡ places_below b old n → LabelPlaces b p
 unfolding places_below

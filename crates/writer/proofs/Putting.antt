@@ -1,5 +1,5 @@
 -- Laws of writing the parts of the text, in the shape of what the functions that write ask. At each place there is room for what is left.
-use Prim.Native.Nat.{ℕ, ◌+◌, ◌-◌, ◌≤◌, ◌<◌}
+use Prim.Native.Nat.{ℕ, ◌+◌, ◌-◌, ◌/◌, ◌≤◌, ◌<◌}
 use mathlib.Core.List.{List, [], ◌∷◌, ◌++◌, map}
 use mathlib.Core.Path.{◌≡◌, sym, ◌∙◌, ap, subst}
 use native.Mathlib.Omega.{arith}
@@ -17,22 +17,16 @@ use Rattle.sheets.specs.Sheet.{records_at}
 use Rattle.stores.specs.Written.{Written}
 use Rattle.stores.proofs.Left.{Left, left_start, left_length, left_done, left_next}
 use Rattle.stores.proofs.Written.{written_append, written_length}
-use Rattle.sheets.proofs.Named.{named_from, named_to, named_next}
+use Rattle.sheets.proofs.Named.{chunk_from, chunk_to}
+use Rattle.automata.specs.inner.Chunks.{records_of}
+use Rattle.automata.proofs.Chunks.{records_are}
+use Rattle.std.specs.Simd.{first_chunks}
 use Rattle.writer.specs.Text.{names_text, more_names_text, pattern_text}
 use Rattle.writer.specs.inner.Parts.{arrow_text, range_text, spaced_transition, spaced_transitions, heading_text, closing_text}
 use Rattle.writer.specs.inner.Tables.{StatesBelow, TextTables, state_labels}
 use Rattle.writer.proofs.Counting.{transitions_split, transitions_none, names_split, names_none}
 use Rattle.writer.proofs.Gathering.{state_below}
 use Rattle.writer.proofs.TextParts.{heading_length, closing_length, ready_text}
-
--- a label
-pub label_room : (o l x : List ℕ) (at : ℕ) → at + length x ≤ length o → l ≡ x → at + length l ≤ length o
-label_room o l x at h e = rw e h
-
-pub label_put : (o m l x : List ℕ) (at end : ℕ) → l ≡ x → Written o at l m end → Written o at x m end
-label_put o m l x at end e w = rw e at w
-
-pub ruleset label_put_laws = (label_room, label_put, rules)
 
 -- ` p -> q`
 module _ (ls : List (List ℕ)) (p q at : ℕ) (o : List ℕ) (h : at + length (arrow_text ls p q) ≤ length o) where
@@ -115,47 +109,41 @@ module _ (ls : List (List ℕ)) (e : Transition) (at : ℕ) (o : List ℕ) (h : 
     unfolding spaced_transition
     transition_put z end v = written_append o m z (arrow_text ls e.from e.to) (range_text e.first e.last) at i end w v
 
--- some transitions, of which those from the word i on are left
-pub record TransitionsToPut (ls : List (List ℕ)) (t : List ℕ) (at : ℕ) (o₀ o : List ℕ) (end i : ℕ) : Type 0 where
-  pub left : Left o₀ at (spaced_transitions ls (read_records t)) o end (spaced_transitions ls (read_records (drop i t)))
+-- some transitions, of which those from the record i on are left
+pub record TransitionsToPut (ls : List (List ℕ)) (t : List ℕ) (rs : List (List ℕ)) (at : ℕ) (o₀ o : List ℕ) (end i : ℕ) : Type 0 where
+  pub left : Left o₀ at (spaced_transitions ls (read_records t)) o end (spaced_transitions ls (records_of (drop i rs)))
 
-pub transitions_put_begin : (ls : List (List ℕ)) (t : List ℕ) (at : ℕ) (o : List ℕ) → TransitionsToPut ls t at o o at 0
-transitions_put_begin ls t at o = record { left = left_start o at _ }
+pub transitions_put_begin : (ls : List (List ℕ)) (t : List ℕ) (rs : List (List ℕ)) (at : ℕ) (o : List ℕ) → rs ≡ first_chunks 5 (length t / 5) t → TransitionsToPut ls t rs at o o at 0
+transitions_put_begin ls t rs at o e = record { left = rw (records_are t rs e) (left_start o at _) }
 
-module _ (ls : List (List ℕ)) (t : List ℕ) (at : ℕ) (o₀ o : List ℕ) (end i : ℕ) (g : TransitionsToPut ls t at o₀ o end i) where
-  pub transitions_put_length : length o ≡ length o₀
-  transitions_put_length = left_length o₀ at (spaced_transitions ls (read_records t)) o end _ g.left
+module _ (ls : List (List ℕ)) (t : List ℕ) (rs : List (List ℕ)) (at : ℕ) (o₀ o : List ℕ) (end i : ℕ) (g : TransitionsToPut ls t rs at o₀ o end i) where
+  put_length : length o ≡ length o₀
+  put_length = left_length o₀ at (spaced_transitions ls (read_records t)) o end _ g.left
 
-  pub transitions_put_room : at + length (spaced_transitions ls (read_records t)) + 10 ≤ length o₀ → 5 ≤ length t - i
-      → end + length (spaced_transition ls (record_at (take (i + 5 - i) (drop i t)) 0)) + 10 ≤ length o
+  pub transitions_put_room : at + length (spaced_transitions ls (read_records t)) + 10 ≤ length o₀ → i < length rs → end + length (spaced_transition ls (record_at (get_or rs i []) 0)) + 10 ≤ length o
   transitions_put_room h k =
       omega (
         arith,
         g.left.behind,
-        transitions_put_length,
-        ap length (transitions_split ls t i k),
-        length-append
-            (spaced_transition ls (record_at (take (i + 5 - i) (drop i t)) 0)) (spaced_transitions ls (read_records (drop (i + 5) t))),
+        put_length,
+        ap length (transitions_split ls rs i k),
+        length-append (spaced_transition ls (record_at (get_or rs i []) 0)) (spaced_transitions ls (records_of (drop (i + 1) rs))),
       )
 
-  pub transitions_put_next : 5 ≤ length t - i → (o' : List ℕ) (end' : ℕ) → Written o end (spaced_transition ls (record_at (take (i + 5 - i) (drop i t)) 0)) o' end'
-      → TransitionsToPut ls t at o₀ o' end' (i + 5)
-  transitions_put_next k o' end' w = record { left = left_next o₀ at (spaced_transitions ls (read_records t)) o end _ g.left _ _ (transitions_split ls t i k) o' end' w }
+  pub transitions_put_next : i < length rs → (o' : List ℕ) (end' : ℕ) → Written o end (spaced_transition ls (record_at (get_or rs i []) 0)) o' end' → TransitionsToPut ls t rs at o₀ o' end' (i + 1)
+  transitions_put_next k o' end' w = record { left = left_next o₀ at (spaced_transitions ls (read_records t)) o end _ g.left _ _ (transitions_split ls rs i k) o' end' w }
 
-  pub transitions_put_done : length t - i < 5 → Written o₀ at (spaced_transitions ls (read_records t)) o end
-  transitions_put_done k = left_done o₀ at (spaced_transitions ls (read_records t)) o end _ g.left (transitions_none ls t i k)
+  pub transitions_put_done : length rs ≤ i → Written o₀ at (spaced_transitions ls (read_records t)) o end
+  transitions_put_done k = left_done o₀ at (spaced_transitions ls (read_records t)) o end _ g.left (transitions_none ls rs i k)
 
-pub ruleset transitions_put_laws = (named_from, named_to, named_next, transitions_put_begin, transitions_put_length, transitions_put_room, transitions_put_next, transitions_put_done, rules)
+pub ruleset transitions_put_laws = (chunk_from, chunk_to, transitions_put_begin, transitions_put_room, transitions_put_next, transitions_put_done, rules)
 
 -- names, each behind a comma and a blank, of which those from the place i on are left
 pub record NamesToPut (b qs : List ℕ) (at : ℕ) (o₀ o : List ℕ) (end i : ℕ) : Type 0 where
   pub left : Left o₀ at (more_names_text (state_labels b qs)) o end (more_names_text (state_labels b (drop i qs)))
 
-pub names_put_begin : (b qs : List ℕ) (at : ℕ) (o : List ℕ) → NamesToPut b qs at o o at 0
-names_put_begin b qs at o = record { left = left_start o at _ }
-
 module _ (b qs : List ℕ) (at : ℕ) (o₀ o : List ℕ) (end i : ℕ) (g : NamesToPut b qs at o₀ o end i) where
-  pub names_put_length : length o ≡ length o₀
+  names_put_length : length o ≡ length o₀
   names_put_length = left_length o₀ at (more_names_text (state_labels b qs)) o end _ g.left
 
   pub names_put_done : length qs ≤ i → Written o₀ at (more_names_text (state_labels b qs)) o end
@@ -181,7 +169,7 @@ module _ (b qs : List ℕ) (at : ℕ) (o₀ o : List ℕ) (end i : ℕ) (g : Nam
                 (written_append o m o' (44 ∷ 32 ∷ []) (get_or (read_labels b) (get_or qs i 0) []) end j end' w v);
           }
 
-pub ruleset names_put_laws = (state_below, names_put_begin, names_put_length, names_put_comma, names_put_room, names_put_next, names_put_done, rules)
+pub ruleset names_put_laws = (state_below, names_put_comma, names_put_room, names_put_next, names_put_done, rules)
 
 -- names, a comma and a blank between them
 names_front : (b qs : List ℕ) → 0 < length qs → names_text (state_labels b qs) ≡ get_or (read_labels b) (get_or qs 0 0) [] ++ more_names_text (state_labels b (take (length qs - 1) (drop 1 qs)))
@@ -250,7 +238,7 @@ module _ (o names : List ℕ) (at : ℕ) (h : at + length (closing_text names) �
 pub ruleset closing_laws = (closing_word, closing_names, closing_end, closing_put, rules)
 
 -- the whole text; the closing is longer than the ten bytes of room behind the transitions
-module _ (s b p qs o : List ℕ) (r : TextTables s b p qs) (h : length (pattern_text (read_pattern s b)) ≤ length o) where
+module _ (s b qs o : List ℕ) (r : TextTables s b qs) (h : length (pattern_text (read_pattern s b)) ≤ length o) where
   abbrev heading : List ℕ
   heading = heading_text (get_or (read_labels b) (get_or s 1 0) [])
 
@@ -261,7 +249,7 @@ module _ (s b p qs o : List ℕ) (r : TextTables s b p qs) (h : length (pattern_
   closing = closing_text (names_text (state_labels b qs))
 
   text_length : length (pattern_text (read_pattern s b)) ≡ length heading + (length transitions + length closing)
-  text_length = ap length (ready_text s b p qs r) ∙ length-append heading (transitions ++ closing) ∙ ap (λ (n : ℕ). length heading + n) (length-append transitions closing)
+  text_length = ap length (ready_text s b qs r) ∙ length-append heading (transitions ++ closing) ∙ ap (λ (n : ℕ). length heading + n) (length-append transitions closing)
 
   pub text_heading : length (heading_text (get_or (read_labels b) (get_or s 1 0) [])) ≤ length o
   text_heading = omega (arith, text_length)
@@ -275,4 +263,4 @@ module _ (s b p qs o : List ℕ) (r : TextTables s b p qs) (h : length (pattern_
       text_closing = omega (arith, text_length, w.behind, written_length o m _ 0 i w, x.behind, written_length m n _ i j x)
 
       pub text_put : (z : List ℕ) (end : ℕ) → Written n j (closing_text (names_text (state_labels b qs))) z end → Written o 0 (pattern_text (read_pattern s b)) z end
-      text_put z end v = rw (ready_text s b p qs r) (written_append o m z heading (transitions ++ closing) 0 i end w (written_append m n z transitions closing i j end x v))
+      text_put z end v = rw (ready_text s b qs r) (written_append o m z heading (transitions ++ closing) 0 i end w (written_append m n z transitions closing i j end x v))

@@ -22,7 +22,7 @@ use Rattle.syntax.specs.Syntax.{◌⨾◌}
 use Rattle.writer.specs.Text.{written_states, accepting_states, blank, transition_text, more_names_text, names_text, pattern_text}
 use Rattle.writer.specs.inner.Parts.{arrow_text, range_text, spaced_transition, spaced_transitions, heading_text, closing_text}
 use Rattle.writer.proofs.Gathering.{written_few, written_in}
-use Rattle.writer.specs.inner.Tables.{LabelPlaces, StatesBelow, TextTables, state_labels}
+use Rattle.writer.specs.inner.Tables.{StatesBelow, TextTables, state_labels}
 
 transition_text_lem : (P : Pattern) (e : Transition) → blank ⨾ transition_text P e ≡ spaced_transition P.labels e
 unfolding transition_text spaced_transition arrow_text range_text
@@ -63,12 +63,9 @@ labels_length : (b qs : List ℕ) → length (state_labels b qs) ≡ length qs
 unfolding state_labels
 labels_length b qs = length-map qs (λ q. get_or (read_labels b) q [])
 
-module _ (s b p qs : List ℕ) (r : TextTables s b p qs) where
+module _ (s b qs : List ℕ) (r : TextTables s b qs) where
   pub ready_count : label_count b ≡ state_count s
   ready_count = count_read (state_count s) b r.labels
-
-  pub ready_placed : LabelPlaces b p
-  ready_placed = r.placed
 
   pub ready_start : get_or s 1 0 < label_count b
   ready_start = omega (arith, ready_count, r.sheet.start)
@@ -119,4 +116,4 @@ module _ (s b p qs : List ℕ) (r : TextTables s b p qs) where
       let o = length-append (spaced_transitions (read_labels b) (read_records (take (length s - records_at s) (drop (records_at s) s)))) (closing_text (names_text (state_labels b qs))) in
       omega (arith, heading_length (get_or (read_labels b) (get_or s 1 0) []), closing_length (names_text (state_labels b qs)))
 
-pub ruleset ready_laws = (ready_placed, ready_start, ready_bounded, ready_records, ready_below, ready_few, text_counted, rules)
+pub ruleset ready_laws = (ready_start, ready_bounded, ready_records, ready_below, ready_few, text_counted, rules)

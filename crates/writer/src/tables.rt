@@ -15,13 +15,11 @@ pub fn mark_states(s: &[u32], marks: &mut [u8])
 {
     let start = s[1] as usize;
     marks[start] = 1;
-    let mut at = s[2] as usize + 4;
-    while 5 <= s.len() - at {
-        let from = s[at] as usize;
-        let to = s[at + 4] as usize;
-        marks[from] = 1;
-        marks[to] = 1;
-        at += 5;
+    let base = s[2] as usize + 4;
+    let (records, _) = s[base..].as_chunks::<5>();
+    for r in records {
+        marks[r[0] as usize] = 1;
+        marks[r[4] as usize] = 1;
     }
 }
 
@@ -31,21 +29,10 @@ pub fn label_places(labels: &[u8], n: usize, places: &mut [usize])
     ensures { places.new ≡ places_below labels.now places.old n }
 {
     let mut at: usize = 2;
-    let mut q: usize = 0;
-    while q < n {
+    for q in 0..n {
         places[q] = at;
         at = labels::next_label(labels, at);
-        q += 1;
     }
-}
-
-// The label of the state q.
-pub fn label_at<'a>(labels: &'a [u8], places: &[usize], q: u32) -> &'a [u8]
-    requires { LabelPlaces labels.now places.now × (q < label_count labels.now) }
-    ensures { result.now ≡ get_or (read_labels labels.now) q [] }
-{
-    let at = places[q as usize];
-    labels::label_from(labels, at)
 }
 
 // The state q at a place of a list, if it is kept; the place behind.
@@ -54,7 +41,7 @@ fn put_state(list: &mut [u32], at: usize, q: u32, keep: bool) -> usize
     ensures { Written list.old at (cond keep (q ∷ []) []) list.new result }
 {
     if keep {
-        return stores::put_word(list, at, q);
+        return stores::put(list, at, q);
     }
     at
 }
@@ -64,12 +51,9 @@ pub fn gather_written(s: &[u32], marks: &[u8], list: &mut [u32]) -> usize
     requires { Accepted s.now × (marks.now ≡ written_marks (read s.now)) × (length list.old ≡ 256) }
     ensures { Written list.old 0 (written_states (read s.now)) list.new result }
 {
-    let n = s[2];
     let mut end: usize = 0;
-    let mut q: u32 = 0;
-    while q < n {
+    for q in 0..s[2] {
         end = put_state(list, end, q, marks[q as usize] == 1);
-        q += 1;
     }
     end
 }
@@ -80,11 +64,8 @@ pub fn gather_accepting(s: &[u32], states: &[u32], list: &mut [u32]) -> usize
     ensures { Written list.old 0 (accepting_among (read s.now) states.now) list.new result }
 {
     let mut end: usize = 0;
-    let mut i: usize = 0;
-    while i < states.len() {
-        let q = states[i];
-        end = put_state(list, end, q, 0 < sheets::accept_word(s, q));
-        i += 1;
+    for q in states {
+        end = put_state(list, end, *q, 0 < sheets::accept_word(s, *q));
     }
     end
 }

@@ -8,25 +8,27 @@ ghost use Rattle.stores.specs.Written.{Written};
 ghost use Rattle.sheets.specs.inner.Runs.{Named};
 ghost use Rattle.writer.specs.Text.{names_text, more_names_text, pattern_text};
 ghost use Rattle.writer.specs.inner.Parts.{arrow_text, range_text, spaced_transition, spaced_transitions, heading_text, closing_text};
-ghost use Rattle.writer.specs.inner.Tables.{LabelPlaces, StatesBelow, TextTables, state_labels};
+ghost use Rattle.writer.specs.inner.Tables.{StatesBelow, TextTables, state_labels};
+
+use crate::label_list::LabelList;
 
 // The label of the state q.
-fn put_label(out: &mut [u8], at: usize, labels: &[u8], places: &[usize], q: u32) -> usize
-    requires { LabelPlaces labels.now places.now × (q < label_count labels.now) × (at + length (get_or (read_labels labels.now) q []) ≤ length out.old) }
-    ensures { Written out.old at (get_or (read_labels labels.now) q []) out.new result }
+fn put_label(out: &mut [u8], at: usize, labels: LabelList, q: u32) -> usize
+    requires { (q < label_count labels.bytes.now) × (at + length (get_or (read_labels labels.bytes.now) q []) ≤ length out.old) }
+    ensures { Written out.old at (get_or (read_labels labels.entry.bytes.now) q []) out.new result }
 {
-    stores::put_bytes(out, at, crate::tables::label_at(labels, places, q))
+    stores::put_all(out, at, labels.label(q))
 }
 
 // ` p -> q` for the states p and q.
-fn put_arrow(out: &mut [u8], at: usize, labels: &[u8], places: &[usize], p: u32, q: u32) -> usize
-    requires { LabelPlaces labels.now places.now × (p < label_count labels.now) × (q < label_count labels.now) × (at + length (arrow_text (read_labels labels.now) p q) ≤ length out.old) }
-    ensures { Written out.old at (arrow_text (read_labels labels.now) p q) out.new result }
+fn put_arrow(out: &mut [u8], at: usize, labels: LabelList, p: u32, q: u32) -> usize
+    requires { (p < label_count labels.bytes.now) × (q < label_count labels.bytes.now) × (at + length (arrow_text (read_labels labels.bytes.now) p q) ≤ length out.old) }
+    ensures { Written out.old at (arrow_text (read_labels labels.entry.bytes.now) p q) out.new result }
 {
-    let from = stores::put_byte(out, at, b' ');
-    let arrow = put_label(out, from, labels, places, p);
-    let to = stores::put_bytes(out, arrow, b" -> ");
-    put_label(out, to, labels, places, q)
+    let from = stores::put(out, at, b' ');
+    let arrow = put_label(out, from, labels, p);
+    let to = stores::put_all(out, arrow, b" -> ");
+    put_label(out, to, labels, q)
 }
 
 // ` [x, y];` for the symbols x and y.
@@ -34,111 +36,84 @@ fn put_range(out: &mut [u8], at: usize, x: u32, y: u32) -> usize
     requires { at + length (range_text x y) + 10 ≤ length out.old }
     ensures { Written out.old at (range_text x y) out.new result }
 {
-    let first = stores::put_bytes(out, at, b" [");
+    let first = stores::put_all(out, at, b" [");
     let comma = decimal::put_decimal(out, first, x);
-    let last = stores::put_bytes(out, comma, b", ");
+    let last = stores::put_all(out, comma, b", ");
     let end = decimal::put_decimal(out, last, y);
-    stores::put_bytes(out, end, b"];")
+    stores::put_all(out, end, b"];")
 }
 
 // The transition whose record is words.
-fn put_transition(
-    out: &mut [u8],
-    at: usize,
-    labels: &[u8],
-    places: &[usize],
-    words: &[u32],
-) -> usize
-    requires { LabelPlaces labels.now places.now × (length words.now ≡ 5) × ((record_at words.now 0).from < label_count labels.now) × ((record_at words.now 0).to < label_count labels.now) × (at + length (spaced_transition (read_labels labels.now) (record_at words.now 0)) + 10 ≤ length out.old) }
-    ensures { Written out.old at (spaced_transition (read_labels labels.now) (record_at words.now 0)) out.new result }
+fn put_transition(out: &mut [u8], at: usize, labels: LabelList, words: &[u32; 5]) -> usize
+    requires { ((record_at words.now 0).from < label_count labels.bytes.now) × ((record_at words.now 0).to < label_count labels.bytes.now) × (at + length (spaced_transition (read_labels labels.bytes.now) (record_at words.now 0)) + 10 ≤ length out.old) }
+    ensures { Written out.old at (spaced_transition (read_labels labels.entry.bytes.now) (record_at words.now 0)) out.new result }
 {
-    let range = put_arrow(out, at, labels, places, words[0], words[4]);
+    let range = put_arrow(out, at, labels, words[0], words[4]);
     put_range(out, range, words[2], words[3])
 }
 
 // Some transitions. There is room for ten bytes more, as a number needs it.
-fn put_transitions(
-    out: &mut [u8],
-    at: usize,
-    labels: &[u8],
-    places: &[usize],
-    records: &[u32],
-) -> usize
-    requires { LabelPlaces labels.now places.now × Named (label_count labels.now) (read_records records.now) × (at + length (spaced_transitions (read_labels labels.now) (read_records records.now)) + 10 ≤ length out.old) }
-    ensures { Written out.old at (spaced_transitions (read_labels labels.now) (read_records records.now)) out.new result }
+fn put_transitions(out: &mut [u8], at: usize, labels: LabelList, records: &[u32]) -> usize
+    requires { Named (label_count labels.bytes.now) (read_records records.now) × (at + length (spaced_transitions (read_labels labels.bytes.now) (read_records records.now)) + 10 ≤ length out.old) }
+    ensures { Written out.old at (spaced_transitions (read_labels labels.entry.bytes.now) (read_records records.now)) out.new result }
 {
+    let (chunks, _) = records.as_chunks::<5>();
     let mut end = at;
-    let mut i: usize = 0;
-    while 5 <= records.len() - i {
-        end = put_transition(out, end, labels, places, &records[i..i + 5]);
-        i += 5;
+    for words in chunks {
+        end = put_transition(out, end, labels, words);
     }
     end
 }
 
 // The labels of some states, each with a comma and a blank before it.
-fn put_more_names(
-    out: &mut [u8],
-    at: usize,
-    labels: &[u8],
-    places: &[usize],
-    states: &[u32],
-) -> usize
-    requires { LabelPlaces labels.now places.now × StatesBelow (label_count labels.now) states.now × (at + length (more_names_text (state_labels labels.now states.now)) ≤ length out.old) }
-    ensures { Written out.old at (more_names_text (state_labels labels.now states.now)) out.new result }
+fn put_more_names(out: &mut [u8], at: usize, labels: LabelList, states: &[u32]) -> usize
+    requires { StatesBelow (label_count labels.bytes.now) states.now × (at + length (more_names_text (state_labels labels.bytes.now states.now)) ≤ length out.old) }
+    ensures { Written out.old at (more_names_text (state_labels labels.entry.bytes.now states.now)) out.new result }
 {
     let mut end = at;
-    let mut i: usize = 0;
-    while i < states.len() {
-        let name = stores::put_bytes(out, end, b", ");
-        end = put_label(out, name, labels, places, states[i]);
-        i += 1;
+    for q in states {
+        let name = stores::put_all(out, end, b", ");
+        end = put_label(out, name, labels, *q);
     }
     end
 }
 
 // The labels of some states, with a comma and a blank between them.
-fn put_names(out: &mut [u8], at: usize, labels: &[u8], places: &[usize], states: &[u32]) -> usize
-    requires { LabelPlaces labels.now places.now × StatesBelow (label_count labels.now) states.now × (0 < length states.now) × (at + length (names_text (state_labels labels.now states.now)) ≤ length out.old) }
-    ensures { Written out.old at (names_text (state_labels labels.now states.now)) out.new result }
+fn put_names(out: &mut [u8], at: usize, labels: LabelList, states: &[u32]) -> usize
+    requires { StatesBelow (label_count labels.bytes.now) states.now × (0 < length states.now) × (at + length (names_text (state_labels labels.bytes.now states.now)) ≤ length out.old) }
+    ensures { Written out.old at (names_text (state_labels labels.entry.bytes.now states.now)) out.new result }
 {
-    let more = put_label(out, at, labels, places, states[0]);
-    put_more_names(out, more, labels, places, &states[1..])
+    let more = put_label(out, at, labels, states[0]);
+    put_more_names(out, more, labels, &states[1..])
 }
 
 // `automaton P { init p;` for the state p.
-fn put_heading(out: &mut [u8], labels: &[u8], places: &[usize], p: u32) -> usize
-    requires { LabelPlaces labels.now places.now × (p < label_count labels.now) × (length (heading_text (get_or (read_labels labels.now) p [])) ≤ length out.old) }
-    ensures { Written out.old 0 (heading_text (get_or (read_labels labels.now) p [])) out.new result }
+fn put_heading(out: &mut [u8], labels: LabelList, p: u32) -> usize
+    requires { (p < label_count labels.bytes.now) × (length (heading_text (get_or (read_labels labels.bytes.now) p [])) ≤ length out.old) }
+    ensures { Written out.old 0 (heading_text (get_or (read_labels labels.entry.bytes.now) p [])) out.new result }
 {
-    let name = stores::put_bytes(out, 0, b"automaton P { init ");
-    let end = put_label(out, name, labels, places, p);
-    stores::put_byte(out, end, b';')
+    let name = stores::put_all(out, 0, b"automaton P { init ");
+    let end = put_label(out, name, labels, p);
+    stores::put(out, end, b';')
 }
 
 // ` accepting p, q; };` for some states.
-fn put_closing(out: &mut [u8], at: usize, labels: &[u8], places: &[usize], states: &[u32]) -> usize
-    requires { LabelPlaces labels.now places.now × StatesBelow (label_count labels.now) states.now × (0 < length states.now) × (at + length (closing_text (names_text (state_labels labels.now states.now))) ≤ length out.old) }
-    ensures { Written out.old at (closing_text (names_text (state_labels labels.now states.now))) out.new result }
+fn put_closing(out: &mut [u8], at: usize, labels: LabelList, states: &[u32]) -> usize
+    requires { StatesBelow (label_count labels.bytes.now) states.now × (0 < length states.now) × (at + length (closing_text (names_text (state_labels labels.bytes.now states.now))) ≤ length out.old) }
+    ensures { Written out.old at (closing_text (names_text (state_labels labels.entry.bytes.now states.now))) out.new result }
 {
-    let names = stores::put_bytes(out, at, b" accepting ");
-    let end = put_names(out, names, labels, places, states);
-    stores::put_bytes(out, end, b"; };")
+    let names = stores::put_all(out, at, b" accepting ");
+    let end = put_names(out, names, labels, states);
+    stores::put_all(out, end, b"; };")
 }
 
 // The whole text.
-pub fn put_text(
-    out: &mut [u8],
-    s: &[u32],
-    labels: &[u8],
-    places: &[usize],
-    accepting: &[u32],
-) -> usize
-    requires { TextTables s.now labels.now places.now accepting.now × (length (pattern_text (read_pattern s.now labels.now)) ≤ length out.old) }
-    ensures { Written out.old 0 (pattern_text (read_pattern s.now labels.now)) out.new result }
+pub fn put_text(out: &mut [u8], s: &[u32], labels: LabelList, accepting: &[u32]) -> usize
+    requires { TextTables s.now labels.bytes.now accepting.now × (length (pattern_text (read_pattern s.now labels.bytes.now)) ≤ length out.old) }
+    ensures { Written out.old 0 (pattern_text (read_pattern s.now labels.entry.bytes.now)) out.new result }
 {
     let base = s[2] as usize + 4;
-    let transitions = put_heading(out, labels, places, s[1]);
-    let closing = put_transitions(out, transitions, labels, places, &s[base..]);
-    put_closing(out, closing, labels, places, accepting)
+    let transitions = put_heading(out, labels, s[1]);
+    let closing = put_transitions(out, transitions, labels, &s[base..]);
+    put_closing(out, closing, labels, accepting)
 }

@@ -1,13 +1,12 @@
 -- For inner contracts. The sheets of two determinizations, and what determinizing two sheets leaves in the outputs.
-use Rattle.std.specs.Prelude.{ℕ, ◌≤◌, List, ◌≡◌, length, take}
+use Rattle.std.specs.Prelude.{ℕ, ◌≤◌, List, ◌≡◌, length, take, Result, Ok, Err}
 use Rattle.automata.specs.Automaton.{Automaton}
 use Rattle.automata.specs.Deterministic.{Deterministic}
 use Rattle.refusal.specs.Answer.{refused, given}
 use Rattle.refusal.specs.Number.{state_number}
+use Rattle.refusal.specs.declared.StateRefusal.{StateRefusal}
 use Rattle.sheets.specs.inner.Accepted.{Accepted}
 use Rattle.sheets.specs.Sheet.{read}
-use Rattle.determinizations.specs.declared.Both.{Both}
-use Rattle.determinizations.specs.declared.Both.TheVariants.{Lengths, Refused}
 use Rattle.determinizations.specs.Two.{Two}
 use Rattle.determinizations.specs.Determinizations.{determinized}
 
@@ -30,6 +29,6 @@ pub record FrontsDeterminized (lower upper : ℕ) (A B : Automaton) (o p : List 
   pub are : determinized lower upper A B ≡ given (two_of (take m o) (take n p) lower upper)
 
 -- what the answer of the code says, with the outputs o and p as they are afterwards
-abbrev pub BothDeterminized : ℕ → ℕ → Automaton → Automaton → List ℕ → List ℕ → Both → Type 0
-BothDeterminized lower upper A B o p (Lengths m n) = FrontsDeterminized lower upper A B o p m n
-BothDeterminized lower upper A B o p (Refused r) = determinized lower upper A B ≡ refused (state_number r)
+abbrev pub BothDeterminized : ℕ → ℕ → Automaton → Automaton → List ℕ → List ℕ → Result (ℕ × ℕ) StateRefusal → Type 0
+BothDeterminized lower upper A B o p (Ok (m, n)) = FrontsDeterminized lower upper A B o p m n
+BothDeterminized lower upper A B o p (Err r) = determinized lower upper A B ≡ refused (state_number r)

@@ -1,15 +1,13 @@
 -- For inner contracts. What the functions of the first pass ask of the memory that they are lent.
-use Rattle.std.specs.Prelude.{◌≡◌, ℕ, ◌%◌, ◌<◌, ◌≤◌, List, length}
+use Rattle.std.specs.Prelude.{◌≡◌, ℕ, ◌%◌, ◌<◌, ◌≤◌, Option, Some, Result, Ok, List, length}
 use Rattle.sets.specs.inner.Members.{Canon}
 use Rattle.sets.specs.inner.BitSet.{set_at, entries}
 use Rattle.sets.specs.inner.Places.{Placed}
 use Rattle.sheets.specs.Sheet.{state_count, read}
 use Rattle.words.specs.Simulation.{start_set}
 use Rattle.words.specs.inner.Gather.{Tables}
-use Rattle.determinize.specs.declared.Progress.{Progress}
-use Rattle.determinize.specs.declared.Progress.TheVariants.{Sets}
-use Rattle.determinize.specs.declared.Exploration.{Exploration}
-use Rattle.determinize.specs.declared.Exploration.TheVariants.{Finished}
+use Rattle.determinize.specs.declared.Unfinished.{Unfinished}
+use Rattle.determinize.specs.declared.exploring.SetCounts.{SetCounts}
 use Rattle.determinize.specs.inner.Notes.{Canonical}
 
 -- the words of `set` are a set of states of the sheet s
@@ -32,8 +30,8 @@ pub record StartTable (s starts closures t : List ℕ) : Type 0 where
   pub long : length t ≡ 1024
 
 -- the places lead to the sets of the table if the answer says how many these are; else they are free
-pub record ProgressPlaced (places t : List ℕ) (x : Progress) : Type 0 where
-  pub placed : (n k : ℕ) → x ≡ Sets n k → Placed places (entries t n)
+pub record ProgressPlaced (places t : List ℕ) (x : Option SetCounts) : Type 0 where
+  pub placed : (c : SetCounts) → x ≡ Some c → Placed places (entries t c.sets)
 
-pub record ExplorationPlaced (places t : List ℕ) (x : Exploration) : Type 0 where
-  pub placed : (y : Progress) → x ≡ Finished y → ProgressPlaced places t y
+pub record ExplorationPlaced (places t : List ℕ) (x : Result (Option SetCounts) Unfinished) : Type 0 where
+  pub placed : (y : Option SetCounts) → x ≡ Ok y → ProgressPlaced places t y

@@ -1,6 +1,6 @@
 -- For inner contracts. What the first pass of the code keeps: the sets met so far in a table of words, and a note of each transition. A note is the transition's
 -- record, but the number of the sink isn't known before the table is finished: 256 stands for it.
-use Rattle.std.specs.Prelude.{◌≡◌, ℕ, suc, ◌+◌, ◌*◌, ◌<◌, ◌≤◌, cond, List, [], ◌∷◌, ◌++◌, map, length, ◌==◌, nat_le}
+use Rattle.std.specs.Prelude.{◌≡◌, ℕ, suc, ◌+◌, ◌*◌, ◌<◌, ◌≤◌, cond, Option, Some, None, List, [], ◌∷◌, ◌++◌, map, length, ◌==◌, nat_le}
 use Rattle.lists.specs.Lists.{◌∈◌}
 use Rattle.stores.specs.Written.{Written}
 use Rattle.automata.specs.Automaton.{Transition, Automaton}
@@ -15,8 +15,7 @@ use Rattle.sets.specs.inner.BitSet.{entries}
 use Rattle.words.specs.Simulation.{outgoing, step}
 use Rattle.ranges.specs.Span.{Span}
 use Rattle.ranges.specs.Cuts.{cut_all}
-use Rattle.determinize.specs.declared.Progress.{Progress}
-use Rattle.determinize.specs.declared.Progress.TheVariants.{Sets, Over}
+use Rattle.determinize.specs.declared.exploring.SetCounts.{SetCounts}
 use Rattle.determinize.specs.Determinize.{set_targets, nonempty_of, set_table, sets_and_sink}
 
 -- the table after some sets are met, one after the other: a nonempty set that it lacks goes to its end
@@ -77,9 +76,9 @@ pub record SpansVisited (lower upper : ℕ) (A : Automaton) (S : Set) (T : List 
   pub bounded : m ≤ k + 4294967296
 
 -- what the answer of the code says of the spans of a state: they are visited, or they lead to more sets than the table may have
-unfoldable pub SpansResult : ℕ → ℕ → Automaton → Set → List Set → ℕ → List ℕ → ℕ → List ℕ → List ℕ → Progress → Type 0
-SpansResult lower upper A S T j before k t after Over = most_states ≤ length (meet_sets (set_targets lower upper A S) T)
-SpansResult lower upper A S T j before k t after (Sets n m) = SpansVisited lower upper A S T j before k t after n m
+unfoldable pub SpansResult : ℕ → ℕ → Automaton → Set → List Set → ℕ → List ℕ → ℕ → List ℕ → List ℕ → Option SetCounts → Type 0
+SpansResult lower upper A S T j before k t after None = most_states ≤ length (meet_sets (set_targets lower upper A S) T)
+SpansResult lower upper A S T j before k t after (Some c) = SpansVisited lower upper A S T j before k t after c.sets c.notes
 
 -- the table is finished with n sets, and the notes of all states, m of them, stand at the front of `after`
 pub record TableFinished (lower upper : ℕ) (A : Automaton) (before t after : List ℕ) (n m : ℕ) : Type 0 where
@@ -89,6 +88,6 @@ pub record TableFinished (lower upper : ℕ) (A : Automaton) (before t after : L
   pub noted : Written before 0 (write_records (notes_from lower upper A (entries t n) 0 (sets_and_sink (entries t n)))) after (5 * m)
 
 -- what the answer of the code says of the table: it is finished, or there is none because it has too many sets
-unfoldable pub TableResult : ℕ → ℕ → Automaton → List ℕ → List ℕ → List ℕ → Progress → Type 0
-TableResult lower upper A before t after Over = set_table lower upper A ≡ over
-TableResult lower upper A before t after (Sets n m) = TableFinished lower upper A before t after n m
+unfoldable pub TableResult : ℕ → ℕ → Automaton → List ℕ → List ℕ → List ℕ → Option SetCounts → Type 0
+TableResult lower upper A before t after None = set_table lower upper A ≡ over
+TableResult lower upper A before t after (Some c) = TableFinished lower upper A before t after c.sets c.notes

@@ -1,15 +1,15 @@
 -- For inner contracts. What the code of determinizing an accepted sheet is told by: the sheet of a finished table, and its answer with the output.
-use Rattle.std.specs.Prelude.{ℕ, suc, List, [], ◌∷◌, ◌++◌, map, length}
+use Rattle.std.specs.Prelude.{ℕ, suc, List, [], ◌∷◌, ◌++◌, map, length, Result, Ok, Err}
 use Rattle.std.proofs.lemmas.List.Edits.{sets}
 use Rattle.automata.specs.Automaton.{Transition, Automaton}
 use Rattle.refusal.specs.Answer.{Answer, refused, given}
 use Rattle.refusal.specs.Number.{state_number}
 use Rattle.refusal.specs.Outcome.{Outcome, outcome}
+use Rattle.refusal.specs.declared.StateRefusal.{StateRefusal}
 use Rattle.sets.specs.Sets.{Set}
 use Rattle.sheets.specs.Sheet.{write}
 use Rattle.words.specs.Simulation.{kind_of}
 use Rattle.determinize.specs.declared.Determinized.{Determinized}
-use Rattle.determinize.specs.declared.Determinized.TheVariants.{Sheet, Refused}
 use Rattle.determinize.specs.inner.Notes.{noted_transition}
 
 -- the automaton whose states are the sets T and the sink, with the transitions that the notes es stand for
@@ -41,6 +41,6 @@ unfoldable pub sheet_output : List ℕ → Answer Automaton → SheetOutput
 sheet_output o a = outcome size_of stored_sheet o a
 
 -- the outcome of a function that answers r, where o is the output afterwards
-abbrev pub determinized_of : Determinized → List ℕ → SheetOutput
-determinized_of (Sheet w n) o = record { answer = given (record { words = w; states = n }); memory = o }
-determinized_of (Refused r) o = record { answer = refused (state_number r); memory = o }
+abbrev pub determinized_of : Result Determinized StateRefusal → List ℕ → SheetOutput
+determinized_of (Ok d) o = record { answer = given (record { words = d.words; states = d.states }); memory = o }
+determinized_of (Err r) o = record { answer = refused (state_number r); memory = o }

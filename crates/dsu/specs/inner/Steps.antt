@@ -1,8 +1,7 @@
 -- For inner contracts. What the inner functions ask and give.
-use Rattle.std.specs.Prelude.{ℕ, ◌≤◌, ◌<◌, cond, List, leb, get_or}
+use Rattle.std.specs.Prelude.{ℕ, ◌≤◌, ◌<◌, cond, Result, Ok, Err, List, leb, get_or}
+use Rattle.refusal.specs.declared.StateRefusal.{StateRefusal}
 use Rattle.refusal.specs.declared.StateRefusal.TheVariants.{Element, JoinSets}
-use Rattle.dsu.specs.declared.Found.{Found}
-use Rattle.dsu.specs.declared.Found.TheVariants.{Root, Refused}
 use Rattle.dsu.specs.Sets.{Way, broken, reached, way}
 
 -- x is an element of no more than 512, with a size as it should be
@@ -21,10 +20,13 @@ pub record Roots (size : List ℕ) (n a b : ℕ) : Type 0 where
   pub second_fits : get_or size b 0 ≤ n
 
 -- the answer at the end of a way, and the parents afterwards
-abbrev pub climbed : List ℕ → Way → Found × List ℕ
-climbed repr broken = (Refused JoinSets, repr)
-climbed repr (reached a after) = (Root a, after)
+abbrev pub Climbed : Type 0
+Climbed = Result ℕ StateRefusal × List ℕ
+
+abbrev pub climbed : List ℕ → Way → Climbed
+climbed repr broken = (Err JoinSets, repr)
+climbed repr (reached a after) = (Ok a, after)
 
 -- the same with 23 before it
-unfoldable pub answered : List ℕ → List ℕ → ℕ → ℕ → Found × List ℕ
-answered repr size n x = cond (leb n x) (Refused Element, repr) (climbed repr (way repr size n x))
+unfoldable pub answered : List ℕ → List ℕ → ℕ → ℕ → Climbed
+answered repr size n x = cond (leb n x) (Err Element, repr) (climbed repr (way repr size n x))

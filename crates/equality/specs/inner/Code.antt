@@ -1,5 +1,5 @@
 -- For inner contracts. What the functions of the walk ask and give.
-use Rattle.std.specs.Prelude.{ℕ, ◌+◌, ◌≤◌, ◌<◌, List, ◌≡◌, length, get_or}
+use Rattle.std.specs.Prelude.{ℕ, ◌+◌, ◌≤◌, ◌<◌, Option, Some, None, List, ◌≡◌, length, get_or}
 use Rattle.automata.specs.Automaton.{Transition, leaving, accept_of}
 use Rattle.automata.specs.Records.{write_records}
 use Rattle.automata.specs.Successors.{successor}
@@ -8,10 +8,6 @@ use Rattle.sheets.specs.Sheet.{state_count, read}
 use Rattle.determinizations.specs.Two.{Two}
 use Rattle.determinizations.specs.inner.Sheets.{two_of, DeterministicSheets}
 use Rattle.pairs.specs.inner.Pairs.{Pairs, one_at, two_at}
-use Rattle.equality.specs.declared.walk.FirstCommon.{FirstCommon}
-use Rattle.equality.specs.declared.walk.FirstCommon.TheVariants.{Symbol, Nothing}
-use Rattle.equality.specs.declared.walk.Comparison.{Comparison}
-use Rattle.equality.specs.declared.walk.Comparison.TheVariants.{Alike, Differ}
 use Rattle.equality.specs.inner.Walking.{WalkedPairs, SuccessorsJoined}
 use Rattle.equality.specs.Equality.{word_size}
 
@@ -25,9 +21,9 @@ pub record CommonSymbol (d e : Transition) (lower upper x : ℕ) : Type 0 where
   pub last_two : x ≤ e.last
 
 -- such a symbol, or there is none
-abbrev pub FirstOf : Transition → Transition → ℕ → ℕ → FirstCommon → Type 0
-FirstOf d e lower upper (Symbol x) = CommonSymbol d e lower upper x
-FirstOf d e lower upper Nothing = (x : ℕ) → CommonSymbol d e lower upper x → ⊥
+abbrev pub FirstOf : Transition → Transition → ℕ → ℕ → Option ℕ → Type 0
+FirstOf d e lower upper (Some x) = CommonSymbol d e lower upper x
+FirstOf d e lower upper None = (x : ℕ) → CommonSymbol d e lower upper x → ⊥
 
 -- ra and rb are the runs of pair i; the successors of the pairs before it are joined
 pub record ComparableRecords (a b : List ℕ) (lower upper : ℕ) (ra rb : List ℕ) (n1 i : ℕ) (w : Pairs) (l : List ℕ) : Type 0 where
@@ -40,9 +36,9 @@ pub record ComparableRecords (a b : List ℕ) (lower upper : ℕ) (ra rb : List 
   pub closed : SuccessorsJoined (two_of a b lower upper) w i
 
 -- the successors of pair i are joined, or x leads to two that differ
-abbrev pub SuccessorsCompared : Two → ℕ → Pairs → List ℕ → Comparison → Type 0
-SuccessorsCompared t i w l Alike = WalkedPairs t w l × (i < w.made) × SuccessorsJoined t w (i + 1)
-SuccessorsCompared t i w l (Differ x) = WalkedPairs t w l × (i < w.made) × (t.lower ≤ x) × (x ≤ t.upper) × (accept_of t.one (successor t.one (one_at w i) x) ≡ accept_of t.two (successor t.two (two_at w i) x) → ⊥)
+abbrev pub SuccessorsCompared : Two → ℕ → Pairs → List ℕ → Option ℕ → Type 0
+SuccessorsCompared t i w l None = WalkedPairs t w l × (i < w.made) × SuccessorsJoined t w (i + 1)
+SuccessorsCompared t i w l (Some x) = WalkedPairs t w l × (i < w.made) × (t.lower ≤ x) × (x ≤ t.upper) × (accept_of t.one (successor t.one (one_at w i) x) ≡ accept_of t.two (successor t.two (two_at w i) x) → ⊥)
 
 -- two such sheets and a buffer for the word
 pub record WalkInput (a b : List ℕ) (lower upper : ℕ) (o : List ℕ) : Type 0 where

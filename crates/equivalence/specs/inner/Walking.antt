@@ -1,5 +1,5 @@
 -- For inner contracts. What holds while pairs of states are walked. The states of the second automaton are counted behind the n1 states of the first.
-use Rattle.std.specs.Prelude.{ℕ, ◌+◌, ◌<◌, ◌≤◌, Bool, true, false, List, ◌≡◌}
+use Rattle.std.specs.Prelude.{ℕ, ◌+◌, ◌<◌, ◌≤◌, Bool, true, false, Option, Some, None, List, ◌≡◌}
 use Rattle.lists.specs.Lists.{◌∈◌, Ascending}
 use Rattle.automata.specs.Automaton.{Transition}
 use Rattle.sheets.specs.inner.Accepted.{Accepted}
@@ -48,6 +48,11 @@ pub record RunsCompared (n1 : ℕ) (ds es : List Transition) (w r : Pairs) (alik
   pub kept : PairsKept w r
   pub new_from : NewPairsFrom ds es w r
   pub answer : RunsAlike n1 ds es r alike
+
+-- what comparing them answers: how many pairs there are, r of so many, or None where a trigger is lacking
+abbrev pub RunsAnswered : ℕ → List Transition → List Transition → Pairs → (ℕ → Pairs) → Option ℕ → Type 0
+RunsAnswered n1 ds es w r (Some made) = RunsCompared n1 ds es w (r made) true
+RunsAnswered n1 ds es w r None = (made : ℕ) × RunsCompared n1 ds es w (r made) false
 
 -- two accepted sheets, and where the records of each state begin
 pub record IndexedSheets (a b starts-a starts-b : List ℕ) : Type 0 where

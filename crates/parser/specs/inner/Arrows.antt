@@ -1,11 +1,10 @@
 -- For inner contracts. The transitions of a text as they are read: the names that were met are in the table, and the records between their numbers in
 -- lent memory.
-use Rattle.std.specs.Prelude.{ℕ, ◌*◌, ◌/◌, ◌≤◌, ◌<◌, List, [], ◌∷◌, ◌++◌, map, ◌≡◌, length}
+use Rattle.std.specs.Prelude.{ℕ, ◌*◌, ◌/◌, ◌≤◌, ◌<◌, List, [], ◌∷◌, ◌++◌, map, ◌≡◌, length, Option, Some, None}
 use Rattle.automata.specs.Automaton.{Transition}
 use Rattle.automata.specs.Ordered.{in_order}
 use Rattle.grammar.specs.Grammar.{transitions}
 use Rattle.labels.specs.Labels.{same_label}
-use Rattle.name_table.specs.declared.Added.TheVariants.{Kept}
 use Rattle.output.specs.declared.gathering.Filled.{Filled}
 use Rattle.output.specs.inner.Gathering.{Held, Gathered, Rest}
 use Rattle.output.specs.inner.Ordered.{records_in}
@@ -19,9 +18,7 @@ use Rattle.parser.specs.declared.arrows.Begun.{Begun}
 use Rattle.parser.specs.declared.arrows.Begun.TheVariants.{Ended, Stopped}
 use Rattle.parser.specs.declared.arrows.Stop.{Stop}
 use Rattle.parser.specs.declared.arrows.Entry.{Entry}
-use Rattle.parser.specs.declared.arrows.Entry.TheVariants.{At as EntryAt, Full as NoEntry}
 use Rattle.parser.specs.declared.arrows.Noted.{Noted}
-use Rattle.parser.specs.declared.arrows.Noted.TheVariants.{At as NotedAt, Full as NotNoted}
 
 -- the n names of the table t are ls and x, and i is the number of x
 pub record Entered (text x : List ℕ) (ls : List (List ℕ)) (t : List ℕ) (i n : ℕ) : Type 0 where
@@ -30,9 +27,9 @@ pub record Entered (text x : List ℕ) (ls : List (List ℕ)) (t : List ℕ) (i 
   pub number : i ≡ index same_label x (add same_label x ls)
 
 -- so by the answer, or ls and x are over 256
-abbrev pub Entering : List ℕ → List ℕ → List (List ℕ) → List ℕ → Entry → Type 0
-Entering text x ls t (EntryAt i n) = Entered text x ls t i n
-Entering text x ls t NoEntry = 256 < length (add same_label x ls)
+abbrev pub Entering : List ℕ → List ℕ → List (List ℕ) → List ℕ → Option Entry → Type 0
+Entering text x ls t (Some e) = Entered text x ls t e.number e.count
+Entering text x ls t None = 256 < length (add same_label x ls)
 
 -- the records with which new is filled are those of old and e, or they are too many
 pub record Noting (old : List ℕ) (f : Filled) (e : Transition) (new : List ℕ) (g : Filled) : Type 0 where
@@ -48,9 +45,9 @@ pub record ArrowNoted (text : List ℕ) (m : Move) (ls : List (List ℕ)) (t old
   pub noting : Noting old f (transition_of_move (names_in text t n) m) new g
 
 -- so by the answer, or the names are over 256
-abbrev pub ArrowNoting : List ℕ → Move → List (List ℕ) → List ℕ → List ℕ → Filled → List ℕ → Noted → Type 0
-ArrowNoting text m ls t old f new (NotedAt n g) = ArrowNoted text m ls t old f new n g
-ArrowNoting text m ls t old f new NotNoted = 256 < length (meet same_label (both_names m) ls)
+abbrev pub ArrowNoting : List ℕ → Move → List (List ℕ) → List ℕ → List ℕ → Filled → List ℕ → Option Noted → Type 0
+ArrowNoting text m ls t old f new (Some r) = ArrowNoted text m ls t old f new r.count r.filled
+ArrowNoting text m ls t old f new None = 256 < length (meet same_label (both_names m) ls)
 
 -- all names, where ls come before those of the transitions from a place on
 unfoldable pub all_names : List ℕ → ℕ → List (List ℕ) → List (List ℕ)
@@ -78,8 +75,8 @@ pub record Fitting (buf : List ℕ) (f : Filled) : Type 0 where
 pub record ArrowsRead (text : List ℕ) (at : ℕ) (ls : List (List ℕ)) (t buf : List ℕ) (r : Arrows) : Type 0 where
   pub behind : r.behind.at ≡ (transitions text at).behind
   pub names : SpeltAddition text (meet same_label (names_of (moves_at text at)) ls) t r.added
-  pub gathered : (n : ℕ) → r.added ≡ Kept n → Gathered buf r.filled.sorted r.filled.end (map (transition_of_move (names_in text t n)) (moves_at text at))
-  pub fitting : (n : ℕ) → r.added ≡ Kept n → Fitting buf r.filled
+  pub gathered : (n : ℕ) → r.added ≡ Some n → Gathered buf r.filled.sorted r.filled.end (map (transition_of_move (names_in text t n)) (moves_at text at))
+  pub fitting : (n : ℕ) → r.added ≡ Some n → Fitting buf r.filled
 
 -- so far, and the memory has room
 pub record StoppedAt (text : List ℕ) (at : ℕ) (ls : List (List ℕ)) (t buf : List ℕ) (s : Stop) : Type 0 where

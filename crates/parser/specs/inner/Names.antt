@@ -1,10 +1,8 @@
 -- For inner contracts. The table of names that the code fills: where each stands in the text, and all in the order of crate `name_table`.
-use Rattle.std.specs.Prelude.{ℕ, ◌+◌, ◌≤◌, ◌<◌, List, ◌≡◌, length, get_or}
+use Rattle.std.specs.Prelude.{ℕ, ◌+◌, ◌≤◌, ◌<◌, List, ◌≡◌, length, get_or, Option, Some, None}
 use Rattle.grammar.specs.inner.Places.{Spelt}
 use Rattle.grammar.specs.declared.tokens.TextSpan.{TextSpan}
 use Rattle.lists.specs.Lists.{Distinct}
-use Rattle.name_table.specs.declared.Added.{Added}
-use Rattle.name_table.specs.declared.Added.TheVariants.{Kept, Full}
 use Rattle.name_table.specs.inner.Names.{Arranged}
 unfoldable pub use Rattle.name_table.specs.inner.Names.{names_in}
 
@@ -21,6 +19,6 @@ pub record SpeltTable (text t : List ℕ) (n : ℕ) : Type 0 where
   pub arranged : Arranged text t n
 
 -- the table t has the names ls, or these are over 256
-pub data SpeltAddition (text : List ℕ) (ls : List (List ℕ)) (t : List ℕ) : Added → Type 0 where
-  kept : {n : ℕ} → SpeltTable text t n → names_in text t n ≡ ls → SpeltAddition text ls t (Kept n)
-  full : 256 < length ls → SpeltAddition text ls t Full
+pub data SpeltAddition (text : List ℕ) (ls : List (List ℕ)) (t : List ℕ) : Option ℕ → Type 0 where
+  kept : {n : ℕ} → SpeltTable text t n → names_in text t n ≡ ls → SpeltAddition text ls t (Some n)
+  full : 256 < length ls → SpeltAddition text ls t None

@@ -6,6 +6,6 @@ use Rattle.replay.proofs.list.Tie as tie
 pub list_spec : {M : Type 1} → statement M
 list_spec =
     tie.close
-    (tie.spec (λ c. search list_laws) (λ c. search list_laws) (λ c. search list_laws) (λ c. search list_laws) (λ c κs. search list_laws)
+    (tie.spec (λ c. search list_laws) (λ c. search list_laws) (λ c. search list_laws) (λ c. search list_laws) (λ c. search list_laws)
     (λ c. search list_laws) (λ c. search list_laws) (λ c. search list_laws) (λ c. search list_laws) (λ c. search list_laws) (λ c. search list_laws)
     (λ c. search list_laws) (λ c. search list_laws) (λ c. search list_laws) (λ c. search list_laws))

@@ -1,6 +1,6 @@
 -- For inner contracts. What the code holds: for each state the number of its label among the different labels of the second automaton, and tests by
 -- these numbers.
-use Rattle.std.specs.Prelude.{ℕ, ◌≤◌, ◌<◌, Bool, cond, ◌&&◌, ◌||◌, List, [], ◌∷◌, ◌≡◌, eqb, leb, ltb, length, get_or}
+use Rattle.std.specs.Prelude.{ℕ, ◌≤◌, ◌<◌, Bool, ◌&&◌, ◌||◌, List, [], ◌≡◌, eqb, leb, ltb, length, get_or}
 use Rattle.lists.specs.Lists.{any, Ascending}
 use Rattle.automata.specs.Automaton.{Transition, Automaton, states, leaving, accept_of}
 use Rattle.labels.specs.Labels.{same_label, labels_fault, read_labels}
@@ -36,11 +36,6 @@ is_held_in A B ca cb p = any (is_held B cb (get_or ca p 0) (accept_of A p)) (sta
 -- e leads to a state with the number to, and its kind and range cover those of d
 unfoldable pub fits : List ℕ → ℕ → Transition → Transition → Bool
 fits cb to d e = eqb (get_or cb e.to 0) to && (eqb e.kind d.kind && (leb e.first d.first && leb d.last e.last))
-
--- the transitions from the first on that ends at last or behind it
-unfoldable pub reaching : ℕ → List Transition → List Transition
-reaching last [] = []
-reaching last (e ∷ es) = cond (ltb e.last last) (reaching last es) (e ∷ es)
 
 -- the records of a run: the states that they name are below 256, and none starts before an earlier one
 pub record Ordered (es : List Transition) : Type 0 where

@@ -7,6 +7,13 @@ use Rattle.automata.specs.Ordered.{in_order}
 use Rattle.automata.specs.inner.Records.{record_at}
 use Rattle.sheets.specs.Sheet.{records_at}
 use Rattle.sheets.specs.inner.Accepted.{record_count}
+use Rattle.sweep.specs.declared.EventKind.{EventKind}
+use Rattle.sweep.specs.declared.EventKind.TheVariants.{Opening, Ending}
+
+-- the number by which the definitions below tell an opening from an ending
+abbrev pub event_number : EventKind → ℕ
+event_number Opening = 0
+event_number Ending = 1
 
 -- the words of record i of the sheet s, but for its kind
 pub record RangeAt (s : List ℕ) (i state first last to : ℕ) : Type 0 where

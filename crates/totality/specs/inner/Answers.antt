@@ -1,14 +1,13 @@
 -- For inner contracts. What the code of the operations is told by.
-use Rattle.std.specs.Prelude.{ℕ, Bool, true, List, [], ◌∷◌, ◌++◌}
+use Rattle.std.specs.Prelude.{ℕ, Bool, true, List, [], ◌∷◌, ◌++◌, Result, Ok, Err}
 use Rattle.automata.specs.Automaton.{Automaton}
 use Rattle.labels.specs.Forms.{sink_label}
 use Rattle.output.specs.Output.{Pattern, room_first, labels_first}
 use Rattle.refusal.specs.Answer.{Answer, refused, given}
 use Rattle.refusal.specs.Number.{number_of}
+use Rattle.refusal.specs.declared.Refusal.{Refusal}
 use Rattle.sheets.specs.Checked.{sheet_first}
 use Rattle.sheets.specs.Sheet.{state_count}
-use Rattle.totality.specs.declared.Inputs.{Inputs}
-use Rattle.totality.specs.declared.Inputs.TheVariants as inputs
 use Rattle.totality.specs.inner.Merging.{flipped_if}
 use Rattle.totality.specs.Totality.{totalized, flipped}
 
@@ -29,6 +28,6 @@ abbrev pub passed : Answer Bool
 passed = given true
 
 -- the answer of the code that checks the inputs
-abbrev pub inputs_of : Inputs → Answer Bool
-inputs_of inputs.Good = passed
-inputs_of (inputs.Refused r) = refused (number_of r)
+abbrev pub inputs_of : Result (Unit {0}) Refusal → Answer Bool
+inputs_of (Ok _) = passed
+inputs_of (Err r) = refused (number_of r)

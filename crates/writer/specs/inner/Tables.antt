@@ -28,11 +28,10 @@ pub record LabelPlaces (b places : List ℕ) : Type 0 where
 pub record StatesBelow (n : ℕ) (qs : List ℕ) : Type 0 where
   pub at : (i : ℕ) → i < length qs → get_or qs i 0 < n
 
--- a sheet and its labels, the places of the labels, and the written states that accept, of which there are some
-pub record TextTables (s b places qs : List ℕ) : Type 0 where
+-- a sheet and its labels, and the written states that accept, of which there are some
+pub record TextTables (s b qs : List ℕ) : Type 0 where
   pub sheet : Accepted s
   pub labels : labels_fault (state_count s) b ≡ 0
-  pub placed : LabelPlaces b places
   pub accepting : qs ≡ accepting_states (read s)
   pub some : 0 < length qs
 

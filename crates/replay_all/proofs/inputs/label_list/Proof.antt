@@ -7,6 +7,6 @@ use Rattle.replay_all.proofs.inputs.label_list.Tie as tie
 pub label_list_spec : {M : Type 1} → statement M
 label_list_spec =
     tie.close
-    (tie.spec (λ c. search label_laws) (λ c. search rules) (λ c κs. search rules) (λ c κs. search rules) (λ c. search rules) (λ c κs. search rules)
+    (tie.spec (λ c. search label_laws) (λ c. search rules) (λ c. search rules) (λ c κs. search rules) (λ c. search rules) (λ c κs. search rules)
     (λ c. search label_laws) (λ c. search rules) (λ c. search rules) (λ c. search rules) (λ c κs. search rules) (λ c. search rules)
     (λ c κs. search rules) (λ c. search rules) (λ c κs. search rules) (λ c κs. search rules) (λ c. search label_laws) (λ c. search label_laws))

@@ -6,7 +6,7 @@ use Rattle.replay_all.proofs.symbols.put_sheet.Tie as tie
 
 returns : tie.Need-returns
 returns c =
-    (sheet_within _ _ _ _ _ _ _ _ _ _ c.if-pairs-gt128.false c.put_start-accepts.ensures c.put_words-count.ensures c.put_word-first.ensures c.put_ranges.ensures, search sheet_written)
+    (sheet_within _ _ _ _ _ _ _ _ _ _ c.if-pairs-gt128.false c.put_start-accepts.ensures c.put_all-count.ensures c.put-first.ensures c.put_ranges.ensures, search sheet_written)
 
 pub put_sheet_spec : {M : Type 1} → statement M
 put_sheet_spec =

@@ -7,6 +7,5 @@ pub put_front_spec : {M : Type 1} → statement M
 put_front_spec =
     tie.close
     (tie.spec (λ c. search front_laws) (λ c. search front_laws) (λ c κs. search front_laws) (λ c κs. search front_laws) (λ c κs. search front_laws)
-    (λ c κs.
-    count_room _ c.requires.0 _ _ _ _ c.put_head-sink.ensures _ _ _ c.put_word-at.ensures c.requires.1 c.requires.2)
+    (λ c κs. (search front_laws, count_room _ c.requires.0 _ _ _ _ c.put_head-sink.ensures _ _ _ c.put-at.ensures c.requires.1 c.requires.2))
     (λ c. search front_laws) (λ c. search front_laws))

@@ -10,5 +10,5 @@ put_range_spec =
     (λ c κs. search range_laws) (λ c κs. search range_laws) (λ c κs. search range_laws)
     (λ c κs. search range_laws) (λ c κs. search range_laws) (λ c. search range_laws)
     (λ c.
-    range_put _ _ _ _ c.requires _ _ c.put_bytes-first.ensures _ _ c.put_decimal-comma.ensures _ _ c.put_bytes-last.ensures
-    _ _ c.put_decimal-end.ensures _ _ c.put_bytes.ensures))
+    range_put _ _ _ _ c.requires _ _ c.put_all-first.ensures _ _ c.put_decimal-comma.ensures _ _ c.put_all-last.ensures
+    _ _ c.put_decimal-end.ensures _ _ c.put_all.ensures))
