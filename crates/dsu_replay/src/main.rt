@@ -10,6 +10,7 @@ ghost use Rattle.dsu_replay.specs.Values.{chain_to, with_one};
 ghost use Rattle.dsu_replay.specs.Replay.{digit_of, three_digits, line_read, Readable, tallied_run, after_find, after_change, has_at, after_line};
 
 use dsu::{DSU, FindAnswer, SetsAnswer};
+use refusal::StateRefusal;
 
 // Each element's parent is the next and its size one larger, as deep as sizes that grow allow; the last has the parent given.
 fn chain(last: u32) -> DSU
@@ -37,19 +38,14 @@ fn with_one(n: usize, parent: u32, own: u32) -> DSU
     d
 }
 
-fn say_found(f: FindAnswer) {
-    let found = f.found;
-    let d = f.sets;
-    match found {
-        Ok(r) => {
-            io::write_all(1, b"root ");
-            io::print_decimal(1, r as u64);
-        }
-        Err(r) => {
-            io::write_all(1, b"refused ");
-            io::print_decimal(1, refusal::state_number(r) as u64);
-        }
-    }
+// A refusal's number.
+fn say_refused(r: StateRefusal) {
+    io::write_all(1, b"refused ");
+    io::print_decimal(1, refusal::state_number(r) as u64);
+}
+
+// The end of a line: the parents of the first two elements.
+fn say_parents(d: DSU) {
     io::write_all(1, b", parents of 0 and 1: ");
     io::print_decimal(1, d.repr[0] as u64);
     io::write_all(1, b" ");
@@ -57,23 +53,25 @@ fn say_found(f: FindAnswer) {
     io::write_all(1, b"\n");
 }
 
+fn say_found(f: FindAnswer) {
+    match f.found {
+        Ok(r) => {
+            io::write_all(1, b"root ");
+            io::print_decimal(1, r as u64);
+        }
+        Err(r) => say_refused(r),
+    }
+    say_parents(f.sets);
+}
+
 fn say_outcome(a: SetsAnswer) {
-    let outcome = a.outcome;
-    let d = a.sets;
-    match outcome {
-        Ok(_) => {
+    match a.outcome {
+        Ok(()) => {
             io::write_all(1, b"done");
         }
-        Err(r) => {
-            io::write_all(1, b"refused ");
-            io::print_decimal(1, refusal::state_number(r) as u64);
-        }
+        Err(r) => say_refused(r),
     }
-    io::write_all(1, b", parents of 0 and 1: ");
-    io::print_decimal(1, d.repr[0] as u64);
-    io::write_all(1, b" ");
-    io::print_decimal(1, d.repr[1] as u64);
-    io::write_all(1, b"\n");
+    say_parents(a.sets);
 }
 
 fn deepest() {
@@ -206,28 +204,20 @@ fn has(s: ReplayRun, x: [u32; 512], a: usize, b: usize) -> ReplayRun
     counted(s, false)
 }
 
+// The run after a line: what its letter asks for.
+#[tactic(auto, using(crate::proofs::Runs::turn_laws))]
 fn turn(s: ReplayRun, kind: u8, a: usize, b: usize) -> ReplayRun
     ensures { result ≡ after_line s kind a b }
 {
     let d = s.sets;
-    if kind == 110 {
-        return after_change(s, DSU::new(a));
+    match kind {
+        b'n' => after_change(s, DSU::new(a)),
+        b'u' => after_change(s, d.union(a, b)),
+        b'f' => after_find(s, d.find(a), b),
+        b'r' => has(s, d.repr, a, b),
+        b's' => has(s, d.size, a, b),
+        _ => counted(s, false),
     }
-    if kind == 117 {
-        return after_change(s, d.union(a, b));
-    }
-    if kind == 102 {
-        return after_find(s, d.find(a), b);
-    }
-    if kind == 114 {
-        let parents = d.repr;
-        return has(s, parents, a, b);
-    }
-    if kind == 115 {
-        let sizes = d.size;
-        return has(s, sizes, a, b);
-    }
-    counted(s, false)
 }
 
 // The list is read to its end; the turns are counted, since nothing says that it ends.

@@ -1,8 +1,6 @@
 -- What one class and two mean. Assumes nothing.
-use Prim.Native.Nat.{ℕ, zero, suc, ◌≤◌, ◌<◌}
-use mathlib.Core.Path.{◌≡◌, refl, sym, ap, ◌∙◌}
+use Rattle.std.proofs.Common.{ℕ, zero, suc, ◌≤◌, ◌<◌, ◌≡◌, refl, sym, ap, ◌∙◌, arith}
 use native.Mathlib.Decide.{ℕ_discrete}
-use native.Mathlib.Omega.{arith}
 use Rattle.dsu.specs.Classes.{Classes, none, old, new}
 use Rattle.dsu.specs.inner.Generated.{Ker}
 use Rattle.dsu.proofs.Generated.{classes_positive}

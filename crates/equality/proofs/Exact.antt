@@ -1,10 +1,5 @@
 -- Verdicts on two determinizations, told of the automata that were determinized: the lemmas of Theorems. Assumes nothing.
-use Prim.Native.Nat.{ℕ}
-use mathlib.Core.List.{List}
-use mathlib.Core.Path.{◌≡◌, refl}
-use native.Mathlib.Omega.{arith}
-use lib.ListN.{take}
-use lib.Seq.{length-take-le}
+use Rattle.std.proofs.Common.{ℕ, List, ◌≡◌, refl, arith, take, length-take-le}
 use Rattle.automata.specs.Automaton.{Automaton}
 use Rattle.automata.specs.WellFormed.{WellFormed}
 use Rattle.automata.proofs.SameWords.{not_same}

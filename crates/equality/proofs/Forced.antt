@@ -1,12 +1,6 @@
 -- The smallest equivalence is one of those that it is the smallest of; where all that it joins agrees in acceptance, no word
 -- tells the two automata apart. Assumes nothing.
-use Prim.Native.Nat.{ℕ, ◌-◌, ◌<◌}
-use mathlib.Core.Path.{◌≡◌, refl, sym, subst, ◌∙◌}
-use mathlib.Core.Bool.{Bool, true, false, cond}
-use mathlib.Core.List.{List, [], ◌∷◌}
-use native.Mathlib.Omega.{arith}
-use lib.Dec.{ltb}
-use borrow.Author.Tests.{lt-ltb, le-ltb, ltb-true, ltb-false}
+use Rattle.std.proofs.Common.{ℕ, ◌-◌, ◌<◌, ◌≡◌, refl, sym, subst, ◌∙◌, Bool, true, false, cond, List, [], ◌∷◌, arith, ltb, lt-ltb, le-ltb, ltb-true, ltb-false}
 use Rattle.automata.specs.Automaton.{Automaton, Word, none, more, InBounds, accept_of}
 use Rattle.automata.specs.Deterministic.{Deterministic}
 use Rattle.automata.specs.Successors.{successor, state_after, accept_after}

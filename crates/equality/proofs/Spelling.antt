@@ -1,11 +1,6 @@
 -- The word to a difference, written from its end. Assumes nothing.
-use Prim.Native.Nat.{ℕ, suc, ◌+◌, ◌-◌, ◌≤◌, ◌<◌}
-use mathlib.Core.Path.{◌≡◌, refl, sym, ap, subst, ◌∙◌}
-use mathlib.Core.List.{List, ◌∷◌}
+use Rattle.std.proofs.Common.{ℕ, suc, ◌+◌, ◌-◌, ◌≤◌, ◌<◌, ◌≡◌, refl, sym, ap, subst, ◌∙◌, List, ◌∷◌, arith, length, get_or, set, take, drop, length-set, drop-cons, get_or-set_same, drop-set-lt, length-take-le}
 use native.Mathlib.Decide.{ℕ_discrete}
-use native.Mathlib.Omega.{arith}
-use lib.ListN.{length, get_or, set, take, drop, length-set}
-use lib.Seq.{drop-cons, get_or-set_same, drop-set-lt, length-take-le}
 use Rattle.automata.specs.Automaton.{Word, none, more, accept_of}
 use Rattle.automata.specs.Successors.{successor, state_after}
 use Rattle.determinizations.specs.Two.{Two, Symbol}
@@ -44,7 +39,7 @@ module _ (r : Trail) (i x : ℕ) where
   }
 
   module _ (ch : Chained r i) (n : ℕ) (o₀ o : List ℕ) (at c : ℕ) (s : Spelling r i x n o₀ o at c) where
-    pub spell_inside : 0 < at → 0 < c
+    spell_inside : 0 < at → 0 < c
     spell_inside h = by_place (ℕ_discrete c 0)
       where
         by_place : Dec (c ≡ 0) → 0 < c

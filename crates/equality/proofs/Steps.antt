@@ -1,11 +1,5 @@
 -- The trail after a step was put behind the others: the words before it are kept, and its own are read back. Assumes nothing.
-use Prim.Native.Nat.{ℕ, ◌+◌, ◌*◌, ◌≤◌}
-use mathlib.Core.List.{List}
-use mathlib.Core.Path.{◌≡◌, refl, ◌∙◌}
-use native.Mathlib.Omega.{arith}
-use borrow.Author.Rules.{rules}
-use lib.ListN.{length, get_or, set, length-set}
-use lib.Seq.{get_or-set_same, get_or-set_other}
+use Rattle.std.proofs.Common.{ℕ, ◌+◌, ◌*◌, ◌≤◌, List, ◌≡◌, refl, ◌∙◌, arith, rules, length, get_or, set, length-set, get_or-set_same, get_or-set_other}
 use Rattle.equality.specs.inner.Walking.{StepFits, StepPut}
 
 module _ (l : List ℕ) (made i : ℕ) (f : StepFits l made i) (more x : ℕ) where

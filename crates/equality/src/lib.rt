@@ -36,6 +36,7 @@ fn compare(a: &[u32], b: &[u32], lower: u32, upper: u32, word: &mut [u32]) -> Ve
 
 // Whether two sheets accept the same words: same with the joins made, or different with the length of a word that exactly one
 // accepts, which stands at the front of word.
+#[tactic(auto, using(crate::proofs::Comparing::comparing))]
 pub fn equality(a: &[u32], b: &[u32], word: &mut [u32]) -> Verdict
     ensures { Judged (equality_answer 0 last_symbol a.now b.now word.old) word.old word.new result }
 {

@@ -3,7 +3,7 @@
 // runs of a pair are gone through side by side, and each step moves on in one of them.
 // The pairs stand in a queue (crate pairs). Beside it stands the trail, three words for each pair: the pair that it was met from, the
 // symbol, and how many symbols lead to it. The first pair was met from none.
-ghost use Rattle.std.specs.Prelude.{◌≡◌, ◌+◌, ◌*◌, ◌<◌, length, get_or};
+ghost use Rattle.std.specs.Prelude.{◌+◌, ◌*◌, ◌<◌, length, get_or};
 ghost use Rattle.automata.specs.inner.Records.{record_at};
 ghost use Rattle.pairs.specs.inner.Pairs.{pairs_of};
 ghost use Rattle.equality.specs.inner.Walking.{trail_of, StepFits, StepPut, Chained, Spelled};
@@ -32,8 +32,7 @@ pub struct WalkCounts {
 }
 
 // The first symbol from lower to upper that the records d and e share, or None.
-fn first_common(d: &[u32], e: &[u32], lower: u32, upper: u32) -> Option<u32>
-    requires { (length d.now ≡ 5) × (length e.now ≡ 5) }
+fn first_common(d: &[u32; 5], e: &[u32; 5], lower: u32, upper: u32) -> Option<u32>
     ensures { FirstOf (record_at d.now 0) (record_at e.now 0) lower upper result }
 {
     let (first, last) = ranges::intersect_ranges(d[2], d[3], e[2], e[3])?;
@@ -42,6 +41,7 @@ fn first_common(d: &[u32], e: &[u32], lower: u32, upper: u32) -> Option<u32>
 }
 
 // The pair behind `made` others, where there are `more` than these: it was met from pair i by x.
+#[tactic(auto, using(crate::proofs::Steps::step_laws))]
 fn put_step(trail: &mut [u32; 1536], made: usize, more: usize, i: usize, x: u32)
     requires { StepFits trail.old made i }
     ensures { StepPut trail.old trail.new made more i x }
@@ -60,16 +60,14 @@ fn spell(trail: &[u32; 1536], i: usize, x: u32, out: &mut [u32]) -> usize
     requires { Chained (trail_of trail.now) i × (i < 512) × (get_or trail.now (3 * i + 2) 0 < length out.old) }
     ensures { Spelled (trail_of trail.now) i x result out.old out.new }
 {
-    let mut at = trail[3 * i + 2] as usize;
-    let n = at + 1;
-    out[at] = x;
+    let n = trail[3 * i + 2] as usize;
+    out[n] = x;
     let mut c = i;
-    while 0 < at {
-        at -= 1;
+    for at in (0..n).rev() {
         out[at] = trail[3 * c + 1];
         c = trail[3 * c] as usize;
     }
-    n
+    n + 1
 }
 
 // The runs ra and rb of a pair: successors under a common symbol are joined, up to the first two that differ in acceptance. Record j of
@@ -90,30 +88,24 @@ fn compare_runs(
     requires { ComparableRecords a.now b.now ends.lower ends.upper ra.now rb.now counts.n1 counts.compared (pairs_of repr.old size.old queue.old counts.n counts.made) trail.old }
     ensures { SuccessorsCompared (two_of a.now b.now ends.lower ends.upper) counts.compared (pairs_of repr.new size.new queue.new counts.n result.made) trail.new result.difference }
 {
-    let ca = ra.len() / 5;
-    let cb = rb.len() / 5;
+    let (records_a, _) = ra.as_chunks::<5>();
+    let (records_b, _) = rb.as_chunks::<5>();
     let mut made = counts.made;
     let mut j: usize = 0;
     let mut k: usize = 0;
     let difference = 'runs: loop {
-        if ca <= j {
+        if records_a.len() <= j {
             break 'runs None;
         }
-        let at_a = 5 * j;
-        let last = ra[at_a + 3];
+        let d = &records_a[j];
         loop {
-            if cb <= k {
+            if records_b.len() <= k {
                 break 'runs None;
             }
-            let at_b = 5 * k;
-            if let Some(x) = first_common(
-                &ra[at_a..at_a + 5],
-                &rb[at_b..at_b + 5],
-                ends.lower,
-                ends.upper,
-            ) {
-                let p = ra[at_a + 4];
-                let q = rb[at_b + 4];
+            let e = &records_b[k];
+            if let Some(x) = first_common(d, e, ends.lower, ends.upper) {
+                let p = d[4];
+                let q = e[4];
                 if sheets::accept_word(a, p) != sheets::accept_word(b, q) {
                     break 'runs Some(x);
                 }
@@ -121,7 +113,7 @@ fn compare_runs(
                 put_step(trail, made, more, counts.compared, x);
                 made = more;
             }
-            if last < rb[at_b + 3] {
+            if d[3] < e[3] {
                 break;
             }
             k += 1;
@@ -179,6 +171,7 @@ fn walk_pairs(
 }
 
 // The walk over two sheets in which every symbol from lower to upper has one transition in every state.
+#[tactic(auto, using(crate::proofs::WalkLaws::walk_first))]
 pub fn walk(a: &[u32], b: &[u32], lower: u32, upper: u32, word: &mut [u32]) -> Verdict
     requires { WalkInput a.now b.now lower upper word.old }
     ensures { Decided (two_of a.now b.now lower upper) word.old word.new result }

@@ -1,10 +1,5 @@
 -- The answer of `is_equivalent`: the laws by which it is proved.
-use mathlib.Core.Bool.{Bool}
-use mathlib.Core.List.{List}
-use Prim.Native.Nat.{ℕ}
-use mathlib.Core.Path.{◌≡◌, sym, ◌∙◌, ap}
-use borrow.Author.Rules.{rules}
-use Rattle.std.specs.Prelude.{Result, Ok, Err}
+use Rattle.std.proofs.Common.{Bool, List, ℕ, ◌≡◌, sym, ◌∙◌, ap, rules, Result, Ok, Err}
 use Rattle.refusal.specs.Answer.{given, refused}
 use Rattle.refusal.specs.Number.{input_number}
 use Rattle.refusal.specs.declared.InputRefusal.{InputRefusal}

@@ -1,13 +1,6 @@
 -- What the joins of a finished walk mean. States that are joined have the same acceptance and the same triggers, and what equal triggers lead
 -- to is joined again: this holds of each pair, so of all that the pairs generate, and so of every reached pair. Assumes nothing.
-use Prim.Native.Nat.{ℕ, ◌+◌, ◌-◌, ◌<◌}
-use mathlib.Core.Bool.{cond}
-use mathlib.Core.List.{List, map}
-use mathlib.Core.Path.{◌≡◌, refl, sym, ap, subst, ◌∙◌}
-use native.Mathlib.Omega.{arith}
-use borrow.Author.Tests.{lt-ltb, le-ltb}
-use lib.Dec.{ltb}
-use lib.ListN.{get_or}
+use Rattle.std.proofs.Common.{ℕ, ◌+◌, ◌-◌, ◌<◌, cond, List, map, ◌≡◌, refl, sym, ap, subst, ◌∙◌, arith, lt-ltb, le-ltb, ltb, get_or}
 use Rattle.lists.proofs.Members.{map_in, map_out}
 use Rattle.automata.specs.Automaton.{Transition, Automaton, InBounds, leaving}
 use Rattle.dsu.proofs.Generated.{generated_into}

@@ -1,14 +1,9 @@
 -- The pairs of the graph are those that equal triggers reach; there are no more than states of the one times states of the other. Assumes nothing.
-use Prim.Native.Nat.{ℕ, ◌*◌, ◌<◌}
-use mathlib.Core.Bool.{Bool, true, false, not, false≢true}
-use mathlib.Core.List.{List, [], ◌∷◌, map, flat_map}
-use mathlib.Core.Logic.{◌↔◌, ⊎_elim}
-use mathlib.Core.Path.{◌≡◌, refl, sym, ◌∙◌, ap, subst}
-use native.Mathlib.Nat.{add_comm, suc-mul}
-use native.Mathlib.Omega.{arith}
-use borrow.Author.Tests.{eq-eqb, eqb-true, not-true, not-false}
-use lib.Dec.{eqb}
-use lib.ListN.{length, get_or, length-append, length-map}
+use Rattle.std.proofs.Common.{ℕ, ◌*◌, ◌<◌, Bool, true, false, not, List, [], ◌∷◌, map, ◌↔◌, ⊎_elim, ◌≡◌, refl, sym, ◌∙◌, ap, subst, add_comm, suc-mul, arith, eq-eqb, eqb-true, eqb, length, get_or, length-append}
+use mathlib.Core.Bool.{false≢true}
+use mathlib.Core.List.{flat_map}
+use borrow.Author.Tests.{not-true, not-false}
+use lib.ListN.{length-map}
 use Rattle.lists.proofs.Index.{Decides}
 use Rattle.lists.specs.Lists.{◌∈◌, filter, tabulate}
 use Rattle.lists.proofs.Lists.{any_out, filter_in, filter_out, tabulate_at, length_tabulate}

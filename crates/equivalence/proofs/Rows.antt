@@ -1,11 +1,6 @@
 -- Rows of one trigger: in a run in order, the first of each row is the first record of its trigger, and triggers ascend from row to row. Assumes nothing.
-use Prim.Native.Nat.{ℕ, ◌≤◌, ◌<◌}
-use mathlib.Core.Bool.{Bool, true, false, cond}
+use Rattle.std.proofs.Common.{ℕ, ◌≤◌, ◌<◌, Bool, true, false, cond, List, [], ◌∷◌, ◌⊎◌, inl, inr, ⊎_elim, ◌≡◌, refl, sym, ◌∙◌, arith}
 use mathlib.Core.List.Memᴰ
-use mathlib.Core.List.{List, [], ◌∷◌}
-use mathlib.Core.Logic.{◌⊎◌, inl, inr, ⊎_elim}
-use mathlib.Core.Path.{◌≡◌, refl, sym, ◌∙◌}
-use native.Mathlib.Omega.{arith}
 use Rattle.lists.specs.Lists.{◌∈◌, Ascending, none, more}
 use Rattle.automata.specs.Automaton.{Transition}
 use Rattle.automata.specs.WellFormed.{here, later, Before}

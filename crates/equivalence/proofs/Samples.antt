@@ -1,8 +1,6 @@
 -- Answers that antt computes.
-use Prim.Native.Nat.{ℕ}
-use mathlib.Core.Bool.{true, false}
-use mathlib.Core.List.{List, [], ◌∷◌, flat_map}
-use mathlib.Core.Path.{◌≡◌, refl}
+use Rattle.std.proofs.Common.{ℕ, true, false, List, [], ◌∷◌, ◌≡◌, refl}
+use mathlib.Core.List.{flat_map}
 use Rattle.lists.specs.Lists.{any, filter}
 use Rattle.automata.specs.Automaton.{Transition, Automaton, leaving}
 use Rattle.search.specs.Search.{index, add, meet, explore, table}

@@ -4,15 +4,8 @@
 --   refused_call: a refusal is answered exactly when it is the first sheet's fault or, where that has none, the second's
 --   equivalent_exact, different_exact, equivalent_words: the same of well-formed automata; an accepted sheet reads as one
 --   sheets_exact, sheets_words, equivalent_refused: the same of the definition's answer for two sheets
-use Prim.Native.Nat.{ℕ}
-use mathlib.Core.Bool.{Bool, true, false, cond}
-use mathlib.Core.List.{List}
-use mathlib.Core.Logic.{◌⊎◌, inl, inr, ⊎_elim, ◌↔◌}
-use mathlib.Core.Path.{◌≡◌, refl, sym, ap, ◌∙◌}
-use native.Mathlib.Omega.{arith}
-use borrow.Author.Tests.{ne_eqb, eqb-true, eqb-false}
-use lib.Dec.{eqb}
-use Rattle.std.specs.Prelude.{Result, Ok, Err}
+use Rattle.std.proofs.Common.{ℕ, Bool, true, false, cond, List, ◌⊎◌, inl, inr, ⊎_elim, ◌↔◌, ◌≡◌, refl, sym, ap, ◌∙◌, arith, ne_eqb, eqb-true, eqb, Result, Ok, Err}
+use borrow.Author.Tests.{eqb-false}
 use Rattle.automata.specs.Automaton.{Automaton, Accepts, EpsilonFree}
 use Rattle.automata.specs.WellFormed.{WellFormed}
 use Rattle.refusal.specs.Answer.{refused, given}

@@ -1,12 +1,8 @@
 -- Triggers: the tests are what they test, and each trigger has a first record. Assumes nothing.
-use mathlib.Core.Bool.{Bool, true, false, not, false≢true}
+use Rattle.std.proofs.Common.{Bool, true, false, not, List, [], ◌∷◌, ◌⊎◌, inl, inr, ⊎_elim, ◌≡◌, refl, sym, ◌∙◌, ap, arith, eq-eqb, eqb-true, ltb-true, ltb-false, eqb, ltb}
+use mathlib.Core.Bool.{false≢true}
 use mathlib.Core.List.Memᴰ
-use mathlib.Core.List.{List, [], ◌∷◌}
-use mathlib.Core.Logic.{◌⊎◌, inl, inr, ⊎_elim}
-use mathlib.Core.Path.{◌≡◌, refl, sym, ◌∙◌, ap}
-use native.Mathlib.Omega.{arith}
-use borrow.Author.Tests.{eq-eqb, eqb-true, ltb-true, ltb-false, not-true}
-use lib.Dec.{eqb, ltb}
+use borrow.Author.Tests.{not-true}
 use Rattle.lists.specs.Lists.{◌∈◌, any}
 use Rattle.lists.proofs.Lists.{any_in, any_out, filter_in, filter_out}
 use Rattle.lists.proofs.Tests.{test, and_both, and_parts}

@@ -1,9 +1,5 @@
 -- On automata without epsilons or overlaps, where no reached pair differs: each run of the one has a run of the other beside it. Assumes nothing.
-use Prim.Native.Nat.{ℕ, ◌<◌}
-use mathlib.Core.List.{List}
-use mathlib.Core.Path.{sym, ◌∙◌, subst}
-use native.Mathlib.Nat.{le_refl}
-use native.Mathlib.Omega.{arith}
+use Rattle.std.proofs.Common.{ℕ, ◌<◌, List, sym, ◌∙◌, subst, le_refl, arith}
 use Rattle.lists.specs.Lists.{◌∈◌}
 use Rattle.automata.specs.Automaton.{Transition, Automaton, Run, stay, skip, read, Accepts, leaving}
 use Rattle.automata.specs.WellFormed.{WellFormed}

@@ -1,9 +1,6 @@
 -- The one pass over two runs: what holds after some of their equal triggers. Assumes nothing.
-use Prim.Native.Nat.{ℕ, ◌+◌, ◌<◌}
+use Rattle.std.proofs.Common.{ℕ, ◌+◌, ◌<◌, List, [], ◌∷◌, ⊎_elim, ◌≡◌, refl}
 use mathlib.Core.List.Memᴰ
-use mathlib.Core.List.{List, [], ◌∷◌}
-use mathlib.Core.Logic.{⊎_elim}
-use mathlib.Core.Path.{◌≡◌, refl}
 use Rattle.lists.specs.Lists.{◌∈◌, Ascending}
 use Rattle.lists.proofs.Members.{ascending_first, ascending_rest}
 use Rattle.automata.specs.Automaton.{Transition}

@@ -1,7 +1,7 @@
 -- `is_equivalent` (document 01, "Equality"). It is true just when no pair of states that equal triggers reach, the first record of each
 -- trigger being followed, differs in acceptance or in its triggers. Triggers are taken in no order.
-use Rattle.std.specs.Prelude.{ℕ, ◌*◌, Bool, false, not, ◌&&◌, ◌≡◌, eqb}
-use mathlib.Core.List.{List, map, flat_map}
+use Rattle.std.specs.Prelude.{ℕ, ◌*◌, Bool, false, not, ◌&&◌, ◌≡◌, eqb, List, map}
+use mathlib.Core.List.{flat_map}
 use Rattle.lists.specs.Lists.{any, filter}
 use Rattle.automata.specs.Automaton.{Transition, Automaton, leaving, accept_of}
 use Rattle.refusal.specs.Answer.{Answer, given}

@@ -3,7 +3,7 @@
 // triggers: one pass over both finds equal triggers, the first record of each, and a trigger that one of them lacks.
 #![tactic(auto)]
 
-ghost use Rattle.std.specs.Prelude.{◌≡◌, ◌+◌, ◌-◌, ◌≤◌, ◌<◌, length};
+ghost use Rattle.std.specs.Prelude.{◌≡◌, ◌<◌, length};
 ghost use Rattle.automata.specs.Records.{read_records};
 ghost use Rattle.automata.specs.inner.Records.{record_at};
 ghost use Rattle.refusal.specs.Decision.{decision_of};
@@ -19,32 +19,25 @@ use dsu::DSU;
 use refusal::InputRefusal;
 
 // Whether two records have the same trigger.
-fn same_trigger(d: &[u32], e: &[u32]) -> bool
-    requires { (length d.now ≡ 5) × (length e.now ≡ 5) }
+#[tactic(auto, unfolding(crate::specs::Triggers::same_trigger))]
+fn same_trigger(d: &[u32; 5], e: &[u32; 5]) -> bool
     ensures { result ≡ same_trigger (record_at d.now 0) (record_at e.now 0) }
 {
-    if d[1] != e[1] {
-        return false;
-    }
-    if d[2] != e[2] {
-        return false;
-    }
-    d[3] == e[3]
+    d[1] == e[1] && d[2] == e[2] && d[3] == e[3]
 }
 
 // The place behind the records that have the trigger of the record at `at`.
-fn next_trigger(run: &[u32], at: usize) -> usize
-    requires { 5 ≤ length run.now - at }
-    ensures { RowEnd run.now at result }
+#[tactic(auto, using(crate::proofs::Reading::row_stop, crate::proofs::Reading::row_next, crate::proofs::Reading::row_end))]
+fn next_trigger(records: &[[u32; 5]], at: usize) -> usize
+    requires { at < length records.now }
+    ensures { RowEnd records.now at result }
 {
-    let mut i = at + 5;
-    while 5 <= run.len() - i {
-        if !same_trigger(&run[at..at + 5], &run[i..i + 5]) {
+    for i in at + 1..records.len() {
+        if !same_trigger(&records[at], &records[i]) {
             return i;
         }
-        i += 5;
     }
-    i
+    records.len()
 }
 
 // The records ra and rb of two states, in one pass: the targets of the first records of equal triggers are joined, up to a trigger
@@ -62,20 +55,24 @@ fn compare_runs(
     requires { ComparableRuns n1 (read_records ra.now) (read_records rb.now) (pairs_of repr.old size.old queue.old n made) }
     ensures { RunsAnswered n1 (read_records ra.now) (read_records rb.now) (pairs_of repr.old size.old queue.old n made) (pairs_of repr.new size.new queue.new n) result }
 {
+    let (records_a, _) = ra.as_chunks::<5>();
+    let (records_b, _) = rb.as_chunks::<5>();
     let mut j: usize = 0;
     let mut k: usize = 0;
-    while 5 <= ra.len() - j {
-        if rb.len() - k < 5 {
+    while j < records_a.len() {
+        if records_b.len() <= k {
             return None;
         }
-        if !same_trigger(&ra[j..j + 5], &rb[k..k + 5]) {
+        let d = &records_a[j];
+        let e = &records_b[k];
+        if !same_trigger(d, e) {
             return None;
         }
-        made = pairs::join_pair(repr, size, queue, n, made, n1, ra[j + 4], rb[k + 4]);
-        j = next_trigger(ra, j);
-        k = next_trigger(rb, k);
+        made = pairs::join_pair(repr, size, queue, n, made, n1, d[4], e[4]);
+        j = next_trigger(records_a, j);
+        k = next_trigger(records_b, k);
     }
-    (rb.len() - k < 5).then_some(made)
+    (records_b.len() <= k).then_some(made)
 }
 
 // The starts are joined, and the runs of each pair in the queue are compared. starts_a and starts_b say where the records of each state
@@ -112,6 +109,7 @@ fn walk_pairs(a: &[u32], b: &[u32], starts_a: &[u32], starts_b: &[u32]) -> bool
 }
 
 // Whether two accepted sheets are equivalent.
+#[tactic(auto, using(crate::proofs::WalkLaws::walk_indexed))]
 fn walk(a: &[u32], b: &[u32]) -> bool
     requires { Accepted a.now × Accepted b.now }
     ensures { result ≡ equivalent (read a.now) (read b.now) }

@@ -1,14 +1,15 @@
 -- Laws of the number of a pair: the table names it, and the queue confirms it.
 use Prim.Native.Nat.{ℕ, ◌+◌, ◌*◌, ◌/◌, ◌%◌, ◌≤◌, ◌<◌}
 use mathlib.Core.Bool.{true, false}
+use Rattle.std.proofs.Common.{Option, Some, None, unwrap_or}
 use mathlib.Core.List.{List}
 use mathlib.Core.Logic.{⊎_elim}
-use mathlib.Core.Path.{◌≡◌, sym, ◌∙◌, ap}
+use mathlib.Core.Path.{◌≡◌, refl, sym, ◌∙◌, ap}
 use native.Mathlib.Omega.{arith}
-use mir.Syntax.{w8, w32, w64}
+use mir.Syntax.{w32}
 use mir.Val.{Fits}
 use borrow.Author.Rules.{rules}
-use borrow.Author.Tests.{ltb-true, ltb-false}
+use borrow.Author.Tests.{ltb-true, ltb-false, lt-ltb}
 use lib.Dec.{ltb}
 use lib.ListN.{get_or, length}
 use Rattle.lists.proofs.Tests.{test}
@@ -16,7 +17,7 @@ use Rattle.search.proofs.Tables.{index_in, index_at, index_place}
 use Rattle.automata.specs.Pairs.{Pair, same_pair}
 use Rattle.lists.proofs.Index.{index_le}
 use Rattle.product.specs.Product.{place_in}
-use Rattle.product.specs.inner.Tables.{pair_of, table_of, Queued}
+use Rattle.product.specs.inner.Tables.{pair_of, table_of, number_in, Queued}
 use Rattle.automata.proofs.Pairs.{pair_decides}
 use Rattle.product.proofs.Queueing.{length_table, entry_at, queued_room, word_pair}
 
@@ -44,38 +45,47 @@ module _ (queue t : List ℕ) (n : ℕ) (k : Queued queue t n) (f : n ≤ 256) (
   named : place_in (table_of queue n) (pair_of c) < n → get_or t c 0 ≡ place_in (table_of queue n) (pair_of c)
   named h = ap (λ x. get_or t x 0) (sym (word h)) ∙ k.numbered f (place_in (table_of queue n) (pair_of c)) h
 
-  none : (place_in (table_of queue n) (pair_of c) < n → ⊥) → n ≡ place_in (table_of queue n) (pair_of c)
+  none : (place_in (table_of queue n) (pair_of c) < n → ⊥) → None ≡ number_in (table_of queue n) (pair_of c)
+  unfolding number_in
   none h =
-      ⊎_elim (λ (q : ltb (place_in (table_of queue n) (pair_of c)) n ≡ true). absurd (h (ltb-true _ n q)))
-      (λ (q : ltb (place_in (table_of queue n) (pair_of c)) n ≡ false).
-      let l : n ≤ place_in (table_of queue n) (pair_of c) = ltb-false _ n q in
-      omega (arith, index_le same_pair (pair_of c) (table_of queue n), length_table queue n inside))
-      (test (ltb (place_in (table_of queue n) (pair_of c)) n))
+      ⊎_elim (λ (q : ltb (place_in (table_of queue n) (pair_of c)) (length (table_of queue n)) ≡ true).
+      let l : place_in (table_of queue n) (pair_of c) < length (table_of queue n) = ltb-true _ _ q in
+      absurd (h (omega (arith, length_table queue n inside))))
+      (λ (q : ltb (place_in (table_of queue n) (pair_of c)) (length (table_of queue n)) ≡ false). rw q refl)
+      (test (ltb (place_in (table_of queue n) (pair_of c)) (length (table_of queue n))))
 
-  pub find_past : n ≤ get_or t c 0 → n ≡ place_in (table_of queue n) (pair_of c)
+  pub find_past : n ≤ get_or t c 0 → None ≡ number_in (table_of queue n) (pair_of c)
   find_past l = none (λ h. omega (arith, named h))
 
-  pub find_other : (get_or queue (get_or t c 0) 0 ≡ c → ⊥) → n ≡ place_in (table_of queue n) (pair_of c)
+  pub find_other : (get_or queue (get_or t c 0) 0 ≡ c → ⊥) → None ≡ number_in (table_of queue n) (pair_of c)
   find_other o = none (λ h. o (ap (λ j. get_or queue j 0) (named h) ∙ word h))
 
-  pub find_found : get_or t c 0 < n → get_or queue (get_or t c 0) 0 ≡ c → get_or t c 0 ≡ place_in (table_of queue n) (pair_of c)
-  find_found h e = place (get_or t c 0) h e
+  pub find_found : get_or t c 0 < n → get_or queue (get_or t c 0) 0 ≡ c → Some (get_or t c 0) ≡ number_in (table_of queue n) (pair_of c)
+  unfolding number_in
+  find_found h e =
+      let p = place (get_or t c 0) h e in
+      rw (← p, lt-ltb (get_or t c 0) (length (table_of queue n)) (omega (arith, length_table queue n inside))) refl
 
--- a byte of the table as a place in the queue
-pub byte_fits : (t : List ℕ) (i : ℕ) → ((j : ℕ) → Fits w8 (get_or t j 0)) → Fits w64 (get_or t i 0)
-byte_fits t i f = record { fits = omega (arith, (f i).fits) }
+pub ruleset find_laws = (find_past, find_other, find_found, rules)
 
-pub byte_near : (queue t : List ℕ) (n i : ℕ) → Queued queue t n → get_or t i 0 < n → get_or t i 0 < length queue
-byte_near queue t n i k h = omega (arith, k.room, k.few)
+-- the number of a pair that the table has, and the table's length for another
+number_or : (T : List Pair) (p : Pair) → unwrap_or (number_in T p) (length T) ≡ place_in T p
+unfolding number_in
+number_or T p =
+    ⊎_elim (λ (z : ltb (place_in T p) (length T) ≡ true). rw z refl)
+    (λ (z : ltb (place_in T p) (length T) ≡ false). let l : length T ≤ place_in T p = ltb-false _ _ z in rw z (omega (arith, index_le same_pair p T)))
+    (test (ltb (place_in T p) (length T)))
 
-pub ruleset find_laws = (byte_fits, byte_near, find_past, find_other, find_found, queued_room, rules)
+module _ (queue t : List ℕ) (n : ℕ) (k : Queued queue t n) (f : n ≤ 256) (p q r : ℕ) (o : Option ℕ) (e : o ≡ number_in (table_of queue n) (pair_of (p * 256 + q))) (u : r ≡ unwrap_or o n) where
+  numbered : r ≡ place_in (table_of queue n) (pair_of (p * 256 + q))
+  numbered =
+      u ∙ ap (λ x. unwrap_or x n) e ∙ ap (unwrap_or (number_in (table_of queue n) (pair_of (p * 256 + q)))) (sym (length_table queue n (queued_room queue t n k)))
+      ∙ number_or (table_of queue n) (pair_of (p * 256 + q))
 
--- the number of a pair
-module _ (queue t : List ℕ) (n : ℕ) (k : Queued queue t n) (f : n ≤ 256) (p q r : ℕ) (e : r ≡ place_in (table_of queue n) (pair_of (p * 256 + q))) where
   pub number_fits : Fits w32 r
-  number_fits = record { fits = omega (arith, e, index_le same_pair (pair_of (p * 256 + q)) (table_of queue n), length_table queue n (queued_room queue t n k)) }
+  number_fits = record { fits = omega (arith, numbered, index_le same_pair (pair_of (p * 256 + q)) (table_of queue n), length_table queue n (queued_room queue t n k)) }
 
   pub number_is : q < 256 → r ≡ place_in (table_of queue n) (record { left = p; right = q })
-  number_is h = e ∙ ap (place_in (table_of queue n)) (word_pair p q h)
+  number_is h = numbered ∙ ap (place_in (table_of queue n)) (word_pair p q h)
 
 pub ruleset number_laws = (number_fits, number_is, rules)

@@ -1,6 +1,7 @@
 -- A queue of pairs and the table of their numbers: what one pair more changes, and what is left to be met.
 use Prim.Native.Nat.{ℕ, ◌+◌, ◌*◌, ◌/◌, ◌%◌, ◌≤◌, ◌<◌}
-use mathlib.Core.Bool.{true, false}
+use mathlib.Core.Bool.{Bool, true, false, cond}
+use Rattle.std.proofs.Common.{Option, Some, None, is_some}
 use mathlib.Core.List.{List, [], ◌∷◌, ◌++◌, map, map-append}
 use mathlib.Core.Logic.{⊎_elim}
 use mathlib.Core.Path.{◌≡◌, refl, sym, ◌∙◌, ap, subst}
@@ -19,7 +20,7 @@ use Rattle.search.specs.Search.{meet}
 use Rattle.search.proofs.Tables.{add_known, add_new, meet_append, meet_full, meet_capped, index_lt}
 use Rattle.automata.specs.Pairs.{Pair, same_pair}
 use Rattle.product.specs.Product.{place_in}
-use Rattle.product.specs.inner.Tables.{pair_of, table_of, capped, Queued, PairsMet}
+use Rattle.product.specs.inner.Tables.{pair_of, table_of, number_in, capped, Queued, PairsMet}
 use Rattle.automata.proofs.Pairs.{pair_decides}
 
 pub length_table : (queue : List ℕ) (n : ℕ) → n ≤ length queue → length (table_of queue n) ≡ n
@@ -52,6 +53,15 @@ capped_few T h = take_all 257 T h
 table_capped : (queue t : List ℕ) (n : ℕ) → Queued queue t n → capped (table_of queue n) ≡ table_of queue n
 table_capped queue t n k = capped_few (table_of queue n) (omega (arith, length_table queue n (queued_room queue t n k), k.few))
 
+-- the table has a number for a pair where the pair is in it
+number_some : (T : List Pair) (p : Pair) → is_some (number_in T p) ≡ ltb (place_in T p) (length T)
+unfolding number_in
+number_some T p = by_test (ltb (place_in T p) (length T))
+  where
+    by_test : (b : Bool) → is_some (cond b (Some (place_in T p)) None) ≡ b
+    by_test true = refl
+    by_test false = refl
+
 -- one pair
 module _ (queue t : List ℕ) (n p q : ℕ) (k : Queued queue t n) (hq : q < 256) where
   count : length (table_of queue n) ≡ n
@@ -61,21 +71,21 @@ module _ (queue t : List ℕ) (n p q : ℕ) (k : Queued queue t n) (hq : q < 256
   unfolding capped
   pair_full h = record { queued = k; table = sym (meet_full same_pair 257 (record { left = p; right = q } ∷ []) (table_of queue n) (omega (arith, count, k.few))) }
 
-  module _ (l : n ≤ 256) (i : ℕ) (e : i ≡ place_in (table_of queue n) (pair_of (p * 256 + q))) where
-    place : i ≡ place_in (table_of queue n) (record { left = p; right = q })
-    place = e ∙ ap (place_in (table_of queue n)) (word_pair p q hq)
+  module _ (l : n ≤ 256) (o : Option ℕ) (e : o ≡ number_in (table_of queue n) (pair_of (p * 256 + q))) where
+    known : is_some o ≡ ltb (place_in (table_of queue n) (record { left = p; right = q })) (length (table_of queue n))
+    known = rw (e, word_pair p q hq) (number_some (table_of queue n) (record { left = p; right = q }))
 
-    pub pair_known : i < n → PairsMet (table_of queue n) (record { left = p; right = q } ∷ []) queue t n
+    pub pair_known : is_some o ≡ true → PairsMet (table_of queue n) (record { left = p; right = q } ∷ []) queue t n
     unfolding meet
     pair_known h =
         record {
           queued = k;
-          table = sym (ap capped (add_known same_pair (record { left = p; right = q }) (table_of queue n) (omega (arith, place, count))) ∙ table_capped queue t n k);
+          table = sym (ap capped (add_known same_pair (record { left = p; right = q }) (table_of queue n) (ltb-true _ _ (sym known ∙ h))) ∙ table_capped queue t n k);
         }
 
-    module _ (h : n ≤ i) where
+    module _ (h : is_some o ≡ false) where
       far : length (table_of queue n) ≤ place_in (table_of queue n) (record { left = p; right = q })
-      far = omega (arith, place, count)
+      far = ltb-false _ _ (sym known ∙ h)
 
       taken : take (n + 1) (set queue n (p * 256 + q)) ≡ take n queue ++ (p * 256 + q) ∷ []
       taken = ap (λ m. take m (set queue n (p * 256 + q))) (add-one n) ∙ take-suc-set queue n (p * 256 + q) (omega (arith, k.room))

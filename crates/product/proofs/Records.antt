@@ -1,15 +1,17 @@
 -- The records of a run: where they lead, and in which order they start.
-use Prim.Native.Nat.{ℕ, ◌+◌, ◌-◌, ◌*◌, ◌/◌, ◌≤◌, ◌<◌}
-use mathlib.Core.Bool.{Bool, true, false, cond, not}
+use Prim.Native.Nat.{ℕ, suc, ◌+◌, ◌-◌, ◌*◌, ◌/◌, ◌≤◌, ◌<◌}
+use mathlib.Core.Bool.{Bool, true, false, cond}
 use mathlib.Core.List.Memᴰ
 use mathlib.Core.List.{List, [], ◌∷◌}
 use mathlib.Core.Logic.{⊎_elim}
-use mathlib.Core.Path.{◌≡◌, refl, sym, ◌∙◌, ap, ap₂, subst}
+use mathlib.Core.Path.{◌≡◌, refl, sym, ◌∙◌, ap, subst}
 use native.Mathlib.Nat.{le_refl}
 use native.Mathlib.Omega.{arith}
-use borrow.Author.Rules.{rules}
-use borrow.Author.Tests.{not-true, not-false}
 use lib.ListN.{length, get_or, take, drop}
+use Rattle.std.specs.List.{prefix_len}
+use Rattle.std.specs.Simd.{first_chunks}
+use Rattle.std.proofs.lemmas.List.{drop-drop, length-drop, drop-map}
+use Rattle.std.proofs.lemmas.List.Sums.{prefix_len-le-length}
 use Rattle.lists.specs.Lists.{◌∈◌}
 use Rattle.lists.proofs.Parts.{part_all}
 use Rattle.lists.proofs.Members.{ascending_first, ascending_rest}
@@ -17,10 +19,10 @@ use Rattle.automata.specs.Automaton.{Transition, Automaton, leaving}
 use Rattle.automata.specs.Records.{read_records, write_records}
 use Rattle.automata.specs.inner.Chunks.{records_of}
 use Rattle.automata.specs.inner.Records.{record_at}
-use Rattle.automata.proofs.Chunks.{records_next}
+use Rattle.automata.proofs.Chunks.{records_are, records_next}
 use Rattle.automata.specs.WellFormed.{WellFormed}
 use Rattle.automata.proofs.Leaving.{leaves, leaving_rises}
-use Rattle.automata.proofs.Records.{read_write, records_at_lem, records_end, part_record}
+use Rattle.automata.proofs.Records.{read_write, read_drop}
 use Rattle.sheets.specs.Sheet.{state_count, read}
 use Rattle.sheets.specs.inner.Runs.{IndexedSheet}
 use Rattle.sheets.proofs.Meaning.{read_well}
@@ -71,24 +73,34 @@ passed_to k a (e ∷ es) r = go (ends_before a e) (passed_to k a es (rest_to k r
     go true s = s
     go false s = r
 
--- those from a place on are left
-module _ (run : List ℕ) (from a at : ℕ) (e : not_ended a (read_records (drop at run)) ≡ not_ended a (read_records (drop from run))) where
-  pub pass_none : length run - at < 5 → read_records (drop at run) ≡ not_ended a (read_records (drop from run))
-  unfolding not_ended
-  pass_none h = records_end run at h ∙ sym (ap (not_ended a) (records_end run at h)) ∙ e
+-- the records behind those at the front
+records_drop : (n : ℕ) (rs : List (List ℕ)) → drop n (records_of rs) ≡ records_of (drop n rs)
+unfolding records_of
+records_drop n rs = drop-map (λ r. record_at r 0) n rs
 
-  module _ (h : 5 ≤ length run - at) (r : Bool) (o : r ≡ ends_before a (record_at (take (at + 5 - at) (drop at run)) 0)) where
-    here : not_ended a (read_records (drop at run)) ≡ cond r (not_ended a (read_records (drop (at + 5) run))) (read_records (drop at run))
-    unfolding not_ended
-    here =
-        ap (not_ended a) (records_at_lem run at h)
-        ∙ ap₂ (λ b l. cond b (not_ended a (read_records (drop (at + 5) run))) l) (sym (o ∙ ap (ends_before a) (part_record run at))) (sym (records_at_lem run at h))
+-- the records at the front that are ended are passed over
+passed_front : (a : ℕ) (rs : List (List ℕ)) → records_of (drop (prefix_len (λ r. ends_before a (record_at r 0)) rs) rs) ≡ not_ended a (records_of rs)
+unfolding not_ended records_of
+passed_front a [] = refl
+passed_front a (r ∷ rs) = go (ends_before a (record_at r 0)) (passed_front a rs)
+  where
+    go : (b : Bool) → records_of (drop (prefix_len (λ r. ends_before a (record_at r 0)) rs) rs) ≡ not_ended a (records_of rs)
+        → records_of (drop (cond b (1 + prefix_len (λ r. ends_before a (record_at r 0)) rs) 0) (r ∷ rs)) ≡ cond b (not_ended a (records_of rs)) (record_at r 0 ∷ records_of rs)
+    go true h =
+        let z : 1 + prefix_len (λ r. ends_before a (record_at r 0)) rs ≡ suc (prefix_len (λ r. ends_before a (record_at r 0)) rs) = omega arith in
+        rw z h
+    go false h = refl
 
-    pub pass_found : not r ≡ true → read_records (drop at run) ≡ not_ended a (read_records (drop from run))
-    pass_found n = let z : r ≡ false = not-true r n in sym (here ∙ rw z) ∙ e
+module _ (run : List ℕ) (from a : ℕ) (rs : List (List ℕ)) (e : rs ≡ first_chunks 5 (length (take (length run - from) (drop from run)) / 5) (take (length run - from) (drop from run)))
+    (n : ℕ) (m : n ≡ prefix_len (λ r. ends_before a (record_at r 0)) rs) where
+  pub pass_within : from ≤ length run → length rs ≡ length (take (length run - from) (drop from run)) / 5 → from + 5 * n ≤ length run
+  pass_within h l = omega (arith, m, prefix_len-le-length (λ r. ends_before a (record_at r 0)) rs, ap length (part_all from run), length-drop from run)
 
-    pub pass_next : not r ≡ false → not_ended a (read_records (drop (at + 5) run)) ≡ not_ended a (read_records (drop from run))
-    pass_next n = let z : r ≡ true = not-false r n in sym (here ∙ rw z) ∙ e
+  pub pass_front : read_records (drop (from + 5 * n) run) ≡ not_ended a (read_records (drop from run))
+  pass_front =
+      let whole : records_of rs ≡ read_records (drop from run) = records_are _ rs e ∙ ap read_records (part_all from run) in
+      ap read_records (sym (drop-drop (5 * n) from run)) ∙ read_drop n (drop from run) ∙ ap (drop n) (sym whole)
+      ∙ records_drop n rs ∙ ap (λ k. records_of (drop k rs)) m ∙ passed_front a rs ∙ ap (not_ended a) whole
 
 -- the part of a run that is left, as it is handed on
 module _ (k : ℕ) (run : List ℕ) (from a next : ℕ) (h : next ≤ length run) (r : RunTo k (read_records (drop from run))) (e : read_records (drop next run) ≡ not_ended a (read_records (drop from run))) where
@@ -97,8 +109,6 @@ module _ (k : ℕ) (run : List ℕ) (from a next : ℕ) (h : next ≤ length run
 
   pub part_to : RunTo k (read_records (take (length run - next) (drop next run)))
   part_to = subst (λ l. RunTo k (read_records l)) (sym (part_all next run)) left_to
-
-pub ruleset pass_laws = (pass_none, pass_found, pass_next, rules)
 
 -- the transitions that leave a state
 leaving_to : (A : Automaton) (q k : ℕ) → WellFormed A → A.size ≤ k → RunTo k (leaving A q)

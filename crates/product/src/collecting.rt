@@ -12,11 +12,12 @@ ghost use Rattle.product.specs.inner.Tables.{pair_of, table_of, Queued, RunTo, P
 use output::Filled;
 
 // The number of the pair of p and q among the first n of the queue, or n.
+#[tactic(auto, using(crate::proofs::Numbering::number_laws))]
 fn number_of(queue: &[u32], t: &[u8], n: usize, p: u32, q: u32) -> u32
     requires { Queued queue.now t.now n × (n ≤ 256) × (p < length t.now / 256) × (q < 256) }
     ensures { result ≡ place_in (table_of queue.now n) (record { left = p; right = q }) }
 {
-    crate::numbers::find_pair(queue, t, n, p * 256 + q) as u32
+    crate::numbers::find_pair(queue, t, n, p * 256 + q).unwrap_or(n) as u32
 }
 
 // The transition of pair i by the records d and e behind the others, if they are ranges that meet. Like the functions below it answers how far
@@ -161,6 +162,7 @@ fn add_pairs(
 }
 
 // The transitions of the first n pairs of the queue in order, equal ones once, unless there are too many.
+#[tactic(auto, using(output::proofs::Collecting::collect_laws))]
 pub fn collect_pairs(
     a: &[u32],
     aruns: &[u32],

@@ -8,6 +8,7 @@ ghost use Rattle.sheets.specs.inner.Runs.{IndexedSheet};
 ghost use Rattle.product.specs.inner.Tables.{pair_of, table_of, PairsBelow, EpsilonFirst};
 
 // Whether there are records in both runs and an epsilon in at least one of them, in which it is then the first.
+#[tactic(auto, using(crate::proofs::Blocking::blocked_laws))]
 fn is_blocked(first: &[u32], second: &[u32]) -> bool
     requires { EpsilonFirst (read_records first.now) × EpsilonFirst (read_records second.now) }
     ensures { result ≡ blocked (read_records first.now) (read_records second.now) }

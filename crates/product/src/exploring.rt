@@ -10,6 +10,7 @@ ghost use Rattle.sheets.specs.inner.Runs.{IndexedSheet};
 ghost use Rattle.product.specs.inner.Tables.{pair_of, table_of, Queued, PairsMet, RunTo, joint_targets, PairsBelow, found_in};
 
 // The pair of p and q gets the next number, if it has none and there is room. The number of pairs afterwards.
+#[tactic(auto, using(crate::proofs::Queueing::pair_laws))]
 fn meet_pair(queue: &mut [u32], t: &mut [u8], n: usize, p: u32, q: u32) -> usize
     requires { Queued queue.old t.old n × (p < length t.old / 256) × (q < 256) }
     ensures { PairsMet (table_of queue.old n) (record { left = p; right = q } ∷ []) queue.new t.new result }
@@ -18,7 +19,7 @@ fn meet_pair(queue: &mut [u32], t: &mut [u8], n: usize, p: u32, q: u32) -> usize
         return n;
     }
     let code = p * 256 + q;
-    if crate::numbers::find_pair(queue, t, n, code) < n {
+    if crate::numbers::find_pair(queue, t, n, code).is_some() {
         return n;
     }
     queue[n] = code;

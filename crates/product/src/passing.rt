@@ -5,17 +5,11 @@ ghost use Rattle.automata.specs.inner.Records.{record_at};
 ghost use Rattle.product.specs.inner.Tables.{ends_before, not_ended};
 
 // Whether the record is no range or ends before the symbol a.
-fn is_ended(e: &[u32], a: u32) -> bool
-    requires { length e.now ≡ 5 }
+#[tactic(auto, unfolding(crate::specs::inner::Tables::ends_before))]
+fn is_ended(e: &[u32; 5], a: u32) -> bool
     ensures { result ≡ ends_before a (record_at e.now 0) }
 {
-    if e[1] != 1 {
-        return true;
-    }
-    if e[3] < a {
-        return true;
-    }
-    false
+    e[1] != 1 || e[3] < a
 }
 
 // The place of the first record at or behind a place of the run that is a range and does not end before the symbol a.
@@ -23,12 +17,6 @@ pub fn pass_ended(run: &[u32], from: usize, a: u32) -> usize
     requires { from ≤ length run.now }
     ensures { (result ≤ length run.now) × (read_records (drop result run.now) ≡ not_ended a (read_records (drop from run.now))) }
 {
-    let mut at = from;
-    while 5 <= run.len() - at {
-        if !is_ended(&run[at..at + 5], a) {
-            return at;
-        }
-        at += 5;
-    }
-    at
+    let (records, _) = run[from..].as_chunks::<5>();
+    from + 5 * records.iter().take_while(|e| is_ended(e, a)).count()
 }

@@ -25,6 +25,7 @@ fn both_accept(x: u32, y: u32) -> u32
 }
 
 // The accept word of the pair of the word c.
+#[tactic(auto, using(crate::proofs::Sections::accept_pair))]
 fn accept_word(a: &[u32], b: &[u32], c: u32) -> u32
     requires { Accepted a.now × Accepted b.now × ((pair_of c).left < state_count a.now) × ((pair_of c).right < state_count b.now) }
     ensures { result ≡ pair_accept (read a.now) (read b.now) (pair_of c) }

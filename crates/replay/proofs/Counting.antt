@@ -1,23 +1,17 @@
 -- Laws of the cases of a list and of their counts, as the functions that read and count them ask them.
-use Rattle.std.proofs.Common.{Ok, Err, ℕ, suc, ◌+◌, ◌-◌, Bool, true, false, List, [], ◌∷◌, ◌≡◌, refl, sym, ◌∙◌, ap, ap₂, rules, get_or}
+use Rattle.std.proofs.Common.{Option, Some, None, Result, ℕ, suc, ◌+◌, ◌-◌, Bool, true, false, List, [], ◌∷◌, ◌≡◌, refl, sym, ◌∙◌, ap, ap₂, rules, get_or}
+use Rattle.std.specs.Result.{result_ok}
 use lib.Seq.{sets}
-use Rattle.replay.specs.declared.Case.{Case}
+use Rattle.replay.specs.declared.Numbers.{Numbers}
 use Rattle.replay.specs.declared.LineFault.{LineFault}
 use Rattle.replay.specs.declared.Tally.{Tally}
 use Rattle.replay.specs.Lines.{answer, line_at}
-use Rattle.replay.specs.Counting.{case_of, case_at, fresh_tally, begun, tallied}
+use Rattle.replay.specs.Counting.{case_at, behind_case, fresh_tally, begun, tallied}
 
 -- a line by the answer of the reader
-module _ (at room : ℕ) (s : List ℕ) where
-  pub case_stored : (n to : ℕ) → Ok (record { count = n; to = to }) ≡ answer room at (line_at s at) → ◌≡◌ {A = Case} (record { count = n; to = to }) (case_at room s at)
-  unfolding case_at
-  case_stored n to e = ap (case_of at) e
-
-  pub case_fault : (f : LineFault) → Err f ≡ answer room at (line_at s at) → ◌≡◌ {A = Case} (record { count = 0; to = at }) (case_at room s at)
-  unfolding case_at
-  case_fault f e = ap (case_of at) e
-
-pub ruleset case_laws = (case_fault, rules)
+pub case_read : (at room : ℕ) (s : List ℕ) (r : Result Numbers LineFault) (v : Option Numbers) → r ≡ answer room at (line_at s at) → v ≡ result_ok r → v ≡ case_at room s at
+unfolding case_at
+case_read at room s r v e f = f ∙ ap result_ok e
 
 -- memory for one number has the first number of the line
 kept : (ns : List ℕ) (x k : ℕ) → get_or (sets (x ∷ []) (suc k) ns) 0 0 ≡ x
@@ -28,11 +22,18 @@ first_of : (ns : List ℕ) → get_or (sets (0 ∷ []) 0 ns) 0 0 ≡ get_or ns 0
 first_of [] = refl
 first_of (x ∷ ns) = kept ns x 0
 
-pub tally_begun : (s m : List ℕ) (v : Case) (r : Tally) → m ≡ sets (0 ∷ []) 0 (line_at s 0).numbers → v ≡ case_at 1 s 0 → r ≡ fresh_tally (get_or m 0 0) v.to → r ≡ begun s
-unfolding begun
-tally_begun s m v r e f g =
-    let z : get_or m 0 0 ≡ get_or (line_at s 0).numbers 0 0 = ap (λ (l : List ℕ). get_or l 0 0) e ∙ first_of (line_at s 0).numbers in
-    g ∙ ap₂ fresh_tally z (ap (λ (w : Case). w.to) f)
+module _ (s m : List ℕ) (r : Tally) (e : m ≡ sets (0 ∷ []) 0 (line_at s 0).numbers) (to : ℕ) (g : r ≡ fresh_tally (get_or m 0 0) to) where
+  tally_from : to ≡ behind_case 0 (case_at 1 s 0) → r ≡ begun s
+  unfolding begun
+  tally_from f =
+      let z : get_or m 0 0 ≡ get_or (line_at s 0).numbers 0 0 = ap (λ (l : List ℕ). get_or l 0 0) e ∙ first_of (line_at s 0).numbers in
+      g ∙ ap₂ fresh_tally z f
+
+  pub tally_begun : (l : Numbers) → Some l ≡ case_at 1 s 0 → to ≡ l.to → r ≡ begun s
+  tally_begun l f k = tally_from (k ∙ ap (behind_case 0) f)
+
+  pub tally_none : None ≡ case_at 1 s 0 → to ≡ 0 → r ≡ begun s
+  tally_none f k = tally_from (k ∙ ap (behind_case 0) f)
 
 pub tally_agreed : (t : Tally) (to : ℕ) (b : Bool) → b ≡ true → ◌≡◌ {A = Tally} (record { left = t.left - 1; at = to; agreed = t.agreed + 1; differed = t.differed }) (tallied t to b)
 unfolding tallied
@@ -42,4 +43,4 @@ pub tally_differed : (t : Tally) (to : ℕ) (b : Bool) → b ≡ false → ◌�
 unfolding tallied
 tally_differed t to b e = rw e
 
-pub ruleset tally_laws = (tally_agreed, tally_differed, tally_begun, rules)
+pub ruleset tally_laws = (tally_agreed, tally_differed, tally_begun, tally_none, rules)

@@ -1,8 +1,10 @@
 -- Laws of lines of numbers, as the functions that read them ask them.
-use Rattle.std.proofs.Common.{Result, Ok, Err, ℕ, suc, ◌+◌, ◌-◌, ◌≤◌, ◌<◌, Bool, true, false, not, cond, ◌&&◌, List, [], ◌≡◌, refl, sym, ◌∙◌, ap, subst, arith, rules, le-leb, eq-eqb, ne_eqb, ltb-false, leb, ltb, length, get_or, take, drop, set, drop_of_length-le, take_at, length-take-le}
+use Rattle.std.proofs.Common.{IfSome, Result, Ok, Err, ℕ, suc, ◌+◌, ◌-◌, ◌≤◌, ◌<◌, Bool, true, false, not, cond, ◌&&◌, List, [], ◌≡◌, refl, sym, ◌∙◌, ap, subst, arith, rules, le-leb, eq-eqb, ne_eqb, ltb-false, leb, ltb, length, get_or, take, drop, set, drop_of_length-le, take_at, length-take-le}
+use Rattle.std.specs.Result.{result_ok}
 use borrow.Author.Tests.{not-true, not-false, lt-leb}
 use lib.Seq.{sets, set_out, sets-eq}
 use Rattle.lists.proofs.Parts.{drop_at}
+use Rattle.io.specs.Counts.{IsPrefixLen}
 use Rattle.decimal.specs.Decimal.{is_digit, with_digit}
 use Rattle.replay.specs.declared.Numbers.{Numbers}
 use Rattle.replay.specs.declared.LineFault.{LineFault}
@@ -210,3 +212,9 @@ module _ (at n to : ℕ) (out m : List ℕ) (l : NumberLine) (e : Ok (record { c
 
   pub case_counted : n ≡ length (take n m)
   case_counted = sym (length-take-le n m case_within)
+
+-- so many stand there whenever the line could be read
+pub answer_within : (r : Result Numbers LineFault) (at : ℕ) (out m : List ℕ) (l : NumberLine) → r ≡ answer (length out) at l → length m ≡ length out
+    → IfSome (result_ok r) (λ n. IsPrefixLen n.count m)
+answer_within (Ok n) at out m l e k = (case_within at n.count n.to out m l e k, case_counted at n.count n.to out m l e k)
+answer_within (Err f) at out m l e k = tt

@@ -1,7 +1,7 @@
 // Test support: reads lines of decimal numbers, takes the lists of a case apart, and counts the cases that agreed.
 #![tactic(auto)]
 
-ghost use Rattle.std.specs.Prelude.{true, [], ◌≡◌, ◌+◌, ◌^◌, ◌<◌, length, take};
+ghost use Rattle.std.specs.Prelude.{IfSome, true, [], ◌≡◌, ◌+◌, ◌^◌, ◌<◌, length, take};
 ghost use Rattle.std.proofs.lemmas.List.Edits.{sets};
 ghost use Rattle.io.specs.Counts.{IsPrefixLen};
 ghost use Rattle.stores.specs.Written.{Written};
@@ -88,24 +88,14 @@ pub fn read_line(text: &[u8], at: usize, out: &mut [u32]) -> Result<Numbers, Lin
     tell(out.len(), count, at.max(text.len()))
 }
 
-// A case: how many numbers it has, or 0 where it could not be read, and the place behind it.
-#[derive(Drop)]
-pub struct Case {
-    pub count: usize,
-    pub to: usize,
-}
-
-// Stores the numbers of the case at the place at.
-#[tactic(auto, using(crate::proofs::Counting::case_laws))]
-pub fn read_case(text: &[u8], at: usize, out: &mut [u32]) -> Case
-    ensures within { IsPrefixLen result.count out.new }
+// Stores the numbers of the case at the place at; None where it can't be read.
+#[tactic(auto, using(crate::proofs::Counting::case_read))]
+pub fn read_case(text: &[u8], at: usize, out: &mut [u32]) -> Option<Numbers>
+    ensures within { IfSome result (λ l. IsPrefixLen l.count out.new) }
     ensures case { result ≡ case_at (length out.old) text.now at }
     ensures stored { out.new ≡ sets out.old 0 (line_at text.now at).numbers }
 {
-    match read_line(text, at, out) {
-        Ok(Numbers { count, to }) => Case { count, to },
-        Err(_) => Case { count: 0, to: at },
-    }
+    read_line(text, at, out).ok()
 }
 
 // The list at the place at of a case: its length stands there, and its elements behind. Empty where the case is too short.
@@ -190,8 +180,11 @@ impl Tally {
         ensures begun { result ≡ begun text.now }
     {
         let mut cases = [0u32; 1];
-        let first = read_case(text, 0, &mut cases);
-        Tally::fresh(cases[0], first.to)
+        let to = match read_case(text, 0, &mut cases) {
+            Some(first) => first.to,
+            None => 0,
+        };
+        Tally::fresh(cases[0], to)
     }
 
     // One case more, before the place to; the number of one that differs is printed.

@@ -4,11 +4,10 @@ use mathlib.Core.Bool.{Bool, false, cond}
 use mathlib.Core.List.{List}
 use mathlib.Core.Path.{◌≡◌, sym, ◌∙◌, ap, ap₂}
 use borrow.Author.Rules.{rules}
-use borrow.Author.Tests.{eq-eqb, ne_eqb, lt-ltb, le-ltb, le-leb, lt-leb}
-use lib.Dec.{eqb, ltb, leb}
-use lib.ListN.{length, get_or, take}
+use borrow.Author.Tests.{eq-eqb, ne_eqb}
+use lib.Dec.{eqb}
+use lib.ListN.{length, take}
 use Rattle.determinize.specs.Sheets.{determinize_answer}
-use Rattle.epsilon.specs.Eliminate.{eliminate_answer}
 use Rattle.stores.specs.Written.{Written}
 use Rattle.output.specs.declared.Made.{Made}
 use Rattle.output.specs.Made.{output_of}
@@ -24,11 +23,8 @@ use Rattle.refusal.specs.declared.Refusal.{Refusal}
 use Rattle.refusal.specs.Outcome.{Outcome}
 use Rattle.replay.specs.Cases.{list_at, bytes_before}
 use Rattle.subautomaton.specs.Answer.{subautomaton_answer}
-use Rattle.totality.specs.Answers.{totalize_answer, complement_answer}
 use Rattle.replay_all.specs.Decided.{decided, subautomaton_of, subautomaton_case}
-use Rattle.replay_all.specs.Outcomes.{words, bytes, is_outcome, determinize_case, product_case, operation, operation_case, is_reading, parse_case}
-use Rattle.replay_all.specs.declared.operations.Operation.{Operation}
-use Rattle.replay_all.specs.declared.operations.Operation.TheVariants.{Totalize, Complement, EpsilonEliminate}
+use Rattle.replay_all.specs.Outcomes.{words, bytes, is_outcome, determinize_case, product_case, Operation, operation_case, is_reading, parse_case}
 use Rattle.replay_all.proofs.Bytes.{bytes_all}
 
 -- one sheet, or two
@@ -42,24 +38,10 @@ module _ (s x : List ℕ) (lx : x ≡ list_at s 0) (o l : List ℕ) (a : Result 
   unfolding product_case
   product_told y ly e p = p ∙ ap (is_outcome s (1 + length x + 1 + length y)) e ∙ rw (ly, lx)
 
--- the operation by its name
-module _ (k : Operation) (o l s t : List ℕ) (r : Outcome Lengths Outputs) where
-  pub operation_totalize : k ≡ Totalize → r ≡ outputs o l (totalize_answer 0 4294967295 s t o l) → r ≡ outputs o l (operation k s t o l)
-  unfolding operation
-  operation_totalize e p = p ∙ ap (λ (x : Operation). outputs o l (operation x s t o l)) (sym e)
-
-  pub operation_complement : k ≡ Complement → r ≡ outputs o l (complement_answer 0 4294967295 s t o l) → r ≡ outputs o l (operation k s t o l)
-  unfolding operation
-  operation_complement e p = p ∙ ap (λ (x : Operation). outputs o l (operation x s t o l)) (sym e)
-
-  pub operation_eliminate : k ≡ EpsilonEliminate → r ≡ outputs o l (eliminate_answer s t o l) → r ≡ outputs o l (operation k s t o l)
-  unfolding operation
-  operation_eliminate e p = p ∙ ap (λ (x : Operation). outputs o l (operation x s t o l)) (sym e)
-
 -- a sheet and its labels
 module _ (k : Operation) (s x y : List ℕ) (lx : x ≡ list_at s 0) (ly : y ≡ list_at s (1 + length x)) (n : ℕ) (q : n ≡ bytes_before (take 16642 y)) where
   operation_by : operation_case k s
-      ≡ cond (eqb n (length y)) (is_outcome s (1 + length x + 1 + length y) (outputs words bytes (operation k x y words bytes))) false
+      ≡ cond (eqb n (length y)) (is_outcome s (1 + length x + 1 + length y) (outputs words bytes (k x y words bytes))) false
   unfolding operation_case
   operation_by = rw (← lx, ← ly, ← q)
 
@@ -67,9 +49,9 @@ module _ (k : Operation) (s x y : List ℕ) (lx : x ≡ list_at s 0) (ly : y ≡
   operation_other h = sym (operation_by ∙ rw (ne_eqb n (length y) h))
 
   pub operation_told : n ≡ length y → (z m : List ℕ) → Written z 0 (take n y) m n → n ≤ length m → (o : Outcome Lengths Outputs) (b : Bool)
-      → o ≡ outputs words bytes (operation k x (take n m) words bytes) → b ≡ is_outcome s (1 + length x + 1 + length y) o → b ≡ operation_case k s
+      → o ≡ outputs words bytes (k x (take n m) words bytes) → b ≡ is_outcome s (1 + length x + 1 + length y) o → b ≡ operation_case k s
   operation_told h z m w g o b e p =
-      p ∙ ap (is_outcome s (1 + length x + 1 + length y)) (e ∙ ap (λ (v : List ℕ). outputs words bytes (operation k x v words bytes)) (bytes_all z m y n w h g))
+      p ∙ ap (is_outcome s (1 + length x + 1 + length y)) (e ∙ ap (λ (v : List ℕ). outputs words bytes (k x v words bytes)) (bytes_all z m y n w h g))
       ∙ sym (operation_by ∙ rw (eq-eqb n (length y) h))
 
 -- a text
@@ -113,10 +95,6 @@ module _ (s x f y g : List ℕ) (lx : x ≡ list_at s 0) (lf : f ≡ list_at s (
         ∙ sym (sub_by ∙ rw (eq-eqb n (length f) h, ← t, eq-eqb k (length g) i))
 
 pub ruleset call_laws = (determinize_told, product_told, rules)
-
-pub ruleset operation_laws = (operation_totalize, operation_complement, operation_eliminate, rules)
-
-pub ruleset operated_laws = (operation_other, operation_told, rules)
 
 pub ruleset parse_laws = (parse_other, parse_told, rules)
 

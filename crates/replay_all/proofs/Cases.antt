@@ -1,26 +1,25 @@
 -- Laws of the cases of a list: each agrees by its kind, and is counted.
-use Rattle.std.proofs.Common.{Result, Ok, Err}
+use Rattle.std.proofs.Common.{Option, Some, None, Result, Ok, Err}
+use Rattle.std.specs.Result.{result_ok}
 use Prim.Native.Nat.{ℕ, ◌-◌, ◌<◌}
 use mathlib.Core.Bool.{Bool}
-use mathlib.Core.List.{List}
+use mathlib.Core.List.{List, []}
 use mathlib.Core.Path.{◌≡◌, refl, sym, ◌∙◌, ap, subst}
 use native.Mathlib.Omega.{arith}
 use borrow.Author.Rules.{rules}
 use lib.ListN.{length, take, replicate, length-replicate}
 use lib.Seq.{sets, take_all}
-use Rattle.replay.specs.declared.Case.{Case}
 use Rattle.replay.specs.declared.Numbers.{Numbers}
 use Rattle.replay.specs.declared.LineFault.{LineFault}
 use Rattle.replay.specs.declared.Tally.{Tally}
-use Rattle.replay.specs.Counting.{case_of, case_at, begun, tallied}
+use Rattle.replay.specs.Counting.{case_at, count_of, behind_case, begun, tallied}
 use Rattle.replay.specs.Lines.{answer, line_at}
 use Rattle.replay.proofs.Lines.{LineStored, line_told, line_part}
 use Rattle.replay_all.specs.declared.ListKind.{ListKind}
 use Rattle.replay_all.specs.declared.ListKind.TheVariants as kind
-use Rattle.replay_all.specs.declared.operations.Operation.TheVariants.{Totalize, Complement, EpsilonEliminate}
 use Rattle.replay_all.specs.Decided.{sheet_case, labels_case, word_case, text_case, nfa_case, nonempty_case, equivalent_case, subautomaton_case}
 use Rattle.replay_all.specs.Rows.{closures_case}
-use Rattle.replay_all.specs.Outcomes.{determinize_case, product_case, operation_case, parse_case}
+use Rattle.replay_all.specs.Outcomes.{determinize_case, product_case, Totalize, Complement, EpsilonEliminate, operation_case, parse_case}
 use Rattle.replay_all.specs.Spans.{ranges_case}
 use Rattle.replay_all.specs.Spelling.{write_case}
 use Rattle.replay_all.specs.Verdicts.{EqualityCase}
@@ -126,29 +125,39 @@ pub ruleset agree_laws = (
 )
 
 -- the numbers of a case that was read into memory for so many
-part_at : (out s : List ℕ) (at room : ℕ) → length out ≡ room → take (case_at room s at).count (sets out 0 (line_at s at).numbers) ≡ take (case_at room s at).count (line_at s at).numbers
+part_at : (out s : List ℕ) (at room : ℕ) → length out ≡ room
+    → take (count_of (case_at room s at)) (sets out 0 (line_at s at).numbers) ≡ take (count_of (case_at room s at)) (line_at s at).numbers
 unfolding case_at
 part_at out s at room l = go (answer room at (line_at s at)) refl
   where
-    go : (r : Result Numbers LineFault) → r ≡ answer room at (line_at s at) → take (case_of at r).count (sets out 0 (line_at s at).numbers) ≡ take (case_of at r).count (line_at s at).numbers
+    go : (r : Result Numbers LineFault) → r ≡ answer room at (line_at s at)
+        → take (count_of (result_ok r)) (sets out 0 (line_at s at).numbers) ≡ take (count_of (result_ok r)) (line_at s at).numbers
     go (Ok v) e =
         let t : LineStored room at (line_at s at) v.count v.to = line_told room at v.count v.to (line_at s at) e in
         line_part room at v.count v.to out (line_at s at) t l ∙ sym (take_all v.count (line_at s at).numbers (omega (arith, t.count)))
     go (Err f) e = refl
 
-pub turned : (k : ListKind) (text m : List ℕ) (t u : Tally) (v : Case) (b : Bool) → v ≡ case_at 4096 text t.at → m ≡ sets (replicate 4096 0) 0 (line_at text t.at).numbers
-    → Agrees k (take v.count m) b → u ≡ tallied t v.to b → Turned k text t u
-turned k text m t u v b e f a p =
-    record {
-      agreement = b;
-      agrees = subst (λ (l : List ℕ). Agrees k l b) (ap (take v.count) f ∙ rw e (part_at (replicate 4096 0) text t.at 4096 (length-replicate {A = ℕ} 4096 0)) ∙ numbers) a;
-      is = p ∙ ap (λ (w : Case). tallied t w.to b) e;
-    }
-  where
-    numbers : take (case_at 4096 text t.at).count (line_at text t.at).numbers ≡ numbers_at text t.at
-    numbers = unfold numbers_at in refl
+module _ (k : ListKind) (text m : List ℕ) (t u : Tally) (b : Bool) (f : m ≡ sets (replicate 4096 0) 0 (line_at text t.at).numbers) where
+  turned : (v : Option Numbers) → v ≡ case_at 4096 text t.at → Agrees k (take (count_of v) m) b → u ≡ tallied t (behind_case t.at v) b → Turned k text t u
+  turned v e a p =
+      record {
+        agreement = b;
+        agrees =
+            subst (λ (l : List ℕ). Agrees k l b)
+            (ap (take (count_of v)) f ∙ rw e (part_at (replicate 4096 0) text t.at 4096 (length-replicate {A = ℕ} 4096 0)) ∙ numbers) a;
+        is = p ∙ ap (λ (w : Option Numbers). tallied t (behind_case t.at w) b) e;
+      }
+    where
+      numbers : take (count_of (case_at 4096 text t.at)) (line_at text t.at).numbers ≡ numbers_at text t.at
+      numbers = unfold numbers_at in refl
 
-pub ruleset turn_laws = (turned, rules)
+  pub turned_read : (l : Numbers) → Some l ≡ case_at 4096 text t.at → Agrees k (take l.count m) b → u ≡ tallied t l.to b → Turned k text t u
+  turned_read l = turned (Some l)
+
+  pub turned_none : None ≡ case_at 4096 text t.at → Agrees k [] b → u ≡ tallied t t.at b → Turned k text t u
+  turned_none = turned None
+
+pub ruleset turn_laws = (turned_read, turned_none, rules)
 
 -- the cases so far
 pub counted_none : (k : ListKind) (text : List ℕ) (t : Tally) → t ≡ begun text → Counted k text t

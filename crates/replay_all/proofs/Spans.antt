@@ -10,7 +10,7 @@ use Rattle.automata.proofs.Records.{read_write}
 use Rattle.labels.specs.Labels.{same_label}
 use Rattle.stores.specs.Written.{Written}
 use Rattle.lists.proofs.Parts.{drop_at, sets_append}
-use Rattle.stores.proofs.Written.{written_none, written_append, written_cons}
+use Rattle.stores.proofs.Written.{written_append, written_cons}
 use Rattle.ranges.specs.Missing.{missing}
 use Rattle.ranges.specs.inner.Missing.{span_words}
 use Rattle.ranges.specs.Span.{Span, span_of, intersect_ranges, overlapping}
@@ -20,7 +20,7 @@ use Rattle.replay.specs.Cases.{list_at}
 use Rattle.sheets.specs.Checked.{checked_number}
 use Rattle.sheets.specs.Fault.{fault}
 use Rattle.sheets.specs.Sheet.{read}
-use Rattle.sheets.proofs.Checking.{refused_some}
+use Rattle.sheets.proofs.Checking.{refused_some, start_short}
 use Rattle.replay_all.specs.Spans.{is_ends, common_case, records, range_sheet, is_bit, are_spans, is_holes, holes_case, ranges_case}
 use Rattle.replay_all.proofs.Outcomes.{same_test}
 
@@ -108,10 +108,6 @@ ranges_ended old s ps first to at e d h =
     record { stored = ap (sets s at) (sym z) ∙ e; behind = let k = ap length z in omega (arith, d) }
 
 -- the sheet of ranges
-pub sheet_long : (s ps : List ℕ) → 128 < length ps → Written s 0 (range_sheet ps) s 0
-unfolding range_sheet
-sheet_long s ps h = rw (lt-ltb 128 (length ps) h) (written_none s 0)
-
 pub sheet_written : (s s₁ s₂ s₃ s₄ ps : List ℕ) (a c f r : ℕ) → length ps ≤ 128 → Written s 0 (1 ∷ 0 ∷ 64 ∷ []) s₁ a → Written s₁ a (replicate 64 0) s₂ c
     → Written s₂ c (length ps / 2 ∷ []) s₃ f → Written s₃ f (records 0 ps) s₄ r → Written s 0 (range_sheet ps) s₄ r
 unfolding range_sheet
@@ -132,7 +128,10 @@ pub sheet_within : (s s₁ s₂ s₃ s₄ ps : List ℕ) (a c f r : ℕ) → len
     → Written s₂ c (length ps / 2 ∷ []) s₃ f → Written s₃ f (records 0 ps) s₄ r → r ≤ 388
 sheet_within s s₁ s₂ s₃ s₄ ps a c f r h w₁ w₂ w₃ w₄ = omega (arith, (sheet_written s s₁ s₂ s₃ s₄ ps a c f r h w₁ w₂ w₃ w₄).behind, sheet_short ps)
 
-pub ruleset sheet_laws = (sheet_long, sheet_written, sheet_within, rules)
+-- over 64 ranges have no sheet
+pub holes_many : (s x : List ℕ) → x ≡ list_at s 1 → 128 < length x → false ≡ holes_case s
+unfolding holes_case range_sheet
+holes_many s x lx h = sym (rw (← lx, lt-ltb 128 (length x) h, ← start_short [] (omega arith)))
 
 module _ (s x m : List ℕ) (lx : x ≡ list_at s 1) (n : ℕ) (w : Written (replicate 388 0) 0 (range_sheet x) m n) where
   holes_sheet : take (n - 0) m ≡ range_sheet x
@@ -155,8 +154,6 @@ module _ (s x m : List ℕ) (lx : x ≡ list_at s 1) (n : ℕ) (w : Written (rep
         let z : is_holes s (2 + length x) (ranges_of (leaving (read (range_sheet x)) 0)) ≡ is_holes s (2 + length (list_at s 1)) (ranges_of (leaving (read (range_sheet (list_at s 1))) 0)) = rw lx in
         p ∙ ap (λ (v : List ℕ). is_holes s (2 + length x) (ranges_of (leaving (read v) 0))) holes_sheet ∙ z
         ∙ sym (rw (eq-eqb (fault (range_sheet (list_at s 1))) 0 (holes_fault ∙ ap checked_number e)))
-
-pub ruleset holes_laws = (holes_refused, holes_told, rules)
 
 -- the holes that were found
 module _ (l : List ℕ) (hs : List Span) (n : ℕ) (e : n ≡ length hs) where

@@ -1,14 +1,13 @@
 -- Which cases agree, by their kind, and the count of those of a list.
 use Rattle.std.specs.Prelude.{ℕ, ◌<◌, Bool, List, ◌≡◌, take}
 use Rattle.replay.specs.declared.Tally.{Tally}
-use Rattle.replay.specs.Counting.{case_at, begun, tallied}
+use Rattle.replay.specs.Counting.{case_at, count_of, behind_case, begun, tallied}
 use Rattle.replay.specs.Lines.{line_at}
 use Rattle.replay_all.specs.declared.ListKind.{ListKind}
 use Rattle.replay_all.specs.declared.ListKind.TheVariants as kind
-use Rattle.replay_all.specs.declared.operations.Operation.TheVariants.{Totalize, Complement, EpsilonEliminate}
 use Rattle.replay_all.specs.Decided.{sheet_case, labels_case, word_case, text_case, nfa_case, nonempty_case, equivalent_case, subautomaton_case}
 use Rattle.replay_all.specs.Rows.{closures_case}
-use Rattle.replay_all.specs.Outcomes.{determinize_case, product_case, operation_case, parse_case}
+use Rattle.replay_all.specs.Outcomes.{determinize_case, product_case, Totalize, Complement, EpsilonEliminate, operation_case, parse_case}
 use Rattle.replay_all.specs.Spans.{ranges_case}
 use Rattle.replay_all.specs.Spelling.{write_case}
 use Rattle.replay_all.specs.Verdicts.{EqualityCase}
@@ -36,13 +35,13 @@ Agrees kind.Equality s r = EqualityCase s r
 
 -- the numbers of the case at a place: at most 4,096, and none where it could not be read
 unfoldable pub numbers_at : List ℕ → ℕ → List ℕ
-numbers_at text at = take (case_at 4096 text at).count (line_at text at).numbers
+numbers_at text at = take (count_of (case_at 4096 text at)) (line_at text at).numbers
 
 -- the tally u after t with the case at its place
 pub record Turned (k : ListKind) (text : List ℕ) (t u : Tally) : Type 0 where
   pub agreement : Bool
   pub agrees : Agrees k (numbers_at text t.at) agreement
-  pub is : u ≡ tallied t (case_at 4096 text t.at).to agreement
+  pub is : u ≡ tallied t (behind_case t.at (case_at 4096 text t.at)) agreement
 
 -- the tally after some cases of the text
 pub data Counted (k : ListKind) (text : List ℕ) : Tally → Type 0 where

@@ -1,19 +1,21 @@
 -- Cases of operations: the inputs, then the refusal's number, or 0 and the sheet and the labels of the result as lists.
-use Rattle.std.specs.Prelude.{ℕ, ◌+◌, Bool, false, cond, List, eqb, leb, ltb, length, get_or, take, replicate}
+use Rattle.std.specs.Borrow.{Bor, MutBor}
+use Rattle.std.specs.Prelude.{◌≡◌, ℕ, ◌+◌, Bool, false, cond, Result, List, eqb, leb, ltb, length, get_or, take, replicate}
 use Rattle.determinize.specs.Sheets.{determinize_answer}
 use Rattle.epsilon.specs.Eliminate.{eliminate_answer}
 use Rattle.labels.specs.Labels.{same_label}
+use Rattle.output.specs.declared.Made.{Made}
+use Rattle.output.specs.Made.{output_of}
 use Rattle.output.specs.Output.{Pattern, Lengths, Outputs, outputs}
 use Rattle.parser.specs.Parsed.{ReadLengths, parsed}
 use Rattle.parser.specs.Pattern.{parse_answer}
 use Rattle.product.specs.Product.{intersection_answer}
+use Rattle.refusal.specs.declared.Refusal.{Refusal}
 use Rattle.refusal.specs.Answer.{Answer, refused, given}
 use Rattle.refusal.specs.Outcome.{Outcome}
 use Rattle.replay.specs.Cases.{list_at, is_last}
 use Rattle.totality.specs.Answers.{totalize_answer, complement_answer}
 use Rattle.replay_all.specs.Parts.{behind_list, are_bytes}
-use Rattle.replay_all.specs.declared.operations.Operation.{Operation}
-use Rattle.replay_all.specs.declared.operations.Operation.TheVariants.{Totalize, Complement, EpsilonEliminate}
 
 -- the words and the bytes stand in the case as two lists from the place on, and nothing behind them
 unfoldable pub is_listed : List ℕ → ℕ → List ℕ → List ℕ → Bool
@@ -54,17 +56,30 @@ unfoldable pub product_case : List ℕ → Bool
 product_case s =
     is_outcome s (behind_list s (behind_list s 0)) (outputs words bytes (intersection_answer (list_at s 0) (list_at s (behind_list s 0)) words bytes))
 
--- the operations that keep labels
-unfoldable pub operation : Operation → List ℕ → List ℕ → List ℕ → List ℕ → Answer Pattern
-operation Totalize s b o l = totalize_answer 0 4294967295 s b o l
-operation Complement s b o l = complement_answer 0 4294967295 s b o l
-operation EpsilonEliminate s b o l = eliminate_answer s b o l
+-- an operation that keeps labels: what it answers for a sheet, its labels and the outputs that are lent
+abbrev pub Operation : Type 0
+Operation = List ℕ → List ℕ → List ℕ → List ℕ → Answer Pattern
+
+abbrev pub Totalize : Operation
+Totalize = totalize_answer 0 4294967295
+
+abbrev pub Complement : Operation
+Complement = complement_answer 0 4294967295
+
+abbrev pub EpsilonEliminate : Operation
+EpsilonEliminate = eliminate_answer
+
+-- each call of a function whose calls meet `post` has the outcome of the operation
+abbrev pub Performs : (Bor (List ℕ) → Bor (List ℕ) → MutBor (List ℕ) → MutBor (List ℕ) → Result Made Refusal → MutBor (List ℕ) → MutBor (List ℕ) → Type 0) → Operation → Type 0
+Performs post op =
+    (s b : Bor (List ℕ)) (o l : MutBor (List ℕ)) (r : Result Made Refusal) (o' l' : MutBor (List ℕ)) → post s b o l r o' l'
+    → output_of r o'.now l'.now ≡ outputs o.now l.now (op s.now b.now o.now l.now)
 
 -- a sheet, its labels, then the outcome of the operation
 unfoldable pub operation_case : Operation → List ℕ → Bool
 operation_case o s =
     cond (are_bytes 16642 (list_at s (behind_list s 0)))
-    (is_outcome s (behind_list s (behind_list s 0)) (outputs words bytes (operation o (list_at s 0) (list_at s (behind_list s 0)) words bytes)))
+    (is_outcome s (behind_list s (behind_list s 0)) (outputs words bytes (o (list_at s 0) (list_at s (behind_list s 0)) words bytes)))
     false
 
 -- the answer of the pattern reader with its outputs ws and bs stands in the case from the place on: behind the 0 the number of bytes read

@@ -92,16 +92,19 @@ fn agrees(kind: ListKind, case: &[u32]) -> bool
     }
 }
 
-// Replays the next case.
+// Replays the next case. One that can't be read has no numbers, and its place stays.
+#[tactic(auto, using(crate::proofs::Cases::turn_laws))]
 fn turn(kind: ListKind, text: &[u8], t: Tally) -> Tally
     requires { (0 < t.left) × Bounded t }
     ensures bounded { Bounded result }
     ensures turned { Turned kind text.now t result }
 {
     let mut case = [0u32; 4096];
-    let read = replay::read_case(text, t.at, &mut case);
-    let n = read.count;
-    t.counted(read.to, agrees(kind, &case[..n]))
+    let at = t.at;
+    match replay::read_case(text, at, &mut case) {
+        Some(read) => t.counted(read.to, agrees(kind, &case[..read.count])),
+        None => t.counted(at, agrees(kind, &[])),
+    }
 }
 
 // Replays as many cases as the list announces.

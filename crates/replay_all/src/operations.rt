@@ -2,10 +2,8 @@
 // result as lists.
 ghost use Rattle.std.specs.Prelude.{◌≡◌};
 ghost use Rattle.output.specs.Made.{output_of};
-ghost use Rattle.output.specs.Output.{outputs};
 ghost use Rattle.parser.specs.Parsed.{parsed_of};
-ghost use Rattle.replay_all.specs.Outcomes.{is_listed, is_built, is_outcome, determinize_case, product_case, operation, operation_case, is_reading, parse_case};
-ghost use Rattle.replay_all.specs.declared.operations.Operation.TheVariants.{Totalize, Complement, EpsilonEliminate};
+ghost use Rattle.replay_all.specs.Outcomes.{is_listed, is_built, is_outcome, determinize_case, product_case, Operation, Totalize, Complement, EpsilonEliminate, Performs, operation_case, is_reading, parse_case};
 
 use output::Made;
 use parser::Parsed;
@@ -91,33 +89,13 @@ pub fn intersected(case: &[u32]) -> bool
     outcome(case, second + 1 + b.len(), made, &out, &names)
 }
 
-// The operations that keep labels.
-#[derive(Drop)]
-enum Operation {
-    Totalize,
-    Complement,
-    EpsilonEliminate,
-}
-
-fn made_by(
-    o: Operation,
-    sheet: &[u32],
-    labels: &[u8],
-    out: &mut [u32],
-    names: &mut [u8],
-) -> Result<Made, Refusal>
-    ensures { output_of result out.new names.new ≡ outputs out.old names.old (operation o sheet.now labels.now out.old names.old) }
-{
-    match o {
-        Operation::Totalize => totality::totalize(sheet, labels, out, names),
-        Operation::Complement => totality::complement(sheet, labels, out, names),
-        Operation::EpsilonEliminate => epsilon::epsilon_eliminate(sheet, labels, out, names),
-    }
-}
-
-// The sheet, the labels as a list of bytes, then the outcome of the operation.
-fn operated(o: Operation, case: &[u32]) -> bool
-    ensures { result ≡ operation_case o case.now }
+// The sheet, the labels as a list of bytes, then the outcome of an operation that keeps labels.
+fn operated<F: FnOnce(&[u32], &[u8], &mut [u32], &mut [u8]) -> Result<Made, Refusal>>(
+    make: F,
+    case: &[u32],
+) -> bool
+    requires { F.IsAlwaysCallable make }
+    ensures { (o : Operation) → Performs (F.post make) o → result ≡ operation_case o case.now }
 {
     let sheet = replay::list(case, 0);
     let second = 1 + sheet.len();
@@ -129,26 +107,26 @@ fn operated(o: Operation, case: &[u32]) -> bool
     }
     let mut out = [0u32; 10500];
     let mut names = [0u8; 16642];
-    let made = made_by(o, sheet, &labels[..k], &mut out, &mut names);
+    let made = make(sheet, &labels[..k], &mut out, &mut names);
     outcome(case, second + 1 + list.len(), made, &out, &names)
 }
 
 pub fn totalized(case: &[u32]) -> bool
     ensures { result ≡ operation_case Totalize case.now }
 {
-    operated(Operation::Totalize, case)
+    operated(totality::totalize, case)
 }
 
 pub fn complemented(case: &[u32]) -> bool
     ensures { result ≡ operation_case Complement case.now }
 {
-    operated(Operation::Complement, case)
+    operated(totality::complement, case)
 }
 
 pub fn epsilon_eliminated(case: &[u32]) -> bool
     ensures { result ≡ operation_case EpsilonEliminate case.now }
 {
-    operated(Operation::EpsilonEliminate, case)
+    operated(epsilon::epsilon_eliminate, case)
 }
 
 // Whether the outcome of reading a text stands in the case from at on: the refusal's number, or 0, the number of bytes read, the sheet and

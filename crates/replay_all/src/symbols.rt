@@ -1,5 +1,5 @@
 // Cases of ranges: what two have in common, or whether the ranges of a state overlap and the holes that they leave.
-ghost use Rattle.std.specs.Prelude.{◌≡◌, ◌+◌, ◌*◌, ◌≤◌, length};
+ghost use Rattle.std.specs.Prelude.{◌≡◌, ◌+◌, ◌*◌, ◌<◌, ◌≤◌, IfSome, IfNone, length};
 ghost use Rattle.automata.specs.Automaton.{leaving, ranges_of};
 ghost use Rattle.automata.specs.Records.{read_records};
 ghost use Rattle.stores.specs.Written.{Written};
@@ -69,29 +69,33 @@ fn put_ranges(pairs: &[u32], sheet: &mut [u32], first: usize) -> usize
     at
 }
 
-// Stores a sheet of 64 states that has the given ranges; answers its length, or 0 where there are over 64 ranges.
-fn put_sheet(pairs: &[u32], sheet: &mut [u32]) -> usize
+// Stores a sheet of 64 states that has the given ranges; answers its length, or None where there are over 64 ranges.
+fn put_sheet(pairs: &[u32], sheet: &mut [u32]) -> Option<usize>
     requires { 388 ≤ length sheet.old }
-    ensures within { result ≤ 388 }
-    ensures written { Written sheet.old 0 (range_sheet pairs.now) sheet.new result }
+    ensures within { IfSome result (λ n. n ≤ 388) }
+    ensures written { IfSome result (λ n. Written sheet.old 0 (range_sheet pairs.now) sheet.new n) }
+    ensures many { IfNone result ((128 < length pairs.now) × (sheet.new ≡ sheet.old)) }
 {
     if 128 < pairs.len() {
-        return 0;
+        return None;
     }
     let none = [0u32; 64];
     let accepts = output::put_start(sheet, 0, 64);
     let count = stores::put_all(sheet, accepts, &none);
     let first = stores::put(sheet, count, (pairs.len() / 2) as u32);
-    put_ranges(pairs, sheet, first)
+    Some(put_ranges(pairs, sheet, first))
 }
 
 // The ranges as firsts and lasts in turn, then whether they overlap, then the holes that they leave.
+#[tactic(auto, using(crate::proofs::Spans::holes_many))]
 fn holes(case: &[u32]) -> bool
     ensures { result ≡ holes_case case.now }
 {
     let pairs = replay::list(case, 1);
     let mut words = [0u32; 388];
-    let n = put_sheet(pairs, &mut words);
+    let Some(n) = put_sheet(pairs, &mut words) else {
+        return false;
+    };
     let sheet = &words[0..n];
     match sheets::check(sheet) {
         Ok(()) => holes_of(sheet, case, 2 + pairs.len()),

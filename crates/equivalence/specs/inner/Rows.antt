@@ -1,7 +1,7 @@
 -- For inner contracts. Transitions in order stand in rows of one trigger each: the first of each row.
-use Rattle.std.specs.Prelude.{ℕ, ◌+◌, ◌<◌, ◌≤◌, cond, List, [], ◌∷◌, ◌≡◌, length, drop}
+use Rattle.std.specs.Prelude.{ℕ, ◌+◌, ◌<◌, ◌≤◌, cond, List, [], ◌∷◌, ◌≡◌, length, get_or, drop}
 use Rattle.automata.specs.Automaton.{Transition}
-use Rattle.automata.specs.Records.{read_records}
+use Rattle.automata.specs.inner.Chunks.{records_of}
 use Rattle.automata.specs.inner.Records.{record_at}
 use Rattle.automata.specs.WellFormed.{Lex}
 use Rattle.equivalence.specs.Triggers.{same_trigger}
@@ -24,8 +24,8 @@ leaders (d ∷ ds) = d ∷ leaders_behind d ds
 abbrev pub Lower : Transition → Transition → Type 0
 Lower d e = Lex (d.kind ∷ d.first ∷ d.last ∷ []) (e.kind ∷ e.first ∷ e.last ∷ [])
 
--- r is the place behind the row of the record at `at`
-pub record RowEnd (run : List ℕ) (at r : ℕ) : Type 0 where
+-- r is the place behind the row of record `at` of rs
+pub record RowEnd (rs : List (List ℕ)) (at r : ℕ) : Type 0 where
   pub onward : at < r
-  pub inside : r ≤ length run
-  pub rest : read_records (drop r run) ≡ behind_row (record_at run at) (read_records (drop (at + 5) run))
+  pub inside : r ≤ length rs
+  pub rest : records_of (drop r rs) ≡ behind_row (record_at (get_or rs at []) 0) (records_of (drop (at + 1) rs))

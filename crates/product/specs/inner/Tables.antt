@@ -1,5 +1,5 @@
 -- For inner contracts. What the code holds of the table of pairs: a queue in which a pair is one word, and a table of the numbers of these words.
-use Rattle.std.specs.Prelude.{ℕ, ◌/◌, ◌%◌, ◌≤◌, ◌<◌, Bool, true, false, cond, not, ◌||◌, List, [], ◌∷◌, ◌++◌, map, ◌≡◌, eqb, ltb, length, get_or, take}
+use Rattle.std.specs.Prelude.{ℕ, ◌/◌, ◌%◌, ◌≤◌, ◌<◌, Bool, true, false, cond, not, ◌||◌, Option, Some, None, List, [], ◌∷◌, ◌++◌, map, ◌≡◌, eqb, ltb, length, get_or, take}
 use Rattle.lists.specs.Lists.{◌∈◌, any, Ascending, Distinct}
 use Rattle.automata.specs.Automaton.{Transition, Automaton, has_epsilon}
 use Rattle.automata.specs.WellFormed.{most_states}
@@ -14,6 +14,10 @@ pair_of c = record { left = c / 256; right = c % 256 }
 -- the table of the first n words of the queue
 unfoldable pub table_of : List ℕ → ℕ → List Pair
 table_of queue n = map pair_of (take n queue)
+
+-- the number of a pair of the table, if it is there
+unfoldable pub number_in : List Pair → Pair → Option ℕ
+number_in T p = cond (ltb (place_in T p) (length T)) (Some (place_in T p)) None
 
 -- the entries for which the queue has room: one more than there may be
 unfoldable pub capped : List Pair → List Pair
