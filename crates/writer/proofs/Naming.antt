@@ -1,6 +1,6 @@
 -- Whether labels are names and no two are equal: the laws of the loop over one label, and of the loop that adds labels to a table.
 use Prim.Native.Nat.{ℕ, suc, ◌+◌, ◌-◌, ◌≤◌, ◌<◌}
-use mathlib.Core.Bool.{Bool, true, false, not, ◌&&◌, and-true, and-false}
+use mathlib.Core.Bool.{Bool, true, false, not, and-true, and-false}
 use mathlib.Core.List.Memᴰ
 use mathlib.Core.List.{List, [], ◌∷◌, ◌++◌}
 use mathlib.Core.Logic.{⊎_elim}
@@ -15,6 +15,7 @@ use lib.Dec.{ltb}
 use lib.ListN.{length, get_or, take, drop, length-append}
 use lib.Seq.{take_all, split_at}
 use Rattle.lists.specs.Lists.{◌∈◌, any, all, tabulate, Distinct, none, more}
+use Rattle.lists.proofs.Chains.{all_listed}
 use Rattle.lists.proofs.Every.{all_out}
 use Rattle.lists.proofs.Index.{same_equal, equal_same, same_decides, index_in}
 use Rattle.lists.proofs.Lists.{any_out, any_in, map_append}
@@ -63,17 +64,12 @@ module _ (l : List ℕ) (r : Bool) (e : r ≡ is_letter (get_or l 0 0)) where
   name_begin : 1 ≤ length l → length l ≤ 64 → not r ≡ false → is_name l ≡ all is_name_byte (drop 1 l)
   name_begin h g t = letter l (sym e ∙ not-false r t) h g
 
-each : (f : ℕ → Bool) (l : List ℕ) → list_all f l ≡ all f l
-unfolding all
-each f [] = refl
-each f (b ∷ l) = ap (λ (y : Bool). f b && y) (each f l)
-
 -- the bytes behind the first decide
 pub name_rest : (l : List ℕ) (r : Bool) → r ≡ is_letter (get_or l 0 0) → 1 ≤ length l → length l ≤ 64 → not r ≡ false
     → (y : Bool) → y ≡ list_all is_name_byte (take (length l - 1) (drop 1 l)) → y ≡ is_name l
 name_rest l r e h g t y k =
     let all_of : take (length l - 1) (drop 1 l) ≡ drop 1 l = take_rest l 1 in
-    k ∙ ap (list_all is_name_byte) all_of ∙ each is_name_byte (drop 1 l) ∙ sym (name_begin l r e h g t)
+    k ∙ ap (list_all is_name_byte) all_of ∙ all_listed is_name_byte (drop 1 l) ∙ sym (name_begin l r e h g t)
 
 pub ruleset name_laws = (name_empty, name_long, name_first, rules)
 
