@@ -74,15 +74,15 @@ module _ (t : List ℕ) (k : ℕ) where
       let z : length (read_records t) - k ≡ 0 = sym (length-drop k (read_records t)) ∙ ap length (sym (read_drop k t) ∙ records_end t (5 * k) h) in
       omega arith
 
-  ends_bound : Named 256 (read_records t) → 5 ≤ length t - 5 * k → get_or t (5 * k) 0 < 256
+  pub ends_bound : Named 256 (read_records t) → 5 ≤ length t - 5 * k → get_or t (5 * k) 0 < 256
   ends_bound n h = n.froms (record_at t (5 * k)) (drop_mem k (read_records t) _ _ (record_k h))
 
   module _ (ends : List ℕ) (e : RunEnds t ends k) where
-    ends_ended : length t - 5 * k < 5 → RunEnds t ends (length (read_records t))
+    pub ends_ended : length t - 5 * k < 5 → RunEnds t ends (length (read_records t))
     ends_ended h = record { long = e.long; most = e.most; least = λ j l. e.least j (omega (arith, records_few h)) }
 
     -- the number behind record k
-    ends_next : Rising (read_records t) → Named 256 (read_records t) → 5 ≤ length t - 5 * k → RunEnds t (set ends (get_or t (5 * k) 0 + 1) (k + 1)) (k + 1)
+    pub ends_next : Rising (read_records t) → Named 256 (read_records t) → 5 ≤ length t - 5 * k → RunEnds t (set ends (get_or t (5 * k) 0 + 1) (k + 1)) (k + 1)
     ends_next up n h =
         record {
           long = length-set ends _ (k + 1) ∙ e.long;

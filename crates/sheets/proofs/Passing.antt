@@ -154,3 +154,7 @@ module _ (n : ℕ) (rs : List (List ℕ)) (from at : ℕ) (p : PassedBelow n rs 
           good = good;
           same = λ l. p.same (lower l) ∙ behind_next n rs at h (nothing l);
         }
+
+-- what passes behind records that pass
+pub pass_further : (n : ℕ) (rs : List (List ℕ)) (from far to : ℕ) → PassedBelow n rs from far → get_or (get_or rs far []) 0 0 < n → Passed n rs far to → Passed n rs from to
+pass_further n rs from far to p l q = record { further = omega (arith, p.further, q.further); within = q.within; same = p.same l ∙ q.same }
