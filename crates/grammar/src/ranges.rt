@@ -28,7 +28,8 @@ fn number(text: &[u8], c: Cursor) -> Option<(u32, Cursor)>
             return digits_read(start, at, v);
         }
         v = decimal::with_digit(v, b);
-        if 4294967295 < v {
+        let too_large = 4294967295 < v;
+        if too_large {
             return None;
         }
     }

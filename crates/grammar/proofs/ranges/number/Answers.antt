@@ -5,8 +5,8 @@ use Rattle.grammar.proofs.ranges.number.Goals as goal
 pub returns-then-not-is_digit : goal.returns-then-not-is_digit
 returns-then-not-is_digit c = search number_laws
 
-pub returns-then-v-gt4294967295 : goal.returns-then-v-gt4294967295
-returns-then-v-gt4294967295 c = search number_laws
+pub returns-then-too_large : goal.returns-then-too_large
+returns-then-too_large c = search number_laws
 
 pub loop-at-preserved : goal.loop-at-preserved
 loop-at-preserved c = search number_laws
