@@ -14,7 +14,7 @@ ghost use Rattle.determinize.specs.inner.Attempts.{TableResultWithRoom, SetNumbe
 use crate::MOST_STATES;
 use crate::exploring::{SetCounts, SetEntry};
 use ranges::Ends;
-use sweep::{EventKind, Turn};
+use sweep::Turn;
 
 // Whether row j is one of the first n of the table and is the set.
 fn is_row(table: &[u64], n: usize, set: &[u64], j: usize, compared: &mut u64) -> bool
@@ -259,8 +259,8 @@ pub fn explore_by_events(
 {
     let mut opens = [0u32; 2048];
     let mut ends = [0u32; 2048];
-    let opened = sweep::order_events(EventKind::Opening, s, &mut opens, notes);
-    let ended = sweep::order_events(EventKind::Ending, s, &mut ends, notes);
+    let opened = sweep::order_events(0, s, &mut opens, notes);
+    let ended = sweep::order_events(1, s, &mut ends, notes);
     explore_swept(
         s,
         starts,

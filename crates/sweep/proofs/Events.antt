@@ -34,6 +34,9 @@ number_opening kind e = ap event_number e
 pub number_ending : (kind : EventKind) → kind ≡ Ending → event_number kind ≡ 1
 number_ending kind e = ap event_number e
 
+pub number_other : (kind : EventKind) → kind ≡ Ending → event_number kind ≡ 0 → ⊥
+number_other kind e z = omega (arith, number_ending kind e, z)
+
 -- record i of the sheet is a range
 abbrev IsRange : List ℕ → ℕ → Type 0
 IsRange s i = eqb (get_or s (records_at s + 5 * i + 1) 0) 1 ≡ true

@@ -7,7 +7,7 @@ use mathlib.Core.Logic.{inl, inr}
 use mathlib.Core.Path.{◌≡◌, refl, sym, ◌∙◌, ap, subst}
 use native.Mathlib.Omega.{arith}
 use borrow.Author.Rules.{rules}
-use borrow.Author.Tests.{lt-leb, le-leb}
+use borrow.Author.Tests.{lt-leb, le-leb, ne_eqb}
 use lib.ListN.{length, get_or, drop, length-set, replicate}
 use Rattle.lists.specs.Lists.{◌∈◌}
 use Rattle.lists.proofs.Parts.{drop_at}
@@ -26,7 +26,7 @@ use Rattle.sweep.specs.inner.Tree.{Tree, leaf, LeafSet}
 use Rattle.sweep.specs.inner.Sweep.{Passes}
 use Rattle.sweep.specs.inner.Passing.{row, Passing, Stopped, RangeNoted, over, known, longer, begun, Closes, held, empty, cut_at}
 use Rattle.automata.proofs.Records.{record_in}
-use Rattle.sweep.proofs.Events.{number_opening, number_ending}
+use Rattle.sweep.proofs.Events.{number_opening, number_other}
 use Rattle.sweep.proofs.Sweep.{opening_past, opening_noted, ending_other, ending_held, ending_gone}
 
 -- `fill`, `open` and `close`
@@ -163,11 +163,11 @@ module _ (k : ℕ) (s : List ℕ) (i q f l d : ℕ) (e : RangeAt s i q f l d) wh
   unfolding event_at event
   symbol_opening z = rw z e.is_first_lem
 
-  pub symbol_ending : k ≡ 1 → l ≡ (event_at k s i).from
+  pub symbol_ending : (k ≡ 0 → ⊥) → l ≡ (event_at k s i).from
   unfolding event_at event
-  symbol_ending z = rw z e.is_last
+  symbol_ending n = rw (ne_eqb k 0 n) e.is_last
 
-pub ruleset symbol_laws = (symbol_opening, symbol_ending, number_opening, number_ending, rules)
+pub ruleset symbol_laws = (symbol_opening, symbol_ending, number_opening, number_other, rules)
 
 module _ (k : ℕ) (s ev : List ℕ) (at top : ℕ) where
   pub cut_end : length ev ≤ at → top ≡ cut_at k s ev at top

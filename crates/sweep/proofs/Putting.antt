@@ -1,11 +1,11 @@
 -- The laws by which the events of a sheet are put down and put in order.
-use Prim.Native.Nat.{ℕ, suc, ◌+◌, ◌-◌, ◌*◌, ◌/◌, ◌≤◌, ◌<◌}
+use Prim.Native.Nat.{ℕ, zero, suc, ◌+◌, ◌-◌, ◌*◌, ◌/◌, ◌≤◌, ◌<◌}
 use mathlib.Core.Bool.{Bool, true, false, cond, not}
 use mathlib.Core.List.{List, [], ◌∷◌, ◌++◌, map}
-use mathlib.Core.Path.{◌≡◌, refl, sym, ◌∙◌, ap, subst}
+use mathlib.Core.Path.{◌≡◌, refl, sym, ◌∙◌, ap, ap₂, subst}
 use native.Mathlib.Omega.{arith}
 use borrow.Author.Rules.{rules}
-use borrow.Author.Tests.{not-true, not-false}
+use borrow.Author.Tests.{ne_eqb, not-true, not-false}
 use lib.Dec.{eqb}
 use lib.ListN.{length, get_or, take, drop, replicate, length-map, length-replicate}
 use lib.Seq.{sets-eq, take-append_seam}
@@ -31,7 +31,7 @@ use Rattle.output.proofs.Heads.{listed_in}
 use Rattle.sheets.specs.Sheet.{records_at}
 use Rattle.sheets.specs.inner.Accepted.{record_count, Accepted}
 use Rattle.sweep.specs.inner.Events.{RangeAt, event, event_at, event_of, events_from, events, Timed}
-use Rattle.sweep.proofs.Events.{number_opening, number_ending, events_out, length_events}
+use Rattle.sweep.proofs.Events.{number_opening, number_other, events_out, length_events}
 
 -- `range_of` and `is_range`
 module _ (s : List ℕ) (i o : ℕ) (f : o ≡ records_at s + 5 * i) where
@@ -65,10 +65,10 @@ module _ (k : ℕ) (s : List ℕ) (i : ℕ) (out : List ℕ) (at : ℕ) (b : Boo
       pub event_opens : k ≡ 0 → x ≡ f → Written out at (write_records (event_of k s i)) m y
       event_opens z e = rw (words, z) (rw e at w)
 
-      pub event_ends : k ≡ 1 → x ≡ l → Written out at (write_records (event_of k s i)) m y
-      event_ends z e = rw (words, z) (rw e at w)
+      pub event_ends : (k ≡ 0 → ⊥) → x ≡ l → Written out at (write_records (event_of k s i)) m y
+      event_ends z e = rw (words, ne_eqb k 0 z) (rw e at w)
 
-pub ruleset event_laws = (event_not, event_room, event_opens, event_ends, number_opening, number_ending, rules)
+pub ruleset event_laws = (event_not, event_room, event_opens, event_ends, number_opening, number_other, rules)
 
 few : (k : ℕ) (s : List ℕ) → Accepted s → length (write_records (events k s)) ≤ 10240
 unfolding events
@@ -196,3 +196,33 @@ module _ (k : ℕ) (s : List ℕ) (a : Accepted s) (m : List ℕ) (end : ℕ) (w
         }
 
 pub ruleset order_laws = (order_sort, order_scratch, order_inside, order_room, order_timed, rules)
+
+-- for each number but 0 the events are the endings
+module _ (k : ℕ) (n : k ≡ 0 → ⊥) (s : List ℕ) where
+  ending_at : (i : ℕ) → event_at k s i ≡ event_at 1 s i
+  unfolding event_at event
+  ending_at i = rw (ne_eqb k 0 n) refl
+
+  ending_of : (i : ℕ) → event_of k s i ≡ event_of 1 s i
+  unfolding event_of
+  ending_of i = ap (λ v. cond (eqb (get_or s (records_at s + 5 * i + 1) 0) 1) (v ∷ []) []) (ending_at i)
+
+  endings_from : (m i : ℕ) → events_from k s m i ≡ events_from 1 s m i
+  unfolding events_from
+  endings_from zero i = refl
+  endings_from (suc m) i = ap₂ ◌++◌ (ending_of i) (endings_from m (suc i))
+
+  endings_at : (ev : List ℕ) → map (event_at k s) ev ≡ map (event_at 1 s) ev
+  endings_at [] = refl
+  endings_at (i ∷ ev) = ap₂ ◌∷◌ (ending_at i) (endings_at ev)
+
+  pub ending_timed : (ev : List ℕ) (end : ℕ) → Timed 1 s ev end → Timed k s ev end
+  unfolding events
+  ending_timed ev end t =
+      record {
+        inside = t.inside;
+        lined = record { ordered = endings_at (take end ev) ∙ t.lined.ordered ∙ ap in_order (sym (endings_from (record_count s) 0)); numbers = t.lined.numbers };
+      }
+
+pub opening_timed : (k : ℕ) → k ≡ 0 → (s ev : List ℕ) (end : ℕ) → Timed 0 s ev end → Timed k s ev end
+opening_timed k e s ev end t = rw e t

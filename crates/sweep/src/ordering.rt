@@ -95,9 +95,23 @@ fn put_numbers(records: &[u32], out: &mut [u32]) -> usize
     end
 }
 
-// The numbers of the openings or of the endings of a sheet in order, at the front of ev; how many they are. The words of scratch are of no use
+// The numbers of the openings (kind 0) or of the endings (kind 1) of a sheet in order, at the front of ev; how many they are. The words of scratch are of no use
 // afterwards.
-pub fn order_events(kind: EventKind, s: &[u32], ev: &mut [u32], scratch: &mut [u32]) -> usize
+#[tactic(auto, using(crate::proofs::Putting::opening_timed, crate::proofs::Putting::ending_timed))]
+pub fn order_events(kind: u32, s: &[u32], ev: &mut [u32], scratch: &mut [u32]) -> usize
+    requires { Accepted s.now × (length ev.old ≡ 2048) × (length scratch.old ≡ 10240) }
+    ensures { Timed kind s.now ev.new result }
+{
+    let event = if kind == 0 {
+        EventKind::Opening
+    } else {
+        EventKind::Ending
+    };
+    order_kind(event, s, ev, scratch)
+}
+
+// The same for the openings or for the endings, told by their kind.
+fn order_kind(kind: EventKind, s: &[u32], ev: &mut [u32], scratch: &mut [u32]) -> usize
     requires { Accepted s.now × (length ev.old ≡ 2048) × (length scratch.old ≡ 10240) }
     ensures { Timed (event_number kind) s.now ev.new result }
 {
