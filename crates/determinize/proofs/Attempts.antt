@@ -118,6 +118,10 @@ module _ (lower upper : ℕ) (A : Automaton) (t r : List ℕ) where
           (λ (g : ltb (length r) 10240 ≡ false). let y : 10240 ≤ length r = ltb-false _ _ g in omega arith)
           (test (ltb (length r) 10240))
 
+  -- with room for all notes of a result
+  pub complete_all : (before : List ℕ) (x : Option SetCounts) → TableResult lower upper A before t r x → length before ≡ 10240 → TableResultWithRoom lower upper A t r x
+  complete_all before x p l = record { before = before; explored = p; room = λ c e h. omega arith }
+
   module _ (x : Result (Option SetCounts) Unfinished) (p : TableExploration lower upper A t r x) where
     pub attempt_finished : (y : Option SetCounts) → x ≡ Ok y → TableResultWithRoom lower upper A t r y
     unfolding TableExploration
