@@ -13,6 +13,7 @@ use lib.Seq.{sets, length-take-le}
 use Rattle.lists.specs.Lists.{any, Distinct}
 use Rattle.stores.specs.Written.{Written}
 use Rattle.automata.specs.Automaton.{Automaton}
+use Rattle.automata.specs.Pairs.{Pair}
 use Rattle.automata.specs.Records.{write_records}
 use Rattle.automata.proofs.Records.{length_write}
 use Rattle.automata.specs.WellFormed.{most_states, most_transitions}
@@ -37,7 +38,7 @@ use Rattle.sheets.specs.Sheet.{state_count, read, write}
 use Rattle.sheets.proofs.Checking.{sheet_passed, sheet_refused}
 use Rattle.sheets.proofs.Runs.{starts_indexed}
 use Rattle.product.specs.Product.{meeting_pairs, transitions_from, place_in, pair_accept, product_automaton, blocked_at, pair_label_of, product, intersection_answer}
-use Rattle.product.specs.inner.Tables.{table_of, Queued, found_in, sheet_words, Whole}
+use Rattle.product.specs.inner.Tables.{table_of, Queued, PairsBelow, found_in, sheet_words, Whole}
 use Rattle.product.proofs.Answers.{answer_over, answer_blocked, answer_many, answer_given}
 use Rattle.product.proofs.Queueing.{length_table}
 
@@ -52,7 +53,7 @@ module _ (A B : Automaton) (words : List ℕ) (n : ℕ) where
       unfolding product_automaton
       part_words = let z : end - 0 ≡ end = omega arith in ap (λ e. take e buf) (sym z) ∙ (s.listed h).words
 
-      part_count : end ≡ length (take end buf)
+      pub part_count : end ≡ length (take end buf)
       part_count = sym (length-take-le end buf (omega arith))
 
       pub part_few : length (take end buf) ≤ 10240
@@ -76,6 +77,10 @@ module _ (A B : Automaton) (words : List ℕ) (n : ℕ) where
         made_given out names out' names' x y (record { automaton = product_automaton A B (table_of words n); labels = map pair_label_of (table_of words n) }) (subst (λ t. Written out 0 t out' x) (sheet l) p) q
         ∙ ap (outputs out names) (sym (answer_given A B (table_of words n) v.all v.free few))
 
+-- the pairs of states of two accepted sheets
+pub within_256 : (a b : List ℕ) → Accepted a → Accepted b → (T : List Pair) → PairsBelow (state_count a) (state_count b) T → PairsBelow 256 256 T
+within_256 a b ra rb T w = record { states = λ p m. let h = w.states p m in (omega (arith, h.0, ra.few_states), omega (arith, h.1, rb.few_states)) }
+
 -- the answer of a product of too many transitions, in the words of the code
 pub made_many : (out names : List ℕ) (A B : Automaton) → product A B ≡ refused 22 → output_of (Err (State Transitions)) out names ≡ outputs out names (product A B)
 made_many out names A B e = made_refused out names (State Transitions) (product A B) e
@@ -86,7 +91,7 @@ unfolding table_of
 unmet n t e l =
     record { room = length-replicate {A = ℕ} n 0 ∙ e; bytes = l; few = omega arith; distinct = Distinct.none; numbered = λ f i h. absurd (omega arith) }
 
-fresh_queue : (t : List ℕ) → length t ≤ 65536 → Queued (replicate 257 0) t 0
+pub fresh_queue : (t : List ℕ) → length t ≤ 65536 → Queued (replicate 257 0) t 0
 fresh_queue t l = unmet 257 t refl l
 
 -- a table of numbers with a byte for each pair's word

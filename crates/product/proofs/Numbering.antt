@@ -6,7 +6,7 @@ use mathlib.Core.List.{List}
 use mathlib.Core.Logic.{⊎_elim}
 use mathlib.Core.Path.{◌≡◌, refl, sym, ◌∙◌, ap}
 use native.Mathlib.Omega.{arith}
-use mir.Syntax.{w32}
+use mir.Syntax.{w8, w32, w64}
 use mir.Val.{Fits}
 use borrow.Author.Rules.{rules}
 use borrow.Author.Tests.{ltb-true, ltb-false, lt-ltb}
@@ -65,6 +65,10 @@ module _ (queue t : List ℕ) (n : ℕ) (k : Queued queue t n) (f : n ≤ 256) (
   find_found h e =
       let p = place (get_or t c 0) h e in
       rw (← p, lt-ltb (get_or t c 0) (length (table_of queue n)) (omega (arith, length_table queue n inside))) refl
+
+-- a byte of the table as a place in the queue
+pub byte_fits : (t : List ℕ) (i : ℕ) → ((j : ℕ) → Fits w8 (get_or t j 0)) → Fits w64 (get_or t i 0)
+byte_fits t i f = record { fits = omega (arith, (f i).fits) }
 
 pub ruleset find_laws = (find_past, find_other, find_found, rules)
 
