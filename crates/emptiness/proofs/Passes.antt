@@ -221,13 +221,13 @@ module _ (s : List ℕ) (a : Accepted s) where
 
   -- a record of the sheet
   module _ (marks : List ℕ) (m : MetStates (read s) marks) (t : List ℕ) (at : ℕ) (k : record_at t at ∈ (read s).transitions) where
-    from_inside : get_or t at 0 < length marks
+    pub from_inside : get_or t at 0 < length marks
     from_inside = omega (arith, ok.froms _ k, a.few_states, m.wide)
 
-    to_state_lem : get_or t (at + 4) 0 < state_count s
+    pub to_state_lem : get_or t (at + 4) 0 < state_count s
     to_state_lem = ok.tos _ k
 
-    to_inside : get_or t (at + 4) 0 < length marks
+    pub to_inside : get_or t (at + 4) 0 < length marks
     to_inside = omega (arith, to_state_lem, a.few_states, m.wide)
 
   -- upward
@@ -248,7 +248,7 @@ module _ (s : List ℕ) (a : Accepted s) where
       up : PassInvariant Up (read s) marks (record_at (get_or rs i []) 0 ∷ records_of (drop (i + 1) rs))
       up = rw (records_next rs i h) at v
 
-      up_record : record_at (get_or rs i []) 0 ∈ (read s).transitions
+      pub up_record : record_at (get_or rs i []) 0 ∈ (read s).transitions
       up_record = up.among _ (Memᴰ.head refl)
 
       pub up_from : get_or r 0 0 < length marks
@@ -296,7 +296,7 @@ module _ (s : List ℕ) (a : Accepted s) where
     unfolding backward
     down = let z : left ≡ suc (left - 1) = omega arith in subst (λ (k : ℕ). PassInvariant Down (read s) marks (backward s (records_at s) k)) z i
 
-    down_record : record_at s at ∈ (read s).transitions
+    pub down_record : record_at s at ∈ (read s).transitions
     down_record = down.among _ (Memᴰ.head refl)
 
     pub down_from : get_or s at 0 < length marks

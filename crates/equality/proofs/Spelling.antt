@@ -39,7 +39,7 @@ module _ (r : Trail) (i x : ℕ) where
   }
 
   module _ (ch : Chained r i) (n : ℕ) (o₀ o : List ℕ) (at c : ℕ) (s : Spelling r i x n o₀ o at c) where
-    spell_inside : 0 < at → 0 < c
+    pub spell_inside : 0 < at → 0 < c
     spell_inside h = by_place (ℕ_discrete c 0)
       where
         by_place : Dec (c ≡ 0) → 0 < c

@@ -61,7 +61,7 @@ module _ (l : List ℕ) (r : Bool) (e : r ≡ is_letter (get_or l 0 0)) where
   pub name_first : not r ≡ true → false ≡ is_name l
   name_first t = no_letter l (sym e ∙ not-true r t)
 
-  name_begin : 1 ≤ length l → length l ≤ 64 → not r ≡ false → is_name l ≡ all is_name_byte (drop 1 l)
+  pub name_begin : 1 ≤ length l → length l ≤ 64 → not r ≡ false → is_name l ≡ all is_name_byte (drop 1 l)
   name_begin h g t = letter l (sym e ∙ not-false r t) h g
 
 -- the bytes behind the first decide

@@ -23,7 +23,7 @@ unfolding tabulate places_below
 placed_none b old = refl
 
 module _ (b old p : List ℕ) (q : ℕ) (e : p ≡ places_below b old q) where
-  placed_long : length p ≡ length old
+  pub placed_long : length p ≡ length old
   unfolding places_below
   placed_long = ap length e ∙ length-sets old 0 (tabulate q (label_place b))
 

@@ -143,7 +143,7 @@ pub record NamesToPut (b qs : List ℕ) (at : ℕ) (o₀ o : List ℕ) (end i : 
   pub left : Left o₀ at (more_names_text (state_labels b qs)) o end (more_names_text (state_labels b (drop i qs)))
 
 module _ (b qs : List ℕ) (at : ℕ) (o₀ o : List ℕ) (end i : ℕ) (g : NamesToPut b qs at o₀ o end i) where
-  names_put_length : length o ≡ length o₀
+  pub names_put_length : length o ≡ length o₀
   names_put_length = left_length o₀ at (more_names_text (state_labels b qs)) o end _ g.left
 
   pub names_put_done : length qs ≤ i → Written o₀ at (more_names_text (state_labels b qs)) o end
