@@ -41,7 +41,7 @@ module _ (t : List ℕ) (p : Option (Layout × Cursor)) (told : text_of t p ≡ 
   -- the second text: q is the answer of `whole_text`
   module _ (q : Option (Layout × Cursor)) (told2 : text_of (take (length t - at) (drop at t)) q ≡ whole_text (take (length t - at) (drop at t)))
       (k : Layout) (d : Cursor) (f : q ≡ Some (k, d)) where
-    both_inside : at + d.at ≤ length t
+    pub both_inside : at + d.at ≤ length t
     both_inside =
         let h = holds_found _ (text_inside _) (sym told2 ∙ ap (text_of _) f) in
         omega (arith, ap length (part_all at t), length-drop at t, second_inside)
