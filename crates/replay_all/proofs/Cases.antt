@@ -138,7 +138,7 @@ part_at out s at room l = go (answer room at (line_at s at)) refl
     go (Err f) e = refl
 
 module _ (k : ListKind) (text m : List ℕ) (t u : Tally) (b : Bool) (f : m ≡ sets (replicate 4096 0) 0 (line_at text t.at).numbers) where
-  turned : (v : Option Numbers) → v ≡ case_at 4096 text t.at → Agrees k (take (count_of v) m) b → u ≡ tallied t (behind_case t.at v) b → Turned k text t u
+  pub turned : (v : Option Numbers) → v ≡ case_at 4096 text t.at → Agrees k (take (count_of v) m) b → u ≡ tallied t (behind_case t.at v) b → Turned k text t u
   turned v e a p =
       record {
         agreement = b;
