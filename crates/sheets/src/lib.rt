@@ -84,6 +84,18 @@ fn order_key(from: u32, first: u32) -> u64
     from as u64 * 4294967296 + first as u64
 }
 
+// Whether the record a comes before the record b, word by word.
+fn is_less(a: &[u32; 5], b: &[u32; 5]) -> bool
+    ensures { result ≡ less a.now b.now }
+{
+    for i in 0..5 {
+        if a[i] != b[i] {
+            return a[i] < b[i];
+        }
+    }
+    false
+}
+
 // Whether the record b has no fault behind the record a, which breaks no rule and has the key `before`. A lesser key decides the order.
 #[tactic(auto, using(crate::proofs::Passing::passes_laws))]
 fn passes(n: u32, before: u64, a: &[u32; 5], b: &[u32; 5]) -> bool
@@ -96,7 +108,7 @@ fn passes(n: u32, before: u64, a: &[u32; 5], b: &[u32; 5]) -> bool
     if before < order_key(b[0], b[2]) {
         return true;
     }
-    a.as_slice() < b.as_slice()
+    is_less(a, b)
 }
 
 // The key of the record r if it is a range that breaks no rule, except that it may leave no state of the sheet, and if its key is greater than `before`;
