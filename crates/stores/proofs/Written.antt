@@ -1,11 +1,11 @@
 -- Laws of written memory: one run behind another is one run, and lengths are kept.
-use Prim.Native.Nat.{ℕ, suc, ◌+◌, ◌-◌, ◌≤◌}
+use Prim.Native.Nat.{ℕ, suc, ◌+◌, ◌-◌, ◌≤◌, ◌<◌}
 use mathlib.Core.List.{List, [], ◌∷◌, ◌++◌, append_assoc}
 use mathlib.Core.Path.{◌≡◌, refl, sym, ◌∙◌, ap, ap₂}
 use native.Mathlib.Omega.{arith}
 use borrow.Rule.Slice.PartMut.{put_mid}
-use lib.ListN.{length, take, drop, set, length-append, take-append-drop}
-use lib.Seq.{sets, length-sets, sets-eq, drop-drop}
+use lib.ListN.{length, get_or, take, drop, set, length-append, take-append-drop, drop_of_length-le}
+use lib.Seq.{sets, length-sets, sets-eq, drop-drop, drop-cons}
 use Rattle.lists.proofs.Parts.{sets_append}
 use Rattle.stores.specs.Written.{Written}
 
@@ -59,3 +59,14 @@ pub written_part : {A : Type 0} (l vs xs : List A) (at : ℕ) → xs ≡ vs → 
 written_part l vs xs at e h =
     let m : at + (at + length vs - at) ≡ at + length vs = omega arith in
     record { stored = rw (e, sets-eq vs l at h, drop-drop (at + length vs - at) at l, m, append_assoc); behind = refl }
+
+-- what is stored so far, with the elements from the index on, gives what all elements give
+module _ {A : Type 0} (l m xs : List A) (at i end : ℕ) (e : sets m end (drop i xs) ≡ sets l at xs) where
+  pub stored_next : i < length xs → (x : A) → x ≡ get_or xs i x → sets (set m end x) (end + 1) (drop (i + 1) xs) ≡ sets l at xs
+  stored_next h x q =
+      let next : end + 1 ≡ suc end = omega arith in
+      let more : i + 1 ≡ suc i = omega arith in
+      rw (next, more) (ap (λ (y : A). sets (set m end y) (suc end) (drop (suc i) xs)) q ∙ ap (sets m end) (sym (drop-cons xs i x h)) ∙ e)
+
+  pub stored_all : length xs ≤ i → end ≡ at + i → i ≤ length xs → Written l at xs m end
+  stored_all h f b = record { stored = ap (sets m end) (sym (drop_of_length-le xs h)) ∙ e; behind = omega arith }

@@ -14,12 +14,14 @@ pub fn put<T: Copy>(out: &mut [T], at: usize, x: T) -> usize
 }
 
 // The elements xs from a place on.
-#[tactic(auto, using(crate::proofs::Written::written_part))]
 pub fn put_all<T: Copy>(out: &mut [T], at: usize, xs: &[T]) -> usize
     requires { at + length xs.now ≤ length out.old }
     ensures { Written out.old at xs.now out.new result }
 {
-    let end = at + xs.len();
-    out[at..end].copy_from_slice(xs);
+    let mut end = at;
+    for x in xs {
+        out[end] = *x;
+        end += 1;
+    }
     end
 }
