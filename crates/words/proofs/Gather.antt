@@ -1,11 +1,12 @@
 -- The laws by which a step is proved: gathering record by record, and member by member.
 use Prim.Native.Nat.{ℕ, ◌+◌, ◌*◌, ◌≤◌, ◌<◌}
 use mathlib.Core.Bool.{Bool, true, false, ◌&&◌, ◌||◌, or-false}
+use mathlib.Core.List.Memᴰ
 use mathlib.Core.List.{List, [], ◌∷◌}
 use mathlib.Core.Logic.{⊎_elim}
 use mathlib.Core.Path.{◌≡◌, refl, sym, ◌∙◌, ap, subst}
 use native.Mathlib.Omega.{arith}
-use borrow.Author.Tests.{eq-eqb, lt-leb, le-leb, ne_eqb}
+use borrow.Author.Tests.{eq-eqb, lt-leb, le-leb, ne_eqb, eqb-true, eqb-false}
 use lib.Dec.{eqb}
 use lib.ListN.{length, get_or, drop}
 use Rattle.lists.specs.Lists.{◌∈◌, any}
@@ -17,7 +18,8 @@ use Rattle.automata.specs.inner.Records.{record_at}
 use Rattle.automata.proofs.Chunks.{records_next, records_done}
 use Rattle.ranges.specs.Missing.{SortedRanges}
 use Rattle.ranges.proofs.Runs.{ranges_in, ranges_at}
-use Rattle.ranges.proofs.SortedCuts.{sorted_above}
+use Rattle.ranges.specs.Cuts.{next_cut}
+use Rattle.ranges.proofs.SortedCuts.{sorted_above, sorted_skip, sorted_next, cut_skip, cut_below}
 use Rattle.sets.specs.Sets.{Set, has, pick}
 use Rattle.sets.specs.inner.Members.{Canon}
 use Rattle.sets.specs.inner.BitSet.{set_at}
@@ -128,3 +130,27 @@ module _ (old c : List ℕ) (a : ℕ) (rs : List (List ℕ)) (t : List ℕ) (i :
           let f : (d : Transition) → d ∈ ranges_in (drop i rs) → a < d.first =
           λ d m. sorted_above a (record_at (get_or rs i []) 0) (ranges_in (drop (i + 1) rs)) (subst SortedRanges r s) g d (rw r at m) in
           gather_nothing c a t (records_of (drop i rs)) (takes_none a (records_of (drop i rs)) f) ∙ e
+
+-- a record of whatever kind that ends below the symbol
+module _ (rs : List (List ℕ)) (i : ℕ) (o : SortedRanges (ranges_in (drop i rs))) (h : i < length rs) where
+  by_kind : {X : Type 0} → (get_or (get_or rs i []) 1 0 ≡ 1 → X) → ((get_or (get_or rs i []) 1 0 ≡ 1 → ⊥) → X) → X
+  by_kind f g =
+      ⊎_elim (λ (t : eqb (get_or (get_or rs i []) 1 0) 1 ≡ true). f (eqb-true (get_or (get_or rs i []) 1 0) 1 t))
+      (λ (t : eqb (get_or (get_or rs i []) 1 0) 1 ≡ false). g (eqb-false (get_or (get_or rs i []) 1 0) 1 t))
+      (test (eqb (get_or (get_or rs i []) 1 0) 1))
+
+  starts_first : get_or (get_or rs i []) 1 0 ≡ 1 → get_or (get_or rs i []) 2 0 ≤ get_or (get_or rs i []) 3 0
+  starts_first k = (subst SortedRanges (ranges_at rs i h k) o).full (record_at (get_or rs i []) 0) (Memᴰ.head refl)
+
+  pub sorted_past : SortedRanges (ranges_in (drop (i + 1) rs))
+  sorted_past = by_kind (sorted_next rs i o h) (sorted_skip rs i o h)
+
+  module _ (a : ℕ) (l : get_or (get_or rs i []) 3 0 < a) where
+    pub cut_past : (top found c : ℕ) → next_cut a found (ranges_in (drop i rs)) ≡ c → next_cut a found (ranges_in (drop (i + 1) rs)) ≡ c
+    cut_past top found c e =
+        by_kind (λ k. let f = starts_first k in cut_below rs a top found i c e h k (omega arith) l) (cut_skip rs a top found i c e h)
+
+    pub run_past : (old c t : List ℕ) (es : List Transition) → gathered t c a (records_of (drop i rs)) ≡ gathered old c a es
+        → gathered t c a (records_of (drop (i + 1) rs)) ≡ gathered old c a es
+    run_past old c t es e =
+        by_kind (λ k. let f = starts_first k in run_below old c a rs t i es e h k (omega arith) l) (run_skip old c a rs t i es e h)

@@ -78,7 +78,8 @@ fn take_closure(next: &mut [u64], closures: &[u64], state: u32)
 }
 
 // next takes in the closures of the targets of the run whose range holds the symbol. Answers the least of top and the cuts above the symbol, which are
-// every first and every last plus 1. Behind a range that starts above the symbol no range holds it or is cut below that start.
+// every first and every last plus 1. A record that ends below the symbol, of whatever kind, is passed by one comparison. Behind a range that starts above the
+// symbol no range holds it or is cut below that start.
 fn follow(run: &[u32], symbol: u32, closures: &[u64], next: &mut [u64], top: u64) -> u64
     requires { RowsFor (length closures.now) (read_records run.now) × SortedRanges (ranges_of (read_records run.now)) × (4 ≤ length next.old) }
     ensures cut { result ≡ next_cut symbol top (ranges_of (read_records run.now)) }
@@ -87,14 +88,13 @@ fn follow(run: &[u32], symbol: u32, closures: &[u64], next: &mut [u64], top: u64
     let mut found = top;
     let (records, _) = run.as_chunks::<5>();
     for r in records {
-        let [_, kind, first, last, to] = *r;
-        if kind == 1 {
-            if symbol < first {
-                return ranges::until(first, found);
-            }
-            if symbol <= last {
-                take_closure(next, closures, to);
-                found = ranges::through(last, found);
+        if symbol <= r[3] {
+            if r[1] == 1 {
+                if symbol < r[2] {
+                    return ranges::until(r[2], found);
+                }
+                take_closure(next, closures, r[4]);
+                found = ranges::through(r[3], found);
             }
         }
     }
