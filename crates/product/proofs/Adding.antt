@@ -106,25 +106,34 @@ module _ (buf : List ℕ) (sorted end : ℕ) (T : List Pair) (i : ℕ) (second :
       (subst (λ (x : List Transition). Rest buf sorted end x es) (ap (λ x. links T i x (read_records (drop from second))) (records_done rs j h) ∙ links_none_left T i (read_records (drop from second))) l)
 
   module _ (q : ℕ) (r : RunTo q (records_of (drop j rs))) (h : j < length rs) (past : ℕ)
-      (p : read_records (drop past second) ≡ not_ended (get_or (get_or rs j []) 2 0) (read_records (drop from second))) (m : List ℕ) (ahead next : ℕ)
-      (s : Gathered m ahead next (records_in buf 0 end ++ links T i (record_at (get_or rs j []) 0 ∷ []) (read_records (take (length second - past) (drop past second))))) where
+      (p : read_records (drop past second) ≡ not_ended (get_or (get_or rs j []) 2 0) (read_records (drop from second))) where
     passed : links T i (records_of (drop j rs)) (read_records (drop from second)) ≡ links T i (records_of (drop j rs)) (read_records (drop past second))
     unfolding links
     passed = ap (map (transition_of_joint (place_in T) i)) (joints_left_passed q rs j r h (read_records (drop from second)) ∙ ap (joints_of (records_of (drop j rs))) (sym p))
 
-    runs_parts : Rest buf sorted end
-        (links T i (record_at (get_or rs j []) 0 ∷ []) (read_records (take (length second - past) (drop past second))) ++ links T i (records_of (drop (j + 1) rs)) (read_records (drop past second))) es
-    runs_parts =
-        subst (λ (x : List Transition). Rest buf sorted end x es)
-        (passed ∙ ap (λ x. links T i x (read_records (drop past second))) (records_next rs j h)
-        ∙ links_left T i (record_at (get_or rs j []) 0) (records_of (drop (j + 1) rs)) (read_records (drop past second))
-        ∙ ap (λ x. links T i (record_at (get_or rs j []) 0 ∷ []) (read_records x) ++ links T i (records_of (drop (j + 1) rs)) (read_records (drop past second))) (sym (part_all past second))) l
+    -- all records of the second run ended before
+    pub runs_spent : length second ≤ past → Gathered buf sorted end es
+    unfolding read_records
+    runs_spent s =
+        rest_end buf sorted end es
+        (subst (λ (x : List Transition). Rest buf sorted end x es)
+        (passed ∙ ap (λ x. links T i (records_of (drop j rs)) (read_records x)) (drop_of_length-le second s) ∙ links_none_right T i (records_of (drop j rs))) l)
 
-    pub runs_over : length m ≤ next → Gathered m ahead next es
-    runs_over o = rest_over buf sorted end es _ _ runs_parts m ahead next s o
+    module _ (m : List ℕ) (ahead next : ℕ)
+        (s : Gathered m ahead next (records_in buf 0 end ++ links T i (record_at (get_or rs j []) 0 ∷ []) (read_records (take (length second - past) (drop past second))))) where
+      runs_parts : Rest buf sorted end
+          (links T i (record_at (get_or rs j []) 0 ∷ []) (read_records (take (length second - past) (drop past second))) ++ links T i (records_of (drop (j + 1) rs)) (read_records (drop past second))) es
+      runs_parts =
+          subst (λ (x : List Transition). Rest buf sorted end x es)
+          (passed ∙ ap (λ x. links T i x (read_records (drop past second))) (records_next rs j h)
+          ∙ links_left T i (record_at (get_or rs j []) 0) (records_of (drop (j + 1) rs)) (read_records (drop past second))
+          ∙ ap (λ x. links T i (record_at (get_or rs j []) 0 ∷ []) (read_records x) ++ links T i (records_of (drop (j + 1) rs)) (read_records (drop past second))) (sym (part_all past second))) l
 
-    pub runs_next : next < length m → Rest m ahead next (links T i (records_of (drop (j + 1) rs)) (read_records (drop past second))) es
-    runs_next o = rest_next buf sorted end es _ _ runs_parts m ahead next s o
+      pub runs_over : length m ≤ next → Gathered m ahead next es
+      runs_over o = rest_over buf sorted end es _ _ runs_parts m ahead next s o
+
+      pub runs_next : next < length m → Rest m ahead next (links T i (records_of (drop (j + 1) rs)) (read_records (drop past second))) es
+      runs_next o = rest_next buf sorted end es _ _ runs_parts m ahead next s o
 
 pub ruleset runs_laws = (runs_ended, run_to, run_rest, rules)
 

@@ -1,5 +1,5 @@
 -- Meeting the pairs to which records lead: the laws by which the loops over two runs are proved.
-use Rattle.std.proofs.Common.{ℕ, ◌+◌, ◌-◌, ◌≤◌, ◌<◌, None, Some, List, [], ◌∷◌, ◌++◌, map, ◌≡◌, refl, sym, ◌∙◌, ap, subst, rules, get_or, length, take, drop}
+use Rattle.std.proofs.Common.{ℕ, ◌+◌, ◌-◌, ◌≤◌, ◌<◌, None, Some, List, [], ◌∷◌, ◌++◌, map, ◌≡◌, refl, sym, ◌∙◌, ap, subst, rules, get_or, length, take, drop, drop_of_length-le}
 use mathlib.Core.List.{map-append}
 use Rattle.lists.proofs.Parts.{part_all}
 use Rattle.automata.specs.Automaton.{Transition}
@@ -102,6 +102,16 @@ module _ (queue₀ : List ℕ) (n₀ : ℕ) (ds es : List Transition) (second qu
     passed : joint_targets (records_of (drop i rs)) (read_records (drop from second)) ≡ joint_targets (records_of (drop i rs)) (read_records (drop next second))
     unfolding joint_targets
     passed = ap (map (λ (j : Joint). j.to)) (joints_left_passed l rs i r h (read_records (drop from second)) ∙ ap (joints_of (records_of (drop i rs))) (sym p))
+
+    -- all records of the second run ended before
+    pub runs_spent : length second ≤ next → PairsMet (table_of queue₀ n₀) (joint_targets ds es) queue t n
+    unfolding read_records
+    runs_spent s =
+        met_ended queue t n k (table_of queue₀ n₀) _
+        (ap (met_with queue n)
+        (sym (passed ∙ ap (λ l. joint_targets (records_of (drop i rs)) (read_records l)) (drop_of_length-le second s) ∙ targets_none_right (records_of (drop i rs))))
+        ∙ e
+        ∙ unfold met_with in refl)
 
     pub runs_next : (queue' t' : List ℕ) (m : ℕ)
         → PairsMet (table_of queue n) (joint_targets (record_at (get_or rs i []) 0 ∷ []) (read_records (take (length second - next) (drop next second)))) queue' t' m

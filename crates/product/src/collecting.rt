@@ -81,7 +81,7 @@ fn add_run(
 }
 
 // The transitions of pair i by the records of two runs, until there are too many. Records of the second run that end before a record of the first
-// starts are passed over for good, since later ones start no earlier.
+// starts are passed over for good, since later ones start no earlier; where none is left, nothing more is met.
 fn add_runs(
     first: &[u32],
     second: &[u32],
@@ -100,6 +100,9 @@ fn add_runs(
     let mut from: usize = 0;
     for d in records {
         from = crate::passing::pass_ended(second, from, d[2]);
+        if second.len() <= from {
+            return k;
+        }
         k = add_run(d, &second[from..], i, queue, t, n, buf, k);
         if buf.len() <= k.end {
             return k;

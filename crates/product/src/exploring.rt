@@ -79,6 +79,9 @@ fn meet_runs(first: &[u32], second: &[u32], queue: &mut [u32], t: &mut [u8], n: 
             return m;
         }
         from = crate::passing::pass_ended(second, from, d[2]);
+        if second.len() <= from {
+            return m;
+        }
         m = meet_run(d, &second[from..], queue, t, m);
     }
     m

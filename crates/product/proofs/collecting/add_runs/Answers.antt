@@ -2,13 +2,19 @@
 use Rattle.std.proofs.Common.{arith}
 use Rattle.automata.proofs.Chunks.{records_are}
 use Rattle.output.proofs.Collecting.{rest_begin}
-use Rattle.product.proofs.Adding.{runs_laws, runs_over, runs_next}
+use Rattle.product.proofs.Adding.{runs_laws, runs_spent, runs_over, runs_next}
 use Rattle.product.proofs.Records.{left_to, part_to}
 use Rattle.product.proofs.collecting.add_runs.Goals as goal
 
 pub loop-d-init : goal.loop-d-init
 loop-d-init c =
     rw (records_are _ _ c.as_chunks.ensures.front) (record { inside = omega arith; first = c.requires.0; second = c.requires.1; left = rest_begin _ _ _ _ c.requires.4 })
+
+pub returns-then-second-from : goal.returns-then-second-from
+returns-then-second-from c =
+    let i = c.loop-d.invariant in
+    runs_spent _ _ _ _ _ c.args.second.now c.loop-d.from c.as_chunks.result.0.now c.loop-d.d-index _ i.left _ i.first c.loop-d-test.true _ c.pass_ended-from.ensures.1
+    c.if-second-from.true
 
 pub add_run-k-requires : goal.add_run-k-requires
 add_run-k-requires c =
