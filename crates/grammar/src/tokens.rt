@@ -21,14 +21,15 @@ pub struct TextSpan {
 pub fn space(text: &[u8], c: Cursor) -> Cursor
     ensures { result.at ≡ space text.now c.at }
 {
+    if text.len() <= c.at {
+        return c;
+    }
     for at in c.at..text.len() {
         if !crate::bytes::is_space(text[at]) {
             return Cursor { at };
         }
     }
-    Cursor {
-        at: c.at.max(text.len()),
-    }
+    Cursor { at: text.len() }
 }
 
 // Space, one or more.

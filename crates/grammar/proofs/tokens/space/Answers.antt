@@ -1,6 +1,11 @@
 -- The space ends at the first other byte, or where the text ends.
-use Rattle.grammar.proofs.Runs.{space_laws}
+use Rattle.std.proofs.Common.{refl}
+use Rattle.grammar.proofs.Runs.{space_begin, space_end, space_laws}
 use Rattle.grammar.proofs.tokens.space.Goals as goal
+
+pub returns-then-text-c : goal.returns-then-text-c
+returns-then-text-c c =
+    space_end c.args.text.now _ c.args.c.at (space_begin c.args.text.now c.args.c.at) c.if-text-c.true c.args.c.at refl
 
 pub loop-at-init : goal.loop-at-init
 loop-at-init c = search space_laws
